@@ -1,0 +1,5 @@
+pub mod Tests
+pub mod Below
+pub mod Tab
+pub mod Rows
+pub mod Count

@@ -1,0 +1,1 @@
+// No code: definitions and laws for the loops and refusal tables of every layer (specs/, proofs/).

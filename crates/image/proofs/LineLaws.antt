@@ -1,0 +1,146 @@
+-- Lines of the frames: as parts of a frame, by their words, with data laid over them, and copied.
+use mathlib.Core.Path.{_≡_, refl, sym, ap, ap₂, _∙_}
+use mathlib.Core.List.{List, _++_}
+use mathlib.Core.Logic.{_⊎_}
+use Prim.Native.Nat.{ℕ, zero, suc, _+_, _-_, _*_, _^_, _≤_, _<_}
+use native.Mathlib.Omega.{arith}
+use lib.ListN.{length, take, drop, getD, length-take, length-drop}
+use lib.Seq.{length-take-le, getD-take}
+use Rattle.bounded.specs.Below.{upTo}
+use Rattle.bounded.specs.Tab.{tab}
+use Rattle.bounded.proofs.Below.{split-below, up-keeps}
+use Rattle.bounded.proofs.Tab.{tab-ext}
+use Rattle.image.specs.declared.Sizes.{Sizes}
+use Rattle.image.specs.Words.{part, over, wordAt, word, store, Bytes, flat, wordsAt}
+use Rattle.image.specs.Layout.{Legal, frames, lineWord, imageLength}
+use Rattle.image.specs.Lines.{lineBytes, merged, copyStore, copyStores}
+use Rattle.image.proofs.Bytes.{bytes-take}
+use Rattle.image.proofs.Parts.{length-part, part-part, length-over, bytes-over, getD-over, getD-over-other, over-whole, over-back, copied}
+use Rattle.image.proofs.WordLaws.{word-part, word-lt, word-store, word-store-other, length-store, bytes-store}
+use Rattle.image.proofs.Runs.{flat-words, words-tab}
+use Rattle.image.proofs.LayoutLaws.{line-apart}
+
+-- ---- a frame's bytes, cut out of the image
+
+module _ (img : List ℕ) (z : Sizes) (f : ℕ) (in-frames : f < frames z) (whole : imageLength z ≤ length img) where
+  pub length-frame : length (part img (8 * lineWord z f 0) 4096) ≡ 4096
+  length-frame = length-part img (8 * lineWord z f 0) 4096 (omega arith)
+
+  pub frame-word : (l k : ℕ) → l < 64 → k < 8 → wordAt (part img (8 * lineWord z f 0) 4096) (64 * l + 8 * k) ≡ word img (lineWord z f l + k)
+  frame-word l k p q =
+      let e : 8 * lineWord z f 0 + (64 * l + 8 * k) ≡ 8 * (lineWord z f l + k) = omega arith in
+      word-part img (8 * lineWord z f 0) 4096 (64 * l + 8 * k) (omega arith) (omega arith) ∙ ap (wordAt img) e
+
+  pub frame-line : (l : ℕ) → l < 64 → part (part img (8 * lineWord z f 0) 4096) (64 * l) 64 ≡ lineBytes img z f l
+  frame-line l p =
+      let e : 8 * lineWord z f 0 + 64 * l ≡ 8 * lineWord z f l = omega arith in
+      part-part img (8 * lineWord z f 0) 4096 (64 * l) 64 (omega arith) (omega arith) ∙ ap (λ (a : ℕ). part img a 64) e
+
+-- ---- a line by its eight words
+
+pub length-line : (img : List ℕ) (z : Sizes) (f l : ℕ) → f < frames z → l < 64 → imageLength z ≤ length img → length (lineBytes img z f l) ≡ 64
+length-line img z f l p q h = length-part img (8 * lineWord z f l) 64 (omega arith)
+
+pub line-words : (img : List ℕ) (z : Sizes) (f l : ℕ) → Bytes img → f < frames z → l < 64 → imageLength z ≤ length img
+    → lineBytes img z f l ≡ flat (tab 8 (λ k. word img (lineWord z f l + k)))
+line-words img z f l b p q h =
+    sym (flat-words img b 8 (8 * lineWord z f l) (omega arith))
+    ∙ ap flat
+    (words-tab img (8 * lineWord z f l) 8
+    ∙ tab-ext 8 (λ k. wordAt img (8 * lineWord z f l + 8 * k)) (λ k. word img (lineWord z f l + k))
+    (λ k _. let e : 8 * lineWord z f l + 8 * k ≡ 8 * (lineWord z f l + k) = omega arith in ap (wordAt img) e))
+
+-- lines whose eight words agree, of one image or of two, are the same
+pub line-ext : (x y : List ℕ) (z : Sizes) (f l g m : ℕ) → Bytes x → Bytes y → f < frames z → l < 64 → g < frames z → m < 64
+    → imageLength z ≤ length x → imageLength z ≤ length y
+    → ((k : ℕ) → k < 8 → word x (lineWord z f l + k) ≡ word y (lineWord z g m + k)) → lineBytes x z f l ≡ lineBytes y z g m
+line-ext x y z f l g m bx by p q r s hx hy e =
+    line-words x z f l bx p q hx
+    ∙ ap flat (tab-ext 8 (λ k. word x (lineWord z f l + k)) (λ k. word y (lineWord z g m + k)) e)
+    ∙ sym (line-words y z g m by r s hy)
+
+-- ---- a line with data laid over it
+
+module _ (line : List ℕ) (offset n : ℕ) (bytes : List ℕ) (sized : length line ≡ 64) (fits : offset + n ≤ 64) (given : n ≤ length bytes) where
+  laid-length : length (take n bytes) ≡ n
+  laid-length = length-take-le n bytes given
+
+  laid-fits : offset + length (take n bytes) ≤ length line
+  laid-fits = omega (arith, laid-length)
+
+  pub length-merged : length (merged line offset n bytes) ≡ 64
+  length-merged = length-over line offset (take n bytes) laid-fits ∙ sized
+
+  pub bytes-merged : Bytes line → Bytes bytes → Bytes (merged line offset n bytes)
+  bytes-merged h k = bytes-over line offset (take n bytes) h (bytes-take n bytes k)
+
+  -- the data's byte where it was laid, else the line's
+  pub getD-merged : (i : ℕ) → offset ≤ i → i < offset + n → getD (merged line offset n bytes) i 0 ≡ getD bytes (i - offset) 0
+  getD-merged i h k =
+      getD-over line offset (take n bytes) laid-fits i h (omega (arith, laid-length)) ∙ getD-take n bytes (i - offset) 0 (omega arith)
+
+  pub getD-merged-other : (i : ℕ) → (offset + n ≤ i) ⊎ (i < offset) → getD (merged line offset n bytes) i 0 ≡ getD line i 0
+  getD-merged-other i h = getD-over-other line offset (take n bytes) laid-fits i (rw laid-length h)
+
+  -- what is left of a buffer to which the line and then, from offset on, the data were copied
+  pub merge-back : (d : List ℕ) {w y : List ℕ} → length d ≡ 64 → w ≡ over d 0 line
+      → y ≡ take (length (take (n - 0) bytes)) (take (n - 0) bytes) ++ drop (length (take (n - 0) bytes)) (take (offset + n - offset) (drop offset w))
+      → take offset w ++ (y ++ drop (offset + n - offset) (drop offset w)) ≡ merged line offset n bytes
+  merge-back d {w} {y} e p q =
+      let s : n - 0 ≡ n = omega arith in
+      let w′ : w ≡ line = p ∙ over-whole d line (sized ∙ sym e) in
+      let lw : length w ≡ 64 = ap length w′ ∙ sized in
+      let ls : length (take (n - 0) bytes) ≡ n = simp length-take (omega arith) in
+      let ld : length (take (offset + n - offset) (drop offset w)) ≡ length (take (n - 0) bytes) = simp (length-take, length-drop) (omega arith) in
+      let y′ : y ≡ take n bytes = q ∙ copied (take (n - 0) bytes) (take (offset + n - offset) (drop offset w)) ld ∙ ap (λ (m : ℕ). take m bytes) s in
+      over-back w offset (offset + n) y′ (omega (arith, laid-length)) ∙ ap (λ (t : List ℕ). over t offset (take n bytes)) w′
+
+-- ---- a line copied, after the first n of its eight stores
+
+pub bytes-copies : (z : Sizes) (from to l n : ℕ) (img : List ℕ) → Bytes img → Bytes (copyStores z from to l n img)
+bytes-copies z from to l n img b =
+    up-keeps Bytes (copyStore z from to l) n img (λ k y _ h. bytes-store y (lineWord z to l + k) (word y (lineWord z from l + k)) h) b
+
+module _ (z : Sizes) (from to l : ℕ) (in-frames : to < frames z) (in-frame : l < 64) (img : List ℕ) (whole : imageLength z ≤ length img) where
+  pub length-copies : (n : ℕ) → n ≤ 8 → length (copyStores z from to l n img) ≡ length img
+  unfolding upTo
+  length-copies zero h = refl
+  length-copies (suc n) h =
+      let m : length (copyStores z from to l n img) ≡ length img = length-copies n (omega arith) in
+      length-store (copyStores z from to l n img) (lineWord z to l + n) _ (omega arith) ∙ m
+
+  pub word-copies-other : (n j : ℕ) → n ≤ 8 → ((k : ℕ) → k < n → lineWord z to l + k ≡ j → ⊥) → word (copyStores z from to l n img) j ≡ word img j
+  unfolding upTo
+  word-copies-other zero j h ne = refl
+  word-copies-other (suc n) j h ne =
+      let m : length (copyStores z from to l n img) ≡ length img = length-copies n (omega arith) in
+      word-store-other (copyStores z from to l n img) (lineWord z to l + n) _ j (omega arith) (ne n (omega arith))
+      ∙ word-copies-other n j (omega arith) (λ k p. ne k (omega arith))
+
+  module _ (b : Bytes img) (apart : from ≡ to → ⊥) where
+    -- the source is as it was
+    word-source : (n k : ℕ) → n ≤ 8 → k < 8 → word (copyStores z from to l n img) (lineWord z from l + k) ≡ word img (lineWord z from l + k)
+    word-source n k h p =
+        word-copies-other n (lineWord z from l + k) h (λ j q e. apart (sym (line-apart z to l j from l k in-frame in-frame (omega arith) p e .0)))
+
+    pub word-copies : (n k : ℕ) → n ≤ 8 → k < n → word (copyStores z from to l n img) (lineWord z to l + k) ≡ word img (lineWord z from l + k)
+    unfolding upTo
+    word-copies zero k h p = absurd (omega arith)
+    word-copies (suc n) k h p =
+        let y : List ℕ = copyStores z from to l n img in
+        let m : length y ≡ length img = length-copies n (omega arith) in
+        split-below p
+        (λ q.
+        rw q
+        (word-store y (lineWord z to l + n) (word y (lineWord z from l + n)) (omega arith) (word-lt y (lineWord z from l + n) (bytes-copies z from to l n img b))
+        ∙ word-source n n (omega arith) (omega arith)))
+        (λ q.
+        word-store-other y (lineWord z to l + n) (word y (lineWord z from l + n)) (lineWord z to l + k) (omega arith) (λ e. omega arith)
+        ∙ word-copies n k (omega arith) q)
+
+    -- after all eight the target's line is the source's
+    pub line-copied : from < frames z → lineBytes (copyStores z from to l 8 img) z to l ≡ lineBytes img z from l
+    line-copied h =
+        let m : length (copyStores z from to l 8 img) ≡ length img = length-copies 8 (omega arith) in
+        line-ext (copyStores z from to l 8 img) img z to l from l (bytes-copies z from to l 8 img b) b in-frames in-frame h in-frame (omega arith) whole
+        (λ k p. word-copies 8 k (omega arith) p)

@@ -1,0 +1,28 @@
+-- Lines of 64 bytes: a line's bytes, a line with data laid over it, and a line copied word by word.
+use Prim.Native.Nat.{ℕ, _+_, _*_}
+use mathlib.Core.List.{List}
+use lib.ListN.{take}
+use Rattle.bounded.specs.Below.{upTo}
+use Rattle.image.specs.declared.Sizes.{Sizes}
+use Rattle.image.specs.Layout.{lineWord}
+use Rattle.image.specs.Words.{part, over, word, store, wordsAt}
+
+-- the 64 bytes of line l of frame f
+abbrev pub lineBytes : List ℕ → Sizes → ℕ → ℕ → List ℕ
+lineBytes img z f l = part img (8 * lineWord z f l) 64
+
+-- a line with the data's first n bytes laid over it from an offset on
+abbrev pub merged : List ℕ → ℕ → ℕ → List ℕ → List ℕ
+merged line offset n bytes = over line offset (take n bytes)
+
+-- the eight words of a line
+abbrev pub lineWords : List ℕ → List ℕ
+lineWords line = wordsAt line 0 8
+
+-- store k of the eight that copy a line from one frame to another
+abbrev pub copyStore : Sizes → ℕ → ℕ → ℕ → ℕ → List ℕ → List ℕ
+copyStore z from to l k img = store img (lineWord z to l + k) (word img (lineWord z from l + k))
+
+-- the first n of them
+abbrev pub copyStores : Sizes → ℕ → ℕ → ℕ → ℕ → List ℕ → List ℕ
+copyStores z from to l n img = upTo n (copyStore z from to l) img

@@ -1,0 +1,4 @@
+pub mod Bits
+pub mod Members
+pub mod Disjoint
+pub mod Counts

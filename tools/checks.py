@@ -1,0 +1,39 @@
+#!/usr/bin/env python3
+"""Prints the table of docs/CHECKS.md from the tree and from the last run of rt (target/log): run it from the root after rt ci."""
+import os
+import re
+
+print("| Crate | Functions | Code lines | Definition lines | Proof lines | Must-fail edits |")
+print("|---|---|---|---|---|---|")
+
+
+def lines(folder, ending):
+    """Lines that are neither empty nor comments."""
+    total = 0
+    for root, _, names in os.walk(folder):
+        for name in names:
+            if name.endswith(ending):
+                text = open(os.path.join(root, name), encoding="utf-8").read().split("\n")
+                total += sum(1 for t in text if t.strip() and not t.strip().startswith(("//", "--")))
+    return total
+
+
+def functions(folder):
+    total = 0
+    for root, _, names in os.walk(folder):
+        for name in names:
+            total += len(re.findall(r"(?m)^\s*(?:pub )?(?:extern \"C\" )?fn \w+", open(os.path.join(root, name), encoding="utf-8").read()))
+    return total
+
+
+sums = [0] * 5
+for line in open("crates.txt", encoding="utf-8"):
+    crate = line.split("#")[0].split(":")[0].strip()
+    if not crate:
+        continue
+    base = f"crates/{crate}"
+    edits = len(os.listdir(f"{base}/must-fail")) if os.path.isdir(f"{base}/must-fail") else 0
+    row = [functions(f"{base}/src"), lines(f"{base}/src", ".rt"), lines(f"{base}/specs", ".antt"), lines(f"{base}/proofs", ".antt"), edits]
+    sums = [a + b for a, b in zip(sums, row)]
+    print(f"| {crate} | " + " | ".join(str(n) for n in row) + " |")
+print("| all | " + " | ".join(str(n) for n in sums) + " |")
