@@ -1,29 +1,30 @@
 -- Where the words of an image lie: legal sizes, the regions one after the other, and which words are the same.
 -- What is linear in the sizes `omega` finds by itself; of a record it needs `place-lt`.
 use mathlib.Core.Path.{_≡_}
-use mathlib.Core.List.{[], _∷_}
-use mathlib.Core.Bool.{true}
+use mathlib.Core.List.{List, [], _∷_}
+use mathlib.Core.Bool.{Bool, true}
 use Prim.Native.Nat.{ℕ, _+_, _%_, _≤_, _<_}
 use native.Mathlib.Nat.{mod-lt}
 use native.Mathlib.Omega.{arith}
 use lib.Dec.{leb}
 use borrow.Author.Tests.{leb-true, le-leb}
-use Rattle.bounded.specs.Tests.{every, Held}
 use Rattle.bounded.proofs.Tests.{every-held, held-every}
 use Rattle.image.specs.declared.Sizes.{Sizes}
 use Rattle.image.specs.Layout.{sizesOk, Legal, frames, pageWord, slotWord, placeOf, recordWord, paddingWord, frameWord, lineWord, imageWords, imageLength}
 
 -- ---- legal sizes
 
+-- the tests of `sizesOk`, one by one
+abbrev tests : Sizes → List Bool
+tests z = leb 1 (z .pages) ∷ leb (z .pages) 1024 ∷ leb 1 (z .slots) ∷ leb (z .slots) 16 ∷ leb (z .slots) (z .places) ∷ leb (z .places) 256 ∷ []
+
 pub legal : (z : Sizes) → sizesOk z ≡ true → Legal z
 legal z e =
-    let h = every-held (leb 1 (z .pages) ∷ leb (z .pages) 1024 ∷ leb 1 (z .slots) ∷ leb (z .slots) 16 ∷ leb (z .slots) (z .places) ∷ leb (z .places) 256 ∷ []) e in
+    let h = every-held (tests z) e in
     omega (arith, leb-true)
 
 pub legal-ok : (z : Sizes) → Legal z → sizesOk z ≡ true
-legal-ok z h =
-    held-every (leb 1 (z .pages) ∷ leb (z .pages) 1024 ∷ leb 1 (z .slots) ∷ leb (z .slots) 16 ∷ leb (z .slots) (z .places) ∷ leb (z .places) 256 ∷ [])
-    (omega (arith, le-leb))
+legal-ok z h = held-every (tests z) (omega (arith, le-leb))
 
 pub place-lt : (z : Sizes) → Legal z → (q : ℕ) → placeOf z q < z .places
 place-lt z h q = mod-lt q (omega arith)

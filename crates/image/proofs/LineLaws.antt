@@ -1,19 +1,19 @@
 -- Lines of the frames: as parts of a frame, by their words, with data laid over them, and copied.
-use mathlib.Core.Path.{_≡_, refl, sym, ap, ap₂, _∙_}
+use mathlib.Core.Path.{_≡_, refl, sym, ap, _∙_}
 use mathlib.Core.List.{List, _++_}
 use mathlib.Core.Logic.{_⊎_}
-use Prim.Native.Nat.{ℕ, zero, suc, _+_, _-_, _*_, _^_, _≤_, _<_}
+use Prim.Native.Nat.{ℕ, zero, suc, _+_, _-_, _*_, _≤_, _<_}
 use native.Mathlib.Omega.{arith}
 use lib.ListN.{length, take, drop, getD, length-take, length-drop}
-use lib.Seq.{length-take-le, getD-take}
+use lib.Seq.{length-take-le, getD-take, take-all}
 use Rattle.bounded.specs.Below.{upTo}
 use Rattle.bounded.specs.Tab.{tab}
 use Rattle.bounded.proofs.Below.{split-below, up-keeps}
 use Rattle.bounded.proofs.Tab.{tab-ext}
 use Rattle.image.specs.declared.Sizes.{Sizes}
-use Rattle.image.specs.Words.{part, over, wordAt, word, store, Bytes, flat, wordsAt}
-use Rattle.image.specs.Layout.{Legal, frames, lineWord, imageLength}
-use Rattle.image.specs.Lines.{lineBytes, merged, copyStore, copyStores}
+use Rattle.image.specs.Words.{part, over, wordAt, word, Bytes, flat}
+use Rattle.image.specs.Layout.{frames, lineWord, imageLength}
+use Rattle.image.specs.Lines.{lineBytes, merged, lineWords, copyStore, copyStores}
 use Rattle.image.proofs.Bytes.{bytes-take}
 use Rattle.image.proofs.Parts.{length-part, part-part, length-over, bytes-over, getD-over, getD-over-other, over-whole, over-back, copied}
 use Rattle.image.proofs.WordLaws.{word-part, word-lt, word-store, word-store-other, length-store, bytes-store}
@@ -22,19 +22,20 @@ use Rattle.image.proofs.LayoutLaws.{line-apart}
 
 -- ---- a frame's bytes, cut out of the image
 
-module _ (img : List ℕ) (z : Sizes) (f : ℕ) (in-frames : f < frames z) (whole : imageLength z ≤ length img) where
-  pub length-frame : length (part img (8 * lineWord z f 0) 4096) ≡ 4096
-  length-frame = length-part img (8 * lineWord z f 0) 4096 (omega arith)
+module _ (img : List ℕ) (z : Sizes) (f : ℕ) (in-frames : f < frames z) (whole : imageLength z ≤ length img)
+    {frame : List ℕ} (cut : frame ≡ part img (8 * lineWord z f 0) 4096) where
+  pub length-frame : length frame ≡ 4096
+  length-frame = rw cut (length-part img (8 * lineWord z f 0) 4096 (omega arith))
 
-  pub frame-word : (l k : ℕ) → l < 64 → k < 8 → wordAt (part img (8 * lineWord z f 0) 4096) (64 * l + 8 * k) ≡ word img (lineWord z f l + k)
+  pub frame-word : (l k : ℕ) → l < 64 → k < 8 → wordAt frame (64 * l + 8 * k) ≡ word img (lineWord z f l + k)
   frame-word l k p q =
       let e : 8 * lineWord z f 0 + (64 * l + 8 * k) ≡ 8 * (lineWord z f l + k) = omega arith in
-      word-part img (8 * lineWord z f 0) 4096 (64 * l + 8 * k) (omega arith) (omega arith) ∙ ap (wordAt img) e
+      rw cut (word-part img (8 * lineWord z f 0) 4096 (64 * l + 8 * k) (omega arith) (omega arith) ∙ ap (wordAt img) e)
 
-  pub frame-line : (l : ℕ) → l < 64 → part (part img (8 * lineWord z f 0) 4096) (64 * l) 64 ≡ lineBytes img z f l
+  pub frame-line : (l : ℕ) → l < 64 → part frame (64 * l) 64 ≡ lineBytes img z f l
   frame-line l p =
       let e : 8 * lineWord z f 0 + 64 * l ≡ 8 * lineWord z f l = omega arith in
-      part-part img (8 * lineWord z f 0) 4096 (64 * l) 64 (omega arith) (omega arith) ∙ ap (λ (a : ℕ). part img a 64) e
+      rw cut (part-part img (8 * lineWord z f 0) 4096 (64 * l) 64 (omega arith) (omega arith) ∙ ap (λ (a : ℕ). part img a 64) e)
 
 -- ---- a line by its eight words
 
@@ -59,7 +60,15 @@ line-ext x y z f l g m bx by p q r s hx hy e =
     ∙ ap flat (tab-ext 8 (λ k. word x (lineWord z f l + k)) (λ k. word y (lineWord z g m + k)) e)
     ∙ sym (line-words y z g m by r s hy)
 
+-- the bytes of a line's words are the line
+pub flat-line : (line : List ℕ) → Bytes line → length line ≡ 64 → flat (lineWords line) ≡ line
+unfolding part
+flat-line line b e = flat-words line b 8 0 (omega arith) ∙ take-all 64 line (omega arith)
+
 -- ---- a line with data laid over it
+
+pub bytes-merged : (line : List ℕ) (offset n : ℕ) (bytes : List ℕ) → Bytes line → Bytes bytes → Bytes (merged line offset n bytes)
+bytes-merged line offset n bytes h k = bytes-over line offset (take n bytes) h (bytes-take n bytes k)
 
 module _ (line : List ℕ) (offset n : ℕ) (bytes : List ℕ) (sized : length line ≡ 64) (fits : offset + n ≤ 64) (given : n ≤ length bytes) where
   laid-length : length (take n bytes) ≡ n
@@ -70,9 +79,6 @@ module _ (line : List ℕ) (offset n : ℕ) (bytes : List ℕ) (sized : length l
 
   pub length-merged : length (merged line offset n bytes) ≡ 64
   length-merged = length-over line offset (take n bytes) laid-fits ∙ sized
-
-  pub bytes-merged : Bytes line → Bytes bytes → Bytes (merged line offset n bytes)
-  bytes-merged h k = bytes-over line offset (take n bytes) h (bytes-take n bytes k)
 
   -- the data's byte where it was laid, else the line's
   pub getD-merged : (i : ℕ) → offset ≤ i → i < offset + n → getD (merged line offset n bytes) i 0 ≡ getD bytes (i - offset) 0

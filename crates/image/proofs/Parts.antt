@@ -1,11 +1,11 @@
 -- A part of a list, and a list with another laid over it.
 use mathlib.Core.Path.{_≡_, refl, sym, ap, ap₂, _∙_}
-use mathlib.Core.List.{List, [], _∷_, _++_, append-assoc, append-nil}
-use mathlib.Core.Logic.{_⊎_, ⊎-elim, inl, inr}
+use mathlib.Core.List.{List, [], _++_, append-assoc, append-nil}
+use mathlib.Core.Logic.{_⊎_, inl, inr}
 use Prim.Native.Nat.{ℕ, _+_, _-_, _≤_, _<_}
 use native.Mathlib.Omega.{arith}
 use lib.ListN.{length, take, drop, getD, length-append, length-take, length-drop, take-append-drop, drop-of-length-le, List·getD-append}
-use lib.Seq.{length-take-le, take-length, take-add, drop-at, take-at, take-take, drop-drop, drop-append-le, take-append-le, drop-append-add, getD-append-add, getD-take, getD-drop, ext-getD}
+use lib.Seq.{length-take-le, take-length, take-add, drop-at, take-at, take-take, drop-drop, drop-append-le, take-append-le, drop-append-add, getD-take, getD-drop, ext-getD}
 use lib.Dec.{ltb}
 use borrow.Author.Tests.{ltb-true, ltb-false}
 use Rattle.bounded.proofs.Tests.{caseOn}

@@ -1,7 +1,6 @@
 -- After k turns the first k stores are made.
-use mathlib.Core.Path.{_≡_, refl, _∙_}
+use mathlib.Core.Path.{_≡_, refl}
 use Prim.Native.Nat.{_≤_, _-_}
-use native.Mathlib.Omega.{arith}
 use borrow.Author.Needs.{needs}
 use lib.ListN.{length}
 use Rattle.bounded.proofs.Below.{up-none, up-turn, up-ends}
@@ -32,7 +31,7 @@ loop-again c =
     let h = c .before .before .before .before .before in
     let x = h .before .before .args in
     let e = up-turn (copyStore (x .z) (x .from) (x .to) (x .l)) (x .image .now) _ (h .loop .k) (h .loop .inv .2) in
-    (search needs, search needs, c .before .before .copy-line-word .ensures ∙ e)
+    (search needs, search needs, rw (c .before .before .copy-line-word .ensures) e)
 
 same-length : tie.Need-same-length Inv-loop μ-loop
 same-length c = search needs

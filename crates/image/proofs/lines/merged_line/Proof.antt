@@ -40,6 +40,17 @@ part-line-end c = search needs
 copy-requires : tie.Need-copy-requires
 copy-requires c κs = search needs
 
+abbrev line : tie.After-line5 → List ℕ
+line c =
+    let x = c .before .before .before .before .before .before .before .before .before .before .args in
+    lineBytes (x .image .now) (x .z) (x .f) (x .l)
+
+sized : (c : tie.After-line5) → length (line c) ≡ 64
+sized c =
+    let x = c .before .before .before .before .before .before .before .before .before .before .args in
+    length-line (x .image .now) (x .z) (x .f) (x .l) (omega arith) (omega arith) (omega arith)
+
+-- the buffer after both copies
 abbrev left : tie.After-line5 → List ℕ
 left c =
     let k = c .before .before .before .before .before .before in
@@ -50,22 +61,18 @@ left c =
 abbrev wanted : tie.After-line5 → List ℕ
 wanted c =
     let x = c .before .before .before .before .before .before .before .before .before .before .args in
-    merged (lineBytes (x .image .now) (x .z) (x .f) (x .l)) (x .offset) (x .n) (x .«data» .now)
+    merged (line c) (x .offset) (x .n) (x .«data» .now)
 
 laid : (c : tie.After-line5) → left c ≡ wanted c
 laid c =
     let k = c .before .before .before .before .before .before in
     let x = k .before .before .before .before .args in
-    let line = lineBytes (x .image .now) (x .z) (x .f) (x .l) in
-    let n : length line ≡ 64 = length-line (x .image .now) (x .z) (x .f) (x .l) (omega arith) (omega arith) (omega arith) in
-    merge-back line (x .offset) (x .n) (x .«data» .now) n (omega arith) (omega arith) _ refl (k .read-line .ensures) (c .before .before .copy .ensures .1)
+    merge-back (line c) (x .offset) (x .n) (x .«data» .now) (sized c) (omega arith) (omega arith) _ refl (k .read-line .ensures) (c .before .before .copy .ensures .1)
 
 laid-length : (c : tie.After-line5) → length (left c) ≡ 64
 laid-length c =
     let x = c .before .before .before .before .before .before .before .before .before .before .args in
-    let line = lineBytes (x .image .now) (x .z) (x .f) (x .l) in
-    let n : length line ≡ 64 = length-line (x .image .now) (x .z) (x .f) (x .l) (omega arith) (omega arith) (omega arith) in
-    ap length (laid c) ∙ length-merged line (x .offset) (x .n) (x .«data» .now) n (omega arith) (omega arith)
+    ap length (laid c) ∙ length-merged (line c) (x .offset) (x .n) (x .«data» .now) (sized c) (omega arith) (omega arith)
 
 slice-aggregate-words-of : tie.Need-slice-aggregate-words-of
 slice-aggregate-words-of c = sym (laid-length c)

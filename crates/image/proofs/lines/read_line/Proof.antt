@@ -1,10 +1,8 @@
 -- The words of the line are a part of the frame's part.
-use mathlib.Core.Path.{_≡_, ap, _∙_}
-use mathlib.Core.List.{List}
-use Prim.Native.Nat.{ℕ, _+_, _*_}
+use mathlib.Core.Path.{_≡_, ap}
 use native.Mathlib.Omega.{arith}
 use lib.ListN.{length}
-use Rattle.image.specs.Words.{part, over}
+use Rattle.image.specs.Words.{over}
 use Rattle.image.proofs.LineLaws.{length-frame, frame-line}
 use borrow.Author.Needs.{needs}
 use Rattle.image.proofs.lines.read_line.Statement.{statement}
@@ -19,7 +17,7 @@ mul-copy-words c = search needs
 copy-words-requires : tie.Need-copy-words-requires
 copy-words-requires c κs =
     let x = c .before .before .before .before .args in
-    let n : length (c .before .frame .result .now) ≡ 4096 = ap length (c .before .frame .ensures) ∙ length-frame (x .image .now) (x .z) (x .f) (omega arith) (omega arith) in
+    let n : length (c .before .frame .result .now) ≡ 4096 = length-frame (x .image .now) (x .z) (x .f) (omega arith) (omega arith) (c .before .frame .ensures) in
     (omega arith, search needs)
 
 same-length : tie.Need-same-length
@@ -28,10 +26,8 @@ same-length c = search needs
 returns : tie.Need-returns
 returns c =
     let x = c .before .before .before .before .before .before .before .args in
-    c .before .before .copy-words .ensures
-    ∙ ap (over (x .target .now) 0)
-    (ap (λ (t : List ℕ). part t (64 * x .l) 64) (c .before .before .before .before .frame .ensures)
-    ∙ frame-line (x .image .now) (x .z) (x .f) (omega arith) (omega arith) (x .l) (omega arith))
+    let e = frame-line (x .image .now) (x .z) (x .f) (omega arith) (omega arith) (c .before .before .before .before .frame .ensures) (x .l) (omega arith) in
+    rw (c .before .before .copy-words .ensures) (ap (over (x .target .now) 0) e)
 
 pub read-line-spec : {M : Type 1} → statement M
 read-line-spec =

@@ -1,10 +1,6 @@
 -- A word of the frame's part is the word of the image.
-use mathlib.Core.Path.{_≡_, ap, _∙_}
-use mathlib.Core.List.{List}
-use Prim.Native.Nat.{ℕ, _+_, _*_}
+use mathlib.Core.Path.{_∙_}
 use native.Mathlib.Omega.{arith}
-use lib.ListN.{length}
-use Rattle.image.specs.Words.{wordAt}
 use Rattle.image.proofs.LineLaws.{length-frame, frame-word}
 use borrow.Author.Needs.{needs}
 use Rattle.image.proofs.lines.read_line_word.Statement.{statement}
@@ -16,15 +12,13 @@ frame-requires c κs = search needs
 frame-line-word-requires : tie.Need-frame-line-word-requires
 frame-line-word-requires c κs =
     let x = c .before .before .args in
-    let n : length (c .frame .result .now) ≡ 4096 = ap length (c .frame .ensures) ∙ length-frame (x .image .now) (x .z) (x .f) (omega arith) (omega arith) in
-    (n, search needs, search needs)
+    (length-frame (x .image .now) (x .z) (x .f) (omega arith) (omega arith) (c .frame .ensures), search needs, search needs)
 
 returns : tie.Need-returns
 returns c =
     let x = c .before .before .before .args in
     c .frame-line-word .ensures
-    ∙ ap (λ (t : List ℕ). wordAt t (64 * x .l + 8 * x .k)) (c .before .frame .ensures)
-    ∙ frame-word (x .image .now) (x .z) (x .f) (omega arith) (omega arith) (x .l) (x .k) (omega arith) (omega arith)
+    ∙ frame-word (x .image .now) (x .z) (x .f) (omega arith) (omega arith) (c .before .frame .ensures) (x .l) (x .k) (omega arith) (omega arith)
 
 pub read-line-word-spec : {M : Type 1} → statement M
 read-line-word-spec = tie.close (tie.spec frame-requires frame-line-word-requires returns)

@@ -1,11 +1,10 @@
 -- After i turns the first i words are put; all of them are the bytes of the part.
-use mathlib.Core.Path.{_≡_, refl, sym, ap, _∙_}
-use mathlib.Core.List.{List}
-use Prim.Native.Nat.{ℕ, _+_, _*_, _-_, _≤_}
+use mathlib.Core.Path.{_≡_, refl}
+use Prim.Native.Nat.{_-_, _≤_}
 use borrow.Author.Needs.{needs}
 use native.Mathlib.Omega.{arith}
 use lib.ListN.{length}
-use Rattle.image.specs.Words.{wordAt, wordsAt, putWord, putWords}
+use Rattle.image.specs.Words.{wordsAt, putWords}
 use Rattle.image.proofs.Runs.{puts-words, puts-copied}
 use Rattle.image.proofs.words.copy_words.Statement.{statement}
 use Rattle.image.proofs.words.copy_words.Tie as tie

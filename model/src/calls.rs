@@ -1,0 +1,159 @@
+//! Every call that takes a state. Rows in the table's order: 8, 4, 9 or 10, then 11 and on.
+//!
+//! A call that asks for an operation gives the number of stores needed; run gives the number made.
+
+use crate::image::{line as line_at, word};
+use crate::plan::{complete, plan};
+use crate::refusal::{row, Answer, Refusal::*};
+use crate::rows::{abort_rows, begin_rows, commit_rows, consolidate_rows, frame_row, place_rows, write_rows};
+use crate::state::{Operation, Pending, State, Write};
+use crate::validity::is_broken;
+
+pub fn begin(state: &mut State, writer: u64) -> Answer<u64> {
+    row(BrokenState, is_broken(state))?;
+    row(OperationPending, state.pending.is_some())?;
+    begin_rows(state, writer)?;
+    state.writers[writer as usize].open = true;
+    Ok(0)
+}
+
+pub fn abort(state: &mut State, writer: u64) -> Answer<u64> {
+    row(BrokenState, is_broken(state))?;
+    row(OperationPending, state.pending.is_some())?;
+    abort_rows(state, writer)?;
+    state.close(writer);
+    Ok(0)
+}
+
+/// What a write lays over the line: its offset, its length, and the data lent.
+pub struct Patch<'a> {
+    pub offset: u64,
+    pub length: u64,
+    pub data: &'a [u8],
+}
+
+pub fn write(
+    state: &mut State,
+    image: &[u8],
+    (writer, page, line): (u64, u64, u64),
+    patch: Patch,
+) -> Answer<u64> {
+    idle_rows(state, image)?;
+    row(BadArgument, (patch.data.len() as u64) < patch.length)?;
+    write_rows(state, (writer, page, line), (patch.offset, patch.length))?;
+    let frame = page_frame(state, image, page)?;
+    let mut finished = line_shown(state, image, (writer, page, line), frame);
+    let (from, length) = (patch.offset as usize, patch.length as usize);
+    finished[from..from + length].copy_from_slice(&patch.data[..length]);
+    let Patch { offset, length, .. } = patch;
+    Ok(ask(state, Operation::Write(Write { writer, page, line, offset, length, frame, finished })))
+}
+
+pub fn commit(state: &mut State, image: &[u8], writer: u64) -> Answer<u64> {
+    idle_rows(state, image)?;
+    commit_rows(state, writer)?;
+    Ok(ask(state, Operation::Commit { writer }))
+}
+
+pub fn consolidate(state: &mut State, image: &[u8], page: u64) -> Answer<u64> {
+    idle_rows(state, image)?;
+    consolidate_rows(state, page)?;
+    Ok(ask(state, Operation::Consolidate { page }))
+}
+
+pub fn checkpoint(state: &mut State, image: &[u8]) -> Answer<u64> {
+    idle_rows(state, image)?;
+    Ok(ask(state, Operation::Checkpoint))
+}
+
+/// 64 bytes into the target's start. Any writer may read, open or not.
+pub fn read(
+    state: &State,
+    image: &[u8],
+    (writer, page, line): (u64, u64, u64),
+    target: &mut [u8],
+) -> Answer<()> {
+    idle_rows(state, image)?;
+    place_rows(state, writer, page, line)?;
+    row(BadArgument, target.len() < 64)?;
+    let frame = page_frame(state, image, page)?;
+    target[..64].copy_from_slice(&line_shown(state, image, (writer, page, line), frame));
+    Ok(())
+}
+
+/// Makes exactly one store.
+pub fn step(state: &mut State, image: &mut [u8]) -> Answer<u64> {
+    run(state, image, 1)
+}
+
+/// Makes at most k stores and gives how many it made.
+pub fn run(state: &mut State, image: &mut [u8], k: u64) -> Answer<u64> {
+    buffer_rows(state, image)?;
+    row(NothingPending, state.pending.is_none())?;
+    let mut made = 0;
+    while made < k && state.pending.is_some() {
+        make_one_store(state, image);
+        made += 1;
+    }
+    Ok(made)
+}
+
+/// Rows 8 and 4.
+fn buffer_rows(state: &State, image: &[u8]) -> Answer<()> {
+    row(BrokenState, is_broken(state))?;
+    row(BufferShort, image.len() < state.sizes.image_length())
+}
+
+/// Rows 8, 4 and 9.
+fn idle_rows(state: &State, image: &[u8]) -> Answer<()> {
+    buffer_rows(state, image)?;
+    row(OperationPending, state.pending.is_some())
+}
+
+/// A page's frame: its slot's original or, past row 16, its page-table word.
+fn page_frame(state: &State, image: &[u8], page: u64) -> Answer<u64> {
+    if let Some(slot) = state.slot_of(page) {
+        return Ok(state.slots[slot].original);
+    }
+    let frame = word(image, state.sizes.page_word(page));
+    frame_row(state, frame)?;
+    Ok(frame)
+}
+
+/// The line as a writer reads it: its own copy if held, else the committed one.
+fn line_shown(
+    state: &State,
+    image: &[u8],
+    (writer, page, line): (u64, u64, u64),
+    page_frame: u64,
+) -> [u8; 64] {
+    let frame = match state.slot_of(page) {
+        None => page_frame,
+        Some(slot) if state.holds(writer, slot, line) => state.slots[slot].other_frame(line),
+        Some(slot) => state.slots[slot].committed_frame(line),
+    };
+    line_at(image, state.sizes.line_start(frame, line))
+}
+
+/// Takes an operation: complete at once if it needs no store, else pending.
+fn ask(state: &mut State, operation: Operation) -> u64 {
+    let needed = plan(state, &operation).len() as u64;
+    if needed == 0 {
+        complete(state, &operation);
+    } else {
+        state.pending = Some(Pending { operation, made: 0 });
+    }
+    needed
+}
+
+/// The next store of the pending operation; with the last one come the operation's changes.
+fn make_one_store(state: &mut State, image: &mut [u8]) {
+    let Pending { operation, made } = state.pending.take().expect("row 10: an operation is pending");
+    let stores = plan(state, &operation);
+    stores[made as usize].make(image);
+    if made + 1 == stores.len() as u64 {
+        complete(state, &operation);
+    } else {
+        state.pending = Some(Pending { operation, made: made + 1 });
+    }
+}

@@ -1,0 +1,108 @@
+//! Format, mount and recall: the calls that take no state.
+
+use crate::image::{line as line_at, put_word, word};
+use crate::journal::{bounds_hold, live_positions, record_holds, Record};
+use crate::layout::{Sizes, HEADER, HEAD_AT, J_AT, LAYOUT, LAYOUT_AT, LINES, P_AT, S_AT, TAIL_AT};
+use crate::refusal::{row, Answer, Refusal::*};
+use crate::slots::{page_twice, slot_owning, Slot};
+use crate::state::State;
+
+/// Writes a fresh image and gives its state. Bytes past the image stay.
+pub fn format(sizes: Sizes, buffer: &mut [u8]) -> Answer<State> {
+    row(SizesOutOfRange, !sizes.in_range())?;
+    row(BufferShort, buffer.len() < sizes.image_length())?;
+    let image = &mut buffer[..sizes.image_length()];
+    image.fill(0);
+    put_word(image, P_AT, sizes.p);
+    put_word(image, S_AT, sizes.s);
+    put_word(image, J_AT, sizes.j);
+    put_word(image, LAYOUT_AT, LAYOUT);
+    for page in 0..sizes.p {
+        put_word(image, sizes.page_word(page), page);
+    }
+    let mut state = State::empty(sizes);
+    for slot in 0..sizes.s {
+        let free = Slot::free(sizes.p + slot);
+        for (i, value) in free.words().into_iter().enumerate() {
+            put_word(image, sizes.slot_word(slot, i as u64), value);
+        }
+        state.slots[slot as usize] = free;
+    }
+    Ok(state)
+}
+
+/// Reads an image: slot table, then live records in order, each replacing its slot.
+pub fn mount(buffer: &[u8]) -> Answer<State> {
+    let sizes = mounted_sizes(buffer)?;
+    let (head, tail) = (word(buffer, HEAD_AT), word(buffer, TAIL_AT));
+    row(JournalBounds, !bounds_hold(sizes, head, tail))?;
+    let live = live_positions(sizes, head, tail);
+    row(BadRecord, !records_hold(buffer, sizes, &live))?;
+    let state = replay(buffer, sizes, (head, tail), &live);
+    row(BadTables, !tables_hold(buffer, &state))?;
+    Ok(state)
+}
+
+/// Mounts, copies one committed line to the target's start and forgets.
+pub fn recall(page: u64, line: u64, buffer: &[u8], target: &mut [u8]) -> Answer<()> {
+    let state = mount(buffer)?;
+    row(BadArgument, page >= state.sizes.p || line >= LINES || target.len() < 64)?;
+    let frame = match state.slot_of(page) {
+        Some(slot) => state.slots[slot].committed_frame(line),
+        None => word(buffer, state.sizes.page_word(page)),
+    };
+    target[..64].copy_from_slice(&line_at(buffer, state.sizes.line_start(frame, line)));
+    Ok(())
+}
+
+/// Rows 1 to 4.
+fn mounted_sizes(buffer: &[u8]) -> Answer<Sizes> {
+    row(UnderHeader, buffer.len() < HEADER as usize)?;
+    row(UnknownLayout, word(buffer, LAYOUT_AT) != LAYOUT)?;
+    let sizes = Sizes { p: word(buffer, P_AT), s: word(buffer, S_AT), j: word(buffer, J_AT) };
+    row(SizesOutOfRange, !sizes.in_range())?;
+    row(BufferShort, buffer.len() < sizes.image_length())?;
+    Ok(sizes)
+}
+
+/// Row 6 turned round. A record's "first" depends on the record before it alone.
+fn records_hold(buffer: &[u8], sizes: Sizes, live: &[u64]) -> bool {
+    (0..live.len()).all(|i| {
+        let record = Record::read(buffer, sizes, live[i]);
+        let before = (i > 0).then(|| Record::read(buffer, sizes, live[i - 1]));
+        record_holds(sizes, live[i], record, before)
+    })
+}
+
+fn replay(buffer: &[u8], sizes: Sizes, (head, tail): (u64, u64), live: &[u64]) -> State {
+    let mut state = State { head, tail, ..State::empty(sizes) };
+    for slot in 0..sizes.s {
+        let words = [0, 1, 2].map(|i| word(buffer, sizes.slot_word(slot, i)));
+        state.slots[slot as usize] = Slot::from_words(words);
+    }
+    for &position in live {
+        let record = Record::read(buffer, sizes, position);
+        state.slots[record.slot_number as usize] = record.slot;
+        state.last[record.slot_number as usize] = Some(position);
+    }
+    state
+}
+
+/// Row 7 turned round.
+fn tables_hold(buffer: &[u8], state: &State) -> bool {
+    let (slots, sizes) = (state.slots_used(), state.sizes);
+    slots.iter().all(|slot| slot.has_shape(sizes))
+        && !page_twice(slots, sizes)
+        && each_frame_named_once(buffer, slots, sizes)
+}
+
+/// Spares and homes name each frame once. A page's home is its slot's original, or its
+/// page-table word if it has no slot.
+fn each_frame_named_once(buffer: &[u8], slots: &[Slot], sizes: Sizes) -> bool {
+    let home = |page| match slot_owning(slots, sizes, page) {
+        Some(slot) => slots[slot].original,
+        None => word(buffer, sizes.page_word(page)),
+    };
+    let names: Vec<u64> = slots.iter().map(|slot| slot.spare).chain((0..sizes.p).map(home)).collect();
+    (0..sizes.frames()).all(|frame| names.iter().filter(|name| **name == frame).count() == 1)
+}

@@ -1,0 +1,185 @@
+//! What an operation stores, in order, and what changes in the state with its last store.
+
+use crate::image::{put_word, word};
+use crate::journal::{position_after, Record};
+use crate::layout::{Sizes, HEAD_AT, TAIL_AT};
+use crate::slots::{lines_of, Slot};
+use crate::state::{Operation, State, Write};
+
+/// One store: a word's address and what goes there.
+#[derive(Clone, Copy, Debug, PartialEq, Eq)]
+pub struct Store {
+    pub at: usize,
+    pub value: Value,
+}
+
+#[derive(Clone, Copy, Debug, PartialEq, Eq)]
+pub enum Value {
+    Word(u64),
+    /// The word at this address when the store is made.
+    CopyOf(usize),
+}
+
+impl Store {
+    pub fn make(self, image: &mut [u8]) {
+        let value = match self.value {
+            Value::Word(value) => value,
+            Value::CopyOf(from) => word(image, from),
+        };
+        put_word(image, self.at, value);
+    }
+}
+
+/// Every store of an operation that the rows let through.
+pub fn plan(state: &State, operation: &Operation) -> Vec<Store> {
+    match operation {
+        Operation::Write(write) => write_plan(state, write),
+        Operation::Commit { writer } => commit_plan(state, *writer),
+        Operation::Consolidate { page } => consolidate_plan(state, *page),
+        Operation::Checkpoint => checkpoint_plan(state),
+    }
+}
+
+/// The change in the state that comes with the last store (or at once, if none is needed).
+pub fn complete(state: &mut State, operation: &Operation) {
+    match operation {
+        Operation::Write(write) => complete_write(state, write),
+        Operation::Commit { writer } => complete_commit(state, *writer),
+        Operation::Consolidate { page } => complete_consolidate(state, *page),
+        Operation::Checkpoint => complete_checkpoint(state),
+    }
+}
+
+fn put(at: usize, value: u64) -> Store {
+    Store { at, value: Value::Word(value) }
+}
+
+/// The finished line goes to the frame that is not the committed one.
+fn write_plan(state: &State, write: &Write) -> Vec<Store> {
+    let frame = match state.slot_of(write.page) {
+        Some(slot) => state.slots[slot].other_frame(write.line),
+        None => state.slots[slot_for(state)].spare,
+    };
+    let at = state.sizes.line_start(frame, write.line);
+    (0..8).map(|i| put(at + 8 * i, word(&write.finished, 8 * i))).collect()
+}
+
+/// The slot that a page without one takes. Row 15 says that there is one.
+fn slot_for(state: &State) -> usize {
+    state.first_free().expect("row 15: a slot is free")
+}
+
+fn complete_write(state: &mut State, write: &Write) {
+    let slot = state.slot_of(write.page).unwrap_or_else(|| {
+        let taken = slot_for(state);
+        let spare = state.slots[taken].spare;
+        state.slots[taken] = Slot { page: write.page, original: write.frame, spare, bitmap: 0 };
+        state.next = (taken as u64 + 1) % state.sizes.s;
+        taken
+    });
+    state.writers[write.writer as usize].held[slot] |= 1 << write.line;
+}
+
+/// The slot as a writer's commit leaves it: bitmap = committed exclusive-or held.
+fn committed_slot(state: &State, writer: u64, slot: usize) -> Slot {
+    let held = state.writers[writer as usize].held[slot];
+    Slot { bitmap: state.slots[slot].bitmap ^ held, ..state.slots[slot] }
+}
+
+fn record_stores(sizes: Sizes, position: u64, record: Record) -> Vec<Store> {
+    let words = record.words();
+    (0..4).map(|i| put(sizes.record_word(position, i), words[i as usize])).collect()
+}
+
+fn commit_plan(state: &State, writer: u64) -> Vec<Store> {
+    let slots = state.slots_held(writer);
+    if slots.is_empty() {
+        return vec![];
+    }
+    let mut stores = vec![];
+    for (i, &slot) in slots.iter().enumerate() {
+        let position = position_after(state.sizes, state.head, i as u64);
+        let new = committed_slot(state, writer, slot);
+        let record = Record { first: state.head, slot_number: slot as u64, slot: new };
+        stores.extend(record_stores(state.sizes, position, record));
+    }
+    stores.push(put(HEAD_AT, position_after(state.sizes, state.head, slots.len() as u64)));
+    stores
+}
+
+fn complete_commit(state: &mut State, writer: u64) {
+    for slot in state.slots_held(writer) {
+        state.slots[slot] = committed_slot(state, writer, slot);
+        state.last[slot] = Some(state.head);
+        state.head = position_after(state.sizes, state.head, 1);
+    }
+    state.close(writer);
+}
+
+/// How a page leaves its slot: which lines are copied, from where to where.
+struct Consolidation {
+    slot: usize,
+    lines: Vec<u64>,
+    from: u64,
+    to: u64,
+}
+
+/// The frame copied to becomes the page's own, the other one the free slot's spare.
+fn consolidation(state: &State, page: u64) -> Consolidation {
+    let slot = state.slot_of(page).expect("row 17: the page has a slot");
+    let Slot { original, spare, bitmap, .. } = state.slots[slot];
+    if bitmap.count_ones() <= 32 {
+        Consolidation { slot, lines: lines_of(bitmap), from: spare, to: original }
+    } else {
+        Consolidation { slot, lines: lines_of(!bitmap), from: original, to: spare }
+    }
+}
+
+fn consolidate_plan(state: &State, page: u64) -> Vec<Store> {
+    let Consolidation { slot, lines, from, to } = consolidation(state, page);
+    let sizes = state.sizes;
+    let mut stores = vec![];
+    for line in lines {
+        for i in 0..8 {
+            let value = Value::CopyOf(sizes.line_start(from, line) + 8 * i);
+            stores.push(Store { at: sizes.line_start(to, line) + 8 * i, value });
+        }
+    }
+    stores.push(put(sizes.page_word(page), to));
+    let record = Record { first: state.head, slot_number: slot as u64, slot: Slot::free(from) };
+    stores.extend(record_stores(sizes, state.head, record));
+    stores.push(put(HEAD_AT, position_after(sizes, state.head, 1)));
+    stores
+}
+
+fn complete_consolidate(state: &mut State, page: u64) {
+    let Consolidation { slot, from, .. } = consolidation(state, page);
+    state.slots[slot] = Slot::free(from);
+    state.last[slot] = Some(state.head);
+    state.head = position_after(state.sizes, state.head, 1);
+}
+
+/// The words of each slot's last record are copied within the image, then tail becomes head.
+fn checkpoint_plan(state: &State) -> Vec<Store> {
+    if state.head == state.tail {
+        return vec![];
+    }
+    let sizes = state.sizes;
+    let mut stores = vec![];
+    for slot in state.slots_recorded() {
+        let last = state.last[slot].expect("the slot has a last record");
+        for i in 0..3 {
+            let value = Value::CopyOf(sizes.record_word(last, i + 1));
+            stores.push(Store { at: sizes.slot_word(slot as u64, i), value });
+        }
+    }
+    stores.push(put(TAIL_AT, state.head));
+    stores
+}
+
+fn complete_checkpoint(state: &mut State) {
+    for slot in state.slots_recorded() {
+        state.last[slot] = None;
+    }
+    state.tail = state.head;
+}

@@ -1,0 +1,75 @@
+//! The refusal table from row 11 on. These rows speak of the state and the arguments, so they serve
+//! both the calls and row 8, which asks them again of a pending call.
+
+use crate::journal::live_count;
+use crate::layout::LINES;
+use crate::refusal::{row, Answer, Refusal::*};
+use crate::slots::frames_named;
+use crate::state::{State, WRITERS};
+
+fn writer_row(writer: u64) -> Answer<()> {
+    row(BadArgument, writer >= WRITERS as u64)
+}
+
+fn page_row(state: &State, page: u64) -> Answer<()> {
+    row(BadArgument, page >= state.sizes.p)
+}
+
+pub fn begin_rows(state: &State, writer: u64) -> Answer<()> {
+    writer_row(writer)?;
+    row(WriterOpen, state.is_open(writer))
+}
+
+pub fn abort_rows(state: &State, writer: u64) -> Answer<()> {
+    writer_row(writer)?;
+    row(WriterClosed, !state.is_open(writer))
+}
+
+/// Row 11 on a line's place, for write and read.
+pub fn place_rows(state: &State, writer: u64, page: u64, line: u64) -> Answer<()> {
+    writer_row(writer)?;
+    page_row(state, page)?;
+    row(BadArgument, line >= LINES)
+}
+
+/// Rows 11 (without the data) to 15.
+pub fn write_rows(
+    state: &State,
+    (writer, page, line): (u64, u64, u64),
+    (offset, length): (u64, u64),
+) -> Answer<()> {
+    place_rows(state, writer, page, line)?;
+    row(BadArgument, length == 0)?;
+    row(BadArgument, u128::from(offset) + u128::from(length) > 64)?;
+    row(WriterClosed, !state.is_open(writer))?;
+    let slot = state.slot_of(page);
+    let others = (0..WRITERS as u64).filter(|&other| other != writer);
+    let held = slot.is_some_and(|slot| others.into_iter().any(|other| state.holds(other, slot, line)));
+    row(LineHeld, held)?;
+    row(NoFreeSlot, slot.is_none() && state.first_free().is_none())
+}
+
+/// Row 16 for a page without a slot, on a frame that its page-table word names.
+pub fn frame_row(state: &State, frame: u64) -> Answer<()> {
+    let of_a_slot = frames_named(state.slots_used(), state.sizes).contains(&frame);
+    row(BadPageWord, frame >= state.sizes.frames() || of_a_slot)
+}
+
+pub fn commit_rows(state: &State, writer: u64) -> Answer<()> {
+    writer_row(writer)?;
+    row(WriterClosed, !state.is_open(writer))?;
+    room_row(state, state.slots_held(writer).len() as u64)
+}
+
+pub fn consolidate_rows(state: &State, page: u64) -> Answer<()> {
+    page_row(state, page)?;
+    let Some(slot) = state.slot_of(page) else { return Err(PageWithoutSlot) };
+    row(PageHeld, state.writers.iter().any(|writer| writer.held[slot] != 0))?;
+    room_row(state, 1)
+}
+
+/// Row 19.
+fn room_row(state: &State, new: u64) -> Answer<()> {
+    let live = live_count(state.sizes, state.head, state.tail);
+    row(JournalFull, live + new > state.sizes.j)
+}

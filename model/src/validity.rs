@@ -1,0 +1,120 @@
+//! Row 8: the states that no call takes.
+
+use crate::journal::{bounds_hold, live_positions};
+use crate::plan::plan;
+use crate::rows::{commit_rows, consolidate_rows, frame_row, write_rows};
+use crate::slots::{frames_named, page_twice};
+use crate::state::{Operation, Pending, State, Write, WRITERS};
+
+/// What breaks a state. All are row 8; they are told apart only to see what tests reach.
+#[derive(Clone, Copy, Debug, PartialEq, Eq, PartialOrd, Ord)]
+pub enum Breach {
+    Sizes,
+    JournalBounds,
+    SlotShape,
+    PageTwice,
+    FrameTwice,
+    HeldTwice,
+    HeldByClosed,
+    HeldInFree,
+    NextSlot,
+    LastNotLive,
+    LastTwice,
+    PendingRefused(u8),
+    PendingFrame,
+    PendingMade,
+}
+
+pub fn is_broken(state: &State) -> bool {
+    breach(state).is_some()
+}
+
+/// The first thing found that breaks a state. The order matters only in that later
+/// questions are asked of sizes and positions that are in range.
+pub fn breach(state: &State) -> Option<Breach> {
+    if !state.sizes.in_range() {
+        return Some(Breach::Sizes);
+    }
+    if !bounds_hold(state.sizes, state.head, state.tail) {
+        return Some(Breach::JournalBounds);
+    }
+    slots_breach(state)
+        .or_else(|| held_breach(state))
+        .or_else(|| last_breach(state))
+        .or_else(|| state.pending.as_ref().and_then(|pending| pending_breach(state, pending)))
+}
+
+/// Row 7 for the slots, unslotted page words aside, and the next slot to try.
+fn slots_breach(state: &State) -> Option<Breach> {
+    let slots = state.slots_used();
+    if slots.iter().any(|slot| !slot.has_shape(state.sizes)) {
+        return Some(Breach::SlotShape);
+    }
+    if page_twice(slots, state.sizes) {
+        return Some(Breach::PageTwice);
+    }
+    let named = frames_named(slots, state.sizes);
+    if named.iter().any(|frame| named.iter().filter(|other| *other == frame).count() > 1) {
+        return Some(Breach::FrameTwice);
+    }
+    (state.next >= state.sizes.s).then_some(Breach::NextSlot)
+}
+
+fn held_breach(state: &State) -> Option<Breach> {
+    for slot in 0..state.slot_count() {
+        for line in 0..64 {
+            let holders: Vec<u64> =
+                (0..WRITERS as u64).filter(|&writer| state.holds(writer, slot, line)).collect();
+            if holders.len() > 1 {
+                return Some(Breach::HeldTwice);
+            }
+            if holders.iter().any(|&writer| !state.is_open(writer)) {
+                return Some(Breach::HeldByClosed);
+            }
+            if !holders.is_empty() && state.slots[slot].is_free(state.sizes) {
+                return Some(Breach::HeldInFree);
+            }
+        }
+    }
+    None
+}
+
+fn last_breach(state: &State) -> Option<Breach> {
+    let live = live_positions(state.sizes, state.head, state.tail);
+    let last: Vec<u64> = state.last[..state.slot_count()].iter().flatten().copied().collect();
+    if last.iter().any(|position| !live.contains(position)) {
+        return Some(Breach::LastNotLive);
+    }
+    let twice = last.iter().any(|position| last.iter().filter(|other| *other == position).count() > 1);
+    twice.then_some(Breach::LastTwice)
+}
+
+/// A pending call that a row from 11 on would turn back, or that has no store left to make.
+fn pending_breach(state: &State, pending: &Pending) -> Option<Breach> {
+    let rows = match &pending.operation {
+        Operation::Write(write) => {
+            write_rows(state, (write.writer, write.page, write.line), (write.offset, write.length))
+        }
+        Operation::Commit { writer } => commit_rows(state, *writer),
+        Operation::Consolidate { page } => consolidate_rows(state, *page),
+        Operation::Checkpoint => Ok(()),
+    };
+    if let Err(refusal) = rows {
+        return Some(Breach::PendingRefused(refusal.number()));
+    }
+    if let Operation::Write(write) = &pending.operation {
+        if !frame_stands(state, write) {
+            return Some(Breach::PendingFrame);
+        }
+    }
+    let needed = plan(state, &pending.operation).len() as u64;
+    (pending.made >= needed).then_some(Breach::PendingMade)
+}
+
+/// Row 16 on the frame held, which for a slotted page must be its original.
+fn frame_stands(state: &State, write: &Write) -> bool {
+    match state.slot_of(write.page) {
+        Some(slot) => write.frame == state.slots[slot].original,
+        None => frame_row(state, write.frame).is_ok(),
+    }
+}
