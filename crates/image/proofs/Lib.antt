@@ -1,6 +1,1 @@
-pub mod Bytes
-pub mod Parts
-pub mod WordLaws
-pub mod Runs
-pub mod LayoutLaws
 pub mod LineLaws

@@ -10,15 +10,15 @@ use Rattle.bounded.specs.Below.{upTo}
 use Rattle.bounded.specs.Tab.{tab}
 use Rattle.bounded.proofs.Below.{split-below, up-keeps}
 use Rattle.bounded.proofs.Tab.{tab-ext}
-use Rattle.image.specs.declared.Sizes.{Sizes}
-use Rattle.image.specs.Words.{part, over, wordAt, word, Bytes, flat}
-use Rattle.image.specs.Layout.{frames, lineWord, imageLength}
+use Rattle.layout.specs.declared.Sizes.{Sizes}
+use Rattle.words.specs.Words.{part, over, wordAt, word, Bytes, flat}
+use Rattle.layout.specs.Layout.{frames, lineWord, imageLength}
 use Rattle.image.specs.Lines.{lineBytes, merged, lineWords, copyStore, copyStores}
-use Rattle.image.proofs.Bytes.{bytes-take}
-use Rattle.image.proofs.Parts.{length-part, part-part, length-over, bytes-over, getD-over, getD-over-other, over-whole, over-back, copied}
-use Rattle.image.proofs.WordLaws.{word-part, word-lt, word-store, word-store-other, length-store, bytes-store}
-use Rattle.image.proofs.Runs.{flat-words, words-tab}
-use Rattle.image.proofs.LayoutLaws.{line-apart}
+use Rattle.words.proofs.Bytes.{bytes-take}
+use Rattle.words.proofs.Parts.{length-part, part-part, length-over, bytes-over, getD-over, getD-over-other, over-whole, over-back, copied}
+use Rattle.words.proofs.WordLaws.{word-part, word-lt, word-store, word-store-other, length-store, bytes-store}
+use Rattle.words.proofs.Runs.{flat-words, words-tab}
+use Rattle.layout.proofs.LayoutLaws.{line-apart}
 
 -- ---- a frame's bytes, cut out of the image
 

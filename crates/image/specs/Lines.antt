@@ -3,9 +3,9 @@ use Prim.Native.Nat.{ℕ, _+_, _*_}
 use mathlib.Core.List.{List}
 use lib.ListN.{take}
 use Rattle.bounded.specs.Below.{upTo}
-use Rattle.image.specs.declared.Sizes.{Sizes}
-use Rattle.image.specs.Layout.{lineWord}
-use Rattle.image.specs.Words.{part, over, word, store, wordsAt}
+use Rattle.layout.specs.declared.Sizes.{Sizes}
+use Rattle.layout.specs.Layout.{lineWord}
+use Rattle.words.specs.Words.{part, over, word, store, wordsAt}
 
 -- the 64 bytes of line l of frame f
 abbrev pub lineBytes : List ℕ → Sizes → ℕ → ℕ → List ℕ

@@ -1,13 +1,99 @@
-// The image: words, where each lies, and the frames' lines as parts of the image.
-pub mod layout;
-pub mod lines;
-pub mod words;
-
+// Lines of the frames. A line reader or writer is passed one frame's 4,096 bytes, cut out of the image.
 ghost use mathlib.Core.Path.{_≡_};
+ghost use mathlib.Core.Logic.{_⊎_};
+ghost use Prim.Native.Nat.{_+_, _*_, _≤_, _<_};
+ghost use lib.ListN.{length};
+ghost use Rattle.words.specs.Words.{wordAt, putWord, word, store, part, over};
+ghost use Rattle.layout.specs.Layout.{Legal, frames, lineWord, imageLength};
+ghost use Rattle.image.specs.Lines.{lineBytes, merged, lineWords, copyStore, copyStores};
+use layout::Sizes;
 
-// Sizes of a store (document 01: P, S and J).
-pub struct Sizes {
-    pub pages: usize,
-    pub slots: usize,
-    pub places: usize,
+// One frame's bytes.
+fn frame(image: &[u8], z: Sizes, f: usize) -> &[u8]
+    requires { ⌜ Legal z × (f < frames z) × (imageLength z ≤ length (now image)) ⌝ }
+    ensures { λ r. ⌜ now r ≡ part (now (image .entry)) (8 * lineWord z f 0) 4096 ⌝ }
+{
+    let at = 8 * layout::line_word(z, f, 0);
+    &image[at..at + 4096]
+}
+
+// Word k of line l of a frame.
+fn frame_line_word(frame: &[u8], l: usize, k: usize) -> u64
+    requires { ⌜ (length (now frame) ≡ 4096) × (l < 64) × (k < 8) ⌝ }
+    ensures { λ r. ⌜ r ≡ wordAt (now (frame .entry)) (64 * l + 8 * k) ⌝ }
+{
+    words::word_at(frame, 64 * l + 8 * k)
+}
+
+// Stores v as word k of line l of a frame.
+fn put_frame_line_word(frame: &mut [u8], l: usize, k: usize, v: u64)
+    requires { ⌜ (length (now frame) ≡ 4096) × (l < 64) × (k < 8) ⌝ }
+    ensures { λ _. ⌜ now (frame .exit) ≡ putWord (now (frame .entry)) (64 * l + 8 * k) v ⌝ }
+{
+    words::put_word(frame, 64 * l + 8 * k, v);
+}
+
+// Word k of line l of frame f of an image.
+pub fn read_line_word(image: &[u8], z: Sizes, f: usize, l: usize, k: usize) -> u64
+    requires { ⌜ Legal z × (f < frames z) × (l < 64) × (k < 8) × (imageLength z ≤ length (now image)) ⌝ }
+    ensures { λ r. ⌜ r ≡ word (now (image .entry)) (lineWord z f l + k) ⌝ }
+{
+    frame_line_word(frame(image, z, f), l, k)
+}
+
+// Stores v as word k of line l of frame f of an image.
+pub fn store_line_word(image: &mut [u8], z: Sizes, f: usize, l: usize, k: usize, v: u64)
+    requires { ⌜ Legal z × (f < frames z) × (l < 64) × (k < 8) × (imageLength z ≤ length (now image)) ⌝ }
+    ensures { λ _. ⌜ now (image .exit) ≡ store (now (image .entry)) (lineWord z f l + k) v ⌝ }
+{
+    let at = 8 * layout::line_word(z, f, 0);
+    put_frame_line_word(&mut image[at..at + 4096], l, k, v);
+}
+
+// Store k of the eight that copy line l from one frame to another.
+pub fn copy_line_word(image: &mut [u8], z: Sizes, from: usize, to: usize, l: usize, k: usize)
+    requires { ⌜ Legal z × (from < frames z) × (to < frames z) × (l < 64) × (k < 8) × (imageLength z ≤ length (now image)) ⌝ }
+    ensures { λ _. ⌜ now (image .exit) ≡ copyStore z from to l k (now (image .entry)) ⌝ }
+{
+    let v = read_line_word(image, z, from, l, k);
+    store_line_word(image, z, to, l, k, v);
+}
+
+// Copies line l from one frame to another.
+pub fn copy_line(image: &mut [u8], z: Sizes, from: usize, to: usize, l: usize)
+    requires { ⌜ Legal z × (from < frames z) × (to < frames z) × (l < 64) × (imageLength z ≤ length (now image)) ⌝ }
+    ensures { λ _. ⌜ now (image .exit) ≡ copyStores z from to l 8 (now (image .entry)) ⌝ }
+{
+    let mut k = 0;
+    while k < 8 {
+        copy_line_word(image, z, from, to, l, k);
+        k += 1;
+    }
+}
+
+// Copies line l of frame f to the start of target.
+pub fn read_line(image: &[u8], z: Sizes, f: usize, l: usize, target: &mut [u8])
+    requires { ⌜ Legal z × (f < frames z) × (l < 64) × (imageLength z ≤ length (now image)) × (64 ≤ length (now target)) ⌝ }
+    ensures { λ _. ⌜ now (target .exit) ≡ over (now (target .entry)) 0 (lineBytes (now (image .entry)) z f l) ⌝ }
+{
+    words::copy_words(frame(image, z, f), 64 * l, target, 0, 8);
+}
+
+// The words of line l of frame f with the first n bytes of data laid over it from offset on.
+pub fn merged_line(
+    image: &[u8],
+    z: Sizes,
+    f: usize,
+    l: usize,
+    offset: usize,
+    data: &[u8],
+    n: usize,
+) -> [u64; 8]
+    requires { ⌜ Legal z × (f < frames z) × (l < 64) × (imageLength z ≤ length (now image)) × (offset + n ≤ 64) × (n ≤ length (now «data»)) ⌝ }
+    ensures { λ r. ⌜ r ≡ lineWords (merged (lineBytes (now (image .entry)) z f l) offset n (now («data» .entry))) ⌝ }
+{
+    let mut line = [0u8; 64];
+    read_line(image, z, f, l, &mut line);
+    bytes::copy(&data[0..n], &mut line[offset..offset + n]);
+    words::words_of(&line)
 }

@@ -1,0 +1,91 @@
+-- Abort closes a writer: its held lines and its unfinished writes are gone together, and the committed copies stay.
+use Prim.Native.Nat.{ℕ, _<_}
+use mathlib.Core.Bool.{false}
+use mathlib.Core.List.{List}
+use mathlib.Core.Logic.{inl}
+use mathlib.Core.Path.{_≡_, refl, sym, ap, _∙_}
+use native.Mathlib.Omega.{arith}
+use lib.Dec.{eqb}
+use borrow.Author.Tests.{eqb-true, eqb-false, ltb-true}
+use Rattle.bounded.specs.Rows.{refusal}
+use Rattle.bounded.proofs.Rows.{none-apply}
+use Rattle.bounded.proofs.Tests.{caseOn, contradicts}
+use Rattle.layout.specs.Layout.{Legal}
+use Rattle.journal.specs.Table.{slotIn}
+use Rattle.masks.proofs.Members.{in-none}
+use Rattle.state.specs.declared.State.{State}
+use Rattle.state.specs.Held.{heldAt}
+use Rattle.state.specs.Operations.{slotFor, slotted}
+use Rattle.stores.specs.Commit.{closedWriter}
+use Rattle.stores.specs.Stores.{World}
+use Rattle.stores.proofs.Closed.{closed-opened-length, closed-held-length, closed-holds, others-hold, closed-fine}
+use Rattle.stores.proofs.Valid.{valid}
+use Rattle.transactions.specs.Calls.{abortRows, abortOf, withWriters}
+use Rattle.transactions.specs.Run.{abort, exec}
+use Rattle.refinement.specs.Reference.{Reference, emptied}
+use Rattle.refinement.proofs.Invariant.{holds, Writing, Never, Quiet, Related}
+use Rattle.refinement.proofs.Sound.{Sound, answered-kept, is-quiet, quiet-idle}
+use Rattle.refinement.proofs.Keeps.{durable-kept, writers-valid}
+
+abbrev closed : State → ℕ → State
+closed st w = withWriters st (closedWriter (st .sizes) (st .writers) w)
+
+module _ (st : State) (w : ℕ) (legal : Legal (st .sizes)) where
+  -- a closed writer holds nothing
+  holds-none : (p l : ℕ) → holds (closed st w) w p l ≡ false
+  holds-none p l =
+      caseOn (slotted st p)
+      (λ t. rw (t, closed-holds (st .sizes) legal (st .writers) w (slotFor st p) (ltb-true (slotFor st p) (st .sizes .slots) t)) (in-none l))
+      (λ t. rw t)
+
+  -- another one what it held
+  holds-other : (v p l : ℕ) → (v ≡ w → ⊥) → holds (closed st w) v p l ≡ holds st v p l
+  holds-other v p l n =
+      caseOn (slotted st p)
+      (λ t. rw (t, others-hold (st .sizes) legal (st .writers) w v (slotFor st p) (ltb-true (slotFor st p) (st .sizes .slots) t) n))
+      (λ t. rw t)
+
+  held-below : (v s : ℕ) → s < st .sizes .slots → (b : ℕ) → heldAt (st .writers .held) v s < b → 0 < b → heldAt (closedWriter (st .sizes) (st .writers) w .held) v s < b
+  held-below v s l b h k =
+      caseOn (eqb v w)
+      (λ e. rw (eqb-true v w e, closed-holds (st .sizes) legal (st .writers) w s l) k)
+      (λ e. rw (others-hold (st .sizes) legal (st .writers) w v s l (eqb-false v w e)) h)
+
+aborted-writers : (st : State) (img : List ℕ) (b : Reference) (w : ℕ) → Legal (st .sizes) → Writing st img b Never → Writing (closed st w) img (emptied w b) Never
+aborted-writers st img b w legal ws =
+    record {
+      four = closed-opened-length (st .sizes) legal (st .writers) w ∙ ws .four;
+      sixty-four = closed-held-length (st .sizes) legal (st .writers) w ∙ ws .sixty-four;
+      held-low = λ v s k l. held-below st w legal v s l _ (ws .held-low v s k l) (omega arith);
+      own-copy = λ v p l k h m n t.
+          caseOn (eqb v w)
+          (λ e. contradicts t (ap (λ (x : ℕ). holds (closed st w) x p l) (eqb-true v w e) ∙ holds-none st w legal p l))
+          (λ e. rw e (ws .own-copy v p l k h m n (sym (holds-other st w legal v p l (eqb-false v w e)) ∙ t)));
+      no-writes = λ v p l i k h m j t.
+          caseOn (eqb v w)
+          (λ e. rw e)
+          (λ e. rw e (ws .no-writes v p l i k h m j (sym (holds-other st w legal v p l (eqb-false v w e)) ∙ t)));
+    }
+
+pub aborted : {past : List ℕ} (st : State) (img : List ℕ) (b : Reference) (w : ℕ) → Quiet past st img b → Quiet past (closed st w) img (emptied w b)
+aborted st img b w q =
+    let legal = valid st (q .valid) .legal in
+    record {
+      valid = writers-valid st (closedWriter (st .sizes) (st .writers) w) (q .valid) (quiet-idle st img b q)
+          (closed-fine (st .sizes) legal (st .writers) w (slotIn (st .table)) (valid st (q .valid) .held));
+      pending = q .pending;
+      durable = durable-kept st img b (emptied w b) (st .next) (closedWriter (st .sizes) (st .writers) w) (st .pending) (λ p l h k. refl) (q .durable);
+      writers = aborted-writers st img b w legal (q .writers);
+      work = q .work;
+    }
+
+pub abort-sound : {past : List ℕ} (w : ℕ) (v : World) (b : Reference) → Related past v b → Sound past (abort w) v b
+unfolding exec abortOf
+abort-sound w v b h =
+    let st = v .st in
+    let a =
+    answered-kept (abort w) v b (refusal (abortRows st w)) 0 (closed st w) h
+    (λ e.
+    let rows = none-apply (abortRows st w) (omega arith) e in
+    record { sizes = refl; related = inl (aborted st (v .image) b w (is-quiet st (v .image) b h (rows .1 .0))) }) in
+    record { right = tt; sizes = a .sizes; related = a .related }

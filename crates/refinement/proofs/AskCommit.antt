@@ -1,0 +1,101 @@
+-- A commit asked for. With no lines held it needs no store: it closes the writer, whose unfinished writes are none.
+use Prim.Native.Nat.{ℕ, _<_}
+use mathlib.Core.Bool.{Bool, false, not}
+use mathlib.Core.List.{List}
+use mathlib.Core.Logic.{inl, inr}
+use mathlib.Core.Path.{_≡_, refl, sym, ap, _∙_, subst}
+use native.Mathlib.Omega.{arith}
+use lib.Dec.{eqb}
+use lib.ListN.{length, replicate}
+use borrow.Author.Tests.{eqb-true, ltb-true}
+use Rattle.bounded.specs.Below.{upTo}
+use Rattle.bounded.specs.Rows.{refusal}
+use Rattle.bounded.proofs.Below.{count-before}
+use Rattle.bounded.proofs.Rows.{none-apply, row-none}
+use Rattle.bounded.proofs.Tests.{caseOn}
+use Rattle.bounded.proofs.Those.{length-those}
+use Rattle.layout.specs.declared.Sizes.{Sizes}
+use Rattle.journal.specs.Records.{position}
+use Rattle.journal.specs.Table.{replay}
+use Rattle.journal.proofs.Ring.{pos-none}
+use Rattle.masks.proofs.Members.{in-none}
+use Rattle.state.specs.declared.State.{State}
+use Rattle.state.specs.declared.Op.the-variants.{Commit}
+use Rattle.state.specs.Held.{heldAt, heldSlots}
+use Rattle.state.specs.Operations.{slotFor, slotted, needs, commitRows}
+use Rattle.state.proofs.Taken.{commit-taken}
+use Rattle.stores.specs.Commit.{commitSlots, commitHead, commitTable, commitRecord, closedWriter}
+use Rattle.stores.specs.Stores.{World, completed}
+use Rattle.stores.proofs.Valid.{valid}
+use Rattle.transactions.specs.Calls.{commitCallRows, commitOf, withWriters}
+use Rattle.transactions.specs.Run.{commit, exec}
+use Rattle.refinement.specs.Reference.{Reference, Cell, laidOver, committing, laid, emptied}
+use Rattle.refinement.proofs.Invariant.{Quiet, Related, holds}
+use Rattle.refinement.proofs.Abort.{aborted}
+use Rattle.refinement.proofs.Asked.{all-left, asked-busy, asked-after}
+use Rattle.refinement.proofs.Keeps.{quiet-pages}
+use Rattle.refinement.proofs.Sound.{Sound, is-quiet}
+
+-- no slot with held lines: every mask is empty
+unheld : (z : Sizes) (held : List ℕ) (w : ℕ) → length (heldSlots z held w) ≡ 0 → (s : ℕ) → s < z .slots → heldAt held w s ≡ 0
+unfolding heldSlots
+unheld z held w e s l =
+    let f : ℕ → Bool = λ s. not (eqb (heldAt held w s) 0) in
+    caseOn (eqb (heldAt held w s) 0)
+    (λ t. eqb-true (heldAt held w s) 0 t)
+    (λ t. absurd (omega (arith, e, length-those f (z .slots), count-before f (z .slots) s l (ap not t))))
+
+none-needed : (st : State) (w : ℕ) → needs st (Commit w) ≡ 0 → length (commitSlots st w) ≡ 0
+unfolding needs
+none-needed st w e =
+    let n : ℕ = length (commitSlots st w) in
+    caseOn (eqb n 0) (λ t. eqb-true n 0 t) (λ t. absurd (omega (arith, rw t at e)))
+
+module _ {past : List ℕ} (st : State) (img : List ℕ) (b : Reference) (w : ℕ) (low : w < 4) (q : Quiet past st img b) (empty : length (commitSlots st w) ≡ 0) where
+  none-holds : (p l : ℕ) → holds st w p l ≡ false
+  none-holds p l =
+      caseOn (slotted st p)
+      (λ t. rw (t, unheld (st .sizes) (st .writers .held) w empty (slotFor st p) (ltb-true (slotFor st p) (st .sizes .slots) t)) (in-none l))
+      (λ t. rw t)
+
+  -- the state is as after an abort
+  same-table : commitTable st w ≡ st .table
+  unfolding replay upTo
+  same-table = ap (λ (n : ℕ). replay (st .sizes) (st .head) n (commitRecord st w) (st .table)) empty
+
+  same-head : commitHead st w ≡ st .head
+  same-head = ap (position (st .sizes) (st .head)) empty ∙ pos-none (st .sizes) (st .head) (valid st (q .valid) .positions .head-low)
+
+  as-aborted : withWriters st (closedWriter (st .sizes) (st .writers) w) ≡ completed st (Commit w)
+  as-aborted =
+      let e₁ = same-head in
+      let e₂ = same-table in
+      let e₃ = q .pending in
+      sym (λ i. record { sizes = st .sizes; head = e₁ i; tail = st .tail; next = st .next; table = e₂ i; writers = closedWriter (st .sizes) (st .writers) w; pending = sym e₃ i })
+
+  -- and so are the pages
+  empty-commit : Quiet past (completed st (Commit w)) img (emptied w (laid w b))
+  empty-commit =
+      subst (λ (s : State). Quiet past s img (emptied w (laid w b))) as-aborted
+      (quiet-pages (withWriters st (closedWriter (st .sizes) (st .writers) w)) img (emptied w b) (laid w b .pages)
+      (λ p l i h k m. ap (λ (c : Cell). laidOver c (b .pages p l i)) (sym (q .writers .no-writes w p l i low h k m (none-holds p l))))
+      (aborted st img b w q))
+
+op-row : (st : State) (img : List ℕ) (w : ℕ) → refusal (commitCallRows st img w) ≡ 0 → refusal (commitRows st w) ≡ 0
+op-row st img w e = let rows = none-apply (commitCallRows st img w) (omega arith) e in sym (row-none (commitRows st w) (rows .1 .1 .1))
+
+pub commit-sound : {past : List ℕ} (w : ℕ) (v : World) (b : Reference) → Related past v b → Sound past (commit w) v b
+unfolding exec commitOf
+commit-sound w v b h =
+    let st = v .st in
+    let img = v .image in
+    let rows = none-apply (commitCallRows st img w) (omega arith) in
+    let a =
+    asked-after (commit w) v b (refusal (commitCallRows st img w)) (Commit w) (replicate 8 0) 0 (committing w) (λ k. refl) h
+    (λ e z.
+    let q = is-quiet st img b h (rows e .1 .1 .0) in
+    record { sizes = refl; related = inl (empty-commit st img b w (commit-taken st w (op-row st img w e) .writer-low) q (none-needed st w z)) })
+    (λ e z.
+    let q = is-quiet st img b h (rows e .1 .1 .0) in
+    record { sizes = refl; related = inr (asked-busy st img b (Commit w) (replicate 8 0) 0 (committing w) q z (op-row st img w e) (all-left st (Commit w) (replicate 8 0) 0 (committing w))) }) in
+    record { right = tt; sizes = a .sizes; related = a .related }

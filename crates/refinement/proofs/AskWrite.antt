@@ -1,0 +1,110 @@
+-- A write asked for: the finished line is the reference machine's line with the data laid over it.
+use Prim.Native.Nat.{ℕ, _+_, _-_, _<_, _≤_}
+use mathlib.Core.Bool.{_&&_, cond}
+use mathlib.Core.List.{List}
+use mathlib.Core.Logic.{_⊎_, inl, inr}
+use mathlib.Core.Path.{_≡_, refl, sym, ap, _∙_, subst}
+use native.Mathlib.Omega.{arith}
+use lib.Dec.{ltb, leb, eqb}
+use lib.ListN.{length, getD}
+use lib.Seq.{ext-getD}
+use borrow.Author.Tests.{eq-eqb, ltb-true, ltb-false, leb-true, leb-false}
+use Rattle.bounded.specs.Rows.{refusal}
+use Rattle.bounded.specs.Tab.{tab}
+use Rattle.bounded.proofs.Rows.{none-apply, row-none}
+use Rattle.bounded.proofs.Tab.{length-tab, getD-tab}
+use Rattle.bounded.proofs.Tests.{caseOn}
+use Rattle.image.specs.Lines.{lineBytes, merged, lineWords}
+use Rattle.words.specs.Words.{Bytes}
+use Rattle.image.proofs.LineLaws.{length-merged, getD-merged, getD-merged-other}
+use Rattle.words.proofs.Parts.{bytes-part}
+use Rattle.state.specs.declared.State.{State}
+use Rattle.state.specs.declared.Op.the-variants.{Write}
+use Rattle.state.specs.Operations.{needs, writeRows}
+use Rattle.state.proofs.Taken.{ArgsGood, write-taken}
+use Rattle.stores.specs.Frames.{pageFrame, seenFrame}
+use Rattle.stores.specs.Stores.{World}
+use Rattle.transactions.specs.Calls.{writeCallRows, writeOf, finishedLine, withPending}
+use Rattle.transactions.specs.Run.{write, exec}
+use Rattle.refinement.specs.Reference.{Reference, byte, laidOver, writing, under, withWork, written, readLine}
+use Rattle.refinement.proofs.Invariant.{Never, Quiet, Busy, Related}
+use Rattle.refinement.proofs.Asked.{all-left, asked-busy, asked-after}
+use Rattle.refinement.proofs.Seen.{seen-line}
+use Rattle.refinement.proofs.Sound.{Sound, is-quiet}
+
+-- the bytes laid over the line, one by one
+merged-read : (b : Reference) (w p l o n : ℕ) (bytes : List ℕ) → o + n ≤ 64 → n ≤ length bytes
+    → merged (readLine b w p l) o n bytes ≡ readLine (written w p l o n bytes b) w p l
+merged-read b w p l o n bytes fits given =
+    let f : ℕ → ℕ = λ i. laidOver (b .writes w p l i) (b .pages p l i) in
+    let g : ℕ → ℕ =
+    λ i. laidOver (cond (eqb w w && eqb p p && eqb l l && leb o i && ltb i (o + n)) (byte (getD bytes (i - o) 0)) (b .writes w p l i)) (b .pages p l i) in
+    let sized : length (tab 64 f) ≡ 64 = length-tab 64 f in
+    let long : length (merged (tab 64 f) o n bytes) ≡ 64 = length-merged (tab 64 f) o n bytes sized fits given in
+    let keeps : (i : ℕ) → i < 64 → (o + n ≤ i) ⊎ (i < o) → getD (merged (tab 64 f) o n bytes) i 0 ≡ f i =
+    λ i m d. getD-merged-other (tab 64 f) o n bytes sized fits given i d ∙ getD-tab 64 f i 0 m in
+    ext-getD 0 (merged (tab 64 f) o n bytes) (tab 64 g) (long ∙ sym (length-tab 64 g))
+    (λ i m′.
+    let m : i < 64 = omega (arith, m′, long) in
+    let at : getD (tab 64 g) i 0 ≡ g i = getD-tab 64 g i 0 m in
+    caseOn (leb o i)
+    (λ t.
+    caseOn (ltb i (o + n))
+    (λ u.
+    getD-merged (tab 64 f) o n bytes sized fits given i (leb-true o i t) (ltb-true i (o + n) u)
+    ∙ sym (at ∙ rw (eq-eqb w w refl, eq-eqb p p refl, eq-eqb l l refl, t, u)))
+    (λ u. keeps i m (inl (ltb-false i (o + n) u)) ∙ sym (at ∙ rw (eq-eqb w w refl, eq-eqb p p refl, eq-eqb l l refl, t, u))))
+    (λ t. keeps i m (inr (leb-false o i t)) ∙ sym (at ∙ rw (eq-eqb w w refl, eq-eqb p p refl, eq-eqb l l refl, t))))
+
+module _ {past : List ℕ} (st : State) (img : List ℕ) (b : Reference) (w p l o n : ℕ) (bytes : List ℕ) (q : Quiet past st img b) (lent : Bytes bytes) (given : n ≤ length bytes)
+    (row : refusal (writeRows st w p l o n (pageFrame st img p)) ≡ 0) where
+  args : ArgsGood (st .sizes) w p l o n
+  args = write-taken st w p l o n (pageFrame st img p) row .args
+
+  seen : lineBytes img (st .sizes) (seenFrame st w p l (pageFrame st img p)) l ≡ readLine b w p l
+  seen = seen-line st img b Never (q .durable) (q .writers) w p l (args .writer-low) (args .page-low) (args .line-low) (λ x. x)
+
+  finished : finishedLine st img w p l o n bytes ≡ lineWords (readLine (written w p l o n bytes b) w p l)
+  finished = ap lineWords (ap (λ (x : List ℕ). merged x o n bytes) seen ∙ merged-read b w p l o n bytes (args .fits) given)
+
+  line-bytes : Bytes (readLine b w p l)
+  line-bytes = subst Bytes seen (bytes-part img _ 64 (q .durable .bytes))
+
+  eight : 0 < needs st (Write w p l o n)
+  unfolding needs
+  eight = omega arith
+
+  same-frame : pageFrame st img p ≡ pageFrame (withPending st (Write w p l o n) (finishedLine st img w p l o n bytes) (pageFrame st img p)) img p
+  unfolding pageFrame
+  same-frame = refl
+
+  write-busy : Busy past (withPending st (Write w p l o n) (finishedLine st img w p l o n bytes) (pageFrame st img p)) img
+      (withWork (under (writing w p l o n bytes) (needs st (Write w p l o n))) b)
+  write-busy =
+      asked-busy st img b (Write w p l o n) (finishedLine st img w p l o n bytes) (pageFrame st img p) (writing w p l o n bytes) q eight row
+      (bytes, lent, given, all-left st (Write w p l o n) (finishedLine st img w p l o n bytes) (pageFrame st img p) (writing w p l o n bytes), finished, same-frame, line-bytes)
+
+-- the rows after the first four
+op-row : (st : State) (img : List ℕ) (w p l o n : ℕ) (bytes : List ℕ) → refusal (writeCallRows st img w p l o n bytes) ≡ 0
+    → refusal (writeRows st w p l o n (pageFrame st img p)) ≡ 0
+op-row st img w p l o n bytes e =
+    let rows = none-apply (writeCallRows st img w p l o n bytes) (omega arith) e in
+    sym (row-none (writeRows st w p l o n (pageFrame st img p)) (rows .1 .1 .1 .1))
+
+pub write-sound : {past : List ℕ} (w p l o n : ℕ) (bytes : List ℕ) → Bytes bytes → (v : World) (b : Reference) → Related past v b → Sound past (write w p l o n bytes) v b
+unfolding exec writeOf
+write-sound w p l o n bytes lent v b h =
+    let st = v .st in
+    let img = v .image in
+    let rows = none-apply (writeCallRows st img w p l o n bytes) (omega arith) in
+    let a =
+    asked-after (write w p l o n bytes) v b (refusal (writeCallRows st img w p l o n bytes)) (Write w p l o n) (finishedLine st img w p l o n bytes) (pageFrame st img p) (writing w p l o n bytes) (λ k. refl) h
+    (λ e z.
+    let q = is-quiet st img b h (rows e .1 .1 .0) in
+    absurd (omega (arith, z, eight st img b w p l o n bytes q lent (ltb-false (length bytes) n (rows e .1 .1 .1 .0)) (op-row st img w p l o n bytes e))))
+    (λ e z.
+    record {
+      sizes = refl;
+      related = inr (write-busy st img b w p l o n bytes (is-quiet st img b h (rows e .1 .1 .0)) lent (ltb-false (length bytes) n (rows e .1 .1 .1 .0)) (op-row st img w p l o n bytes e));
+    }) in
+    record { right = tt; sizes = a .sizes; related = a .related }

@@ -1,0 +1,101 @@
+-- An operation asked for: pending with no store made, where it needs any.
+use Prim.Native.Nat.{ℕ, zero, suc, _-_, _<_}
+use mathlib.Core.Bool.{true, cond}
+use mathlib.Core.List.{List}
+use mathlib.Core.Path.{_≡_, refl, ap, _∙_}
+use native.Mathlib.Omega.{arith}
+use lib.Dec.{eqb, eqb·suc-zero}
+use Rattle.bounded.specs.Rows.{refusal}
+use Rattle.state.specs.declared.State.{State}
+use Rattle.state.specs.declared.Op.{Op}
+use Rattle.state.specs.declared.Op.the-variants.{Idle, Write, Commit, Consolidate, Checkpoint}
+use Rattle.state.specs.Operations.{needs, opRows}
+use Rattle.state.specs.Validity.{stateOk}
+use Rattle.stores.specs.Stores.{World, completed}
+use Rattle.stores.proofs.Pending.{pends-ok}
+use Rattle.stores.proofs.Valid.{valid, valid-ok}
+use Rattle.transactions.specs.Calls.{withPending, worldOf, asked}
+use Rattle.transactions.specs.Run.{Call}
+use Rattle.refinement.specs.Reference.{Reference, Task, under, withWork, does, starts, taken, turn}
+use Rattle.refinement.proofs.Invariant.{Doing, Quiet, Busy, Related}
+use Rattle.refinement.proofs.Keeps.{durable-kept}
+use Rattle.refinement.proofs.Sound.{After, unchanged}
+
+-- ---- rows and needs read nothing of what is pending
+
+module _ (st : State) (line : List ℕ) (frame : ℕ) (pending : Op) where
+  pub needs-asked : (op : Op) → needs (withPending st pending line frame) op ≡ needs st op
+  unfolding needs
+  needs-asked Idle = refl
+  needs-asked (Write w p l o n) = refl
+  needs-asked (Commit w) = refl
+  needs-asked (Consolidate p) = refl
+  needs-asked Checkpoint = refl
+
+  rows-asked : (op : Op) (f : ℕ) → refusal (opRows (withPending st pending line frame) op f) ≡ refusal (opRows st op f)
+  rows-asked Idle f = refl
+  rows-asked (Write w p l o n) f = refl
+  rows-asked (Commit w) f = refl
+  rows-asked (Consolidate p) f = refl
+  rows-asked Checkpoint f = refl
+
+asked-valid : (st : State) (op : Op) (line : List ℕ) (frame : ℕ) → stateOk st ≡ true → 0 < needs st op → refusal (opRows st op frame) ≡ 0
+    → stateOk (withPending st op line frame) ≡ true
+asked-valid st op line frame e l r =
+    let v = valid st e in
+    valid-ok (withPending st op line frame)
+    (record {
+      legal = v .legal;
+      positions = v .positions;
+      slots = v .slots;
+      held = v .held;
+      next-low = v .next-low;
+      lasts = v .lasts;
+      pending =
+          pends-ok (withPending st op line frame) op refl
+          (record { made-low = omega (arith, needs-asked st line frame op op); taken = rows-asked st line frame op op frame ∙ r });
+    })
+
+-- what the reference machine has under way, with all its stores left
+pub all-left : (st : State) (op : Op) (line : List ℕ) (frame : ℕ) (t : Task) → under t (needs st op) ≡ under t (needs (withPending st op line frame) op - 0)
+all-left st op line frame t = let e : needs st op ≡ needs (withPending st op line frame) op - 0 = omega (arith, needs-asked st line frame op op) in ap (under t) e
+
+pub asked-busy : {past : List ℕ} (st : State) (img : List ℕ) (b : Reference) (op : Op) (line : List ℕ) (frame : ℕ) (t : Task)
+    → Quiet past st img b → 0 < needs st op → refusal (opRows st op frame) ≡ 0
+    → Doing (withPending st op line frame) img (withWork (under t (needs st op)) b) op
+    → Busy past (withPending st op line frame) img (withWork (under t (needs st op)) b)
+asked-busy st img b op line frame t q l r doing =
+    let ws = q .writers in
+    record {
+      valid = asked-valid st op line frame (q .valid) l r;
+      durable = durable-kept st img b (withWork (under t (needs st op)) b) (st .next) (st .writers) _ (λ p l h k. refl) (q .durable);
+      writers =
+          record {
+            four = ws .four;
+            sixty-four = ws .sixty-four;
+            held-low = ws .held-low;
+            own-copy = λ w p l h k m n e. ws .own-copy w p l h k m (λ x. x) e;
+            no-writes = ws .no-writes;
+          };
+      landed = λ j m. absurd (omega arith);
+      doing = doing;
+    }
+
+-- ---- what is answered: refused, complete where no store is needed, or pending
+
+pub asked-after : {past : List ℕ} (c : Call) (v : World) (b : Reference) (row : ℕ) (op : Op) (line : List ℕ) (frame : ℕ) (t : Task)
+    → ((n : ℕ) → taken c n b ≡ starts t n b) → Related past v b
+    → (row ≡ 0 → needs (v .st) op ≡ 0 → After past v (worldOf (completed (v .st) op) (v .image)) (does t b))
+    → (row ≡ 0 → 0 < needs (v .st) op → After past v (worldOf (withPending (v .st) op line frame) (v .image)) (withWork (under t (needs (v .st) op)) b))
+    → After past v (worldOf (asked row (v .st) op line frame .state) (v .image)) (turn c row (asked row (v .st) op line frame .stores) b)
+asked-after {past = past} c v b zero op line frame t e h now later =
+    let n : ℕ = needs (v .st) op in
+    rw (e n) (by-needs n refl)
+  where
+    by-needs : (n : ℕ) → needs (v .st) op ≡ n
+        → After past v (worldOf (cond (eqb (needs (v .st) op) 0) (completed (v .st) op) (withPending (v .st) op line frame)) (v .image)) (starts t (needs (v .st) op) b)
+    by-needs zero q = let d = now refl q in rw q d
+    by-needs (suc k) q =
+        let d : After past v (worldOf (withPending (v .st) op line frame) (v .image)) (withWork (under t (needs (v .st) op)) b) = later refl (omega (arith, q)) in
+        rw (q, eqb·suc-zero k) (rw q at d)
+asked-after c v b (suc k) op line frame t e h now later = rw (eqb·suc-zero k) (unchanged v b h)

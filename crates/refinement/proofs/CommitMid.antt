@@ -1,0 +1,217 @@
+-- A store of a pending commit: the words of its records go behind the live ones, where mount does not read yet; so every store but the
+-- last, which is head, leaves all as it was.
+use Prim.Native.Nat.{ℕ, suc, _+_, _-_, _*_, _/_, _%_, _^_, _<_}
+use mathlib.Core.Bool.{Bool, true, not}
+use mathlib.Core.List.{List}
+use mathlib.Core.Logic.{inr, ⊎-elim}
+use mathlib.Core.Path.{_≡_, refl, sym, ap, _∙_, subst}
+use native.Mathlib.Omega.{arith}
+use lib.Dec.{ltb, eqb}
+use lib.ListN.{length, getD}
+use borrow.Author.Tests.{ltb-true, ltb-false, lt-ltb, le-ltb, eqb-true, eqb-false}
+use Rattle.bounded.specs.Below.{those, countBelow}
+use Rattle.bounded.specs.Rows.{refusal}
+use Rattle.bounded.proofs.Below.{count-before}
+use Rattle.bounded.proofs.Tests.{caseOn}
+use Rattle.bounded.proofs.Those.{length-those, chosen}
+use Rattle.layout.specs.declared.Sizes.{Sizes}
+use Rattle.layout.specs.Layout.{Legal, headWord, recordWord, slotWord}
+use Rattle.words.specs.Words.{word}
+use Rattle.layout.proofs.LayoutLaws.{record-end}
+use Rattle.words.proofs.WordLaws.{word-lt}
+use Rattle.journal.specs.declared.Slot.{Slot}
+use Rattle.journal.specs.Slots.{shaped}
+use Rattle.journal.specs.Records.{position, wordOfRecord, recordsOk}
+use Rattle.journal.specs.Table.{slotIn, lastIn, noPosition}
+use Rattle.journal.proofs.Dead.{Dead, dead-new}
+use Rattle.journal.proofs.LastRecords.{last-record, table-slot}
+use Rattle.journal.proofs.RightRecords.{one-transaction}
+use Rattle.journal.proofs.Ring.{words-apart}
+use Rattle.journal.proofs.SlotWords.{Owning, Free, shape, owning-shaped, shaped-fits, record-word-lt}
+use Rattle.journal.proofs.View.{View, Shows}
+use Rattle.journal.proofs.Verdict.{Taken}
+use Rattle.masks.proofs.Members.{exclusive-or-lt}
+use Rattle.state.specs.declared.State.{State}
+use Rattle.state.specs.declared.Op.{Op}
+use Rattle.state.specs.declared.Op.the-variants.{Commit}
+use Rattle.state.specs.Held.{heldAt, heldSlots}
+use Rattle.state.specs.Operations.{live, needs, opRows, isIdle}
+use Rattle.state.specs.Validity.{stateOk}
+use Rattle.state.proofs.Taken.{CommitTaken, commit-taken}
+use Rattle.stores.specs.Commit.{commitSlots, commitRecord, commitAt, commitValue}
+use Rattle.stores.specs.Stores.{stepped}
+use Rattle.stores.proofs.CommitValid.{SameNames, owning-renamed, commit-slot}
+use Rattle.stores.proofs.Valid.{valid}
+use Rattle.refinement.specs.Reference.{Reference, committing, under, advances}
+use Rattle.refinement.proofs.Invariant.{TakenOnly, Durable, Doing, Busy, Related}
+use Rattle.refinement.proofs.Stepping.{Mid, aside-before, step-mid}
+use Rattle.refinement.proofs.Underway.{underway}
+
+-- ---- what a mount finds, under the state's own header
+
+module _ (past : List ℕ) (st : State) (img : List ℕ) (b : Reference) (D : Durable past st img b) where
+  abbrev pub ownView : View
+  ownView =
+      record { sizes = st .sizes; layout = D .view .layout; head = st .head; tail = st .tail; records = D .view .records; table = D .view .table; homes = D .view .homes }
+
+  pub own-same : D .view ≡ ownView
+  own-same =
+      let e₀ = D .sizes-same in
+      let e₁ = D .head-same in
+      let e₂ = D .tail-same in
+      λ i. record { sizes = e₀ i; layout = D .view .layout; head = e₁ i; tail = e₂ i; records = D .view .records; table = D .view .table; homes = D .view .homes }
+
+  pub own-shows : Shows img ownView
+  own-shows = D .shows ∙ own-same
+
+  pub own-mounts : Taken (length img) ownView
+  own-mounts = subst (Taken (length img)) own-same (D .mounts)
+
+  -- bitmaps are read from words
+  pub bitmap-low : (s : ℕ) → s < st .sizes .slots → slotIn (st .table) s .bitmap < 2 ^ 64
+  bitmap-low s l =
+      let v : View = ownView in
+      let there : slotIn (v .table) s .bitmap < 2 ^ 64 =
+      caseOn (eqb (lastIn (v .table) s) noPosition)
+      (λ e.
+      subst (λ (u : Slot). u .bitmap < 2 ^ 64) (sym (table-slot img v own-shows (own-mounts .legal) s l (eqb-true (lastIn (v .table) s) noPosition e)))
+      (word-lt img (slotWord (st .sizes) s + 2) (D .bytes)))
+      (λ e.
+      subst (λ (x : ℕ). x < 2 ^ 64) (last-record img v own-shows (own-mounts .legal) s l (eqb-false (lastIn (v .table) s) noPosition e) .words 2 (omega arith))
+      (word-lt img (recordWord (st .sizes) (lastIn (v .table) s) + 1 + 2) (D .bytes))) in
+      ⊎-elim
+      (λ q. subst (λ (u : Slot). u .bitmap < 2 ^ 64) (sym q) there)
+      (λ (q : TakenOnly (word img) (st .sizes) (D .view .table) (st .table) s). subst (λ (x : ℕ). x < 2 ^ 64) (sym (q .bitmap)) (omega arith))
+      (D .behind .slot-same s l)
+
+-- ---- the records
+
+pub commit-pending : (st : State) (w : ℕ) → stateOk st ≡ true → st .pending .op ≡ Commit w → CommitTaken st w
+commit-pending st w ok e = commit-taken st w (subst (λ (op : Op). refusal (opRows st op (st .pending .frame)) ≡ 0) e (underway st ok (ap isIdle e) .no-row))
+
+module _ (st : State) (w : ℕ) where
+  abbrev pub count : ℕ
+  count = length (commitSlots st w)
+
+  commit-first : (j : ℕ) → commitRecord st w j .first ≡ st .head
+  unfolding commitRecord
+  commit-first j = refl
+
+  -- their slots rise
+  commit-rises : (j : ℕ) → suc j < count → commitRecord st w j .slot < commitRecord st w (suc j) .slot
+  unfolding commitRecord heldSlots
+  commit-rises j l =
+      let f : ℕ → Bool = λ s. not (eqb (heldAt (st .writers .held) w s) 0) in
+      let S : ℕ = st .sizes .slots in
+      let a = chosen f S j 0 (omega (arith, l, length-those f S)) in
+      let c = chosen f S (suc j) 0 (omega (arith, l, length-those f S)) in
+      let x : ℕ = getD (those S f) j 0 in
+      let y : ℕ = getD (those S f) (suc j) 0 in
+      caseOn (ltb x y)
+      (λ t. ltb-true x y t)
+      (λ t.
+      caseOn (eqb y x)
+      (λ q. absurd (omega (arith, a .before, c .before, ap (λ (k : ℕ). countBelow k f) (eqb-true y x q))))
+      (λ q.
+      let ne : y ≡ x → ⊥ = eqb-false y x q in
+      absurd (omega (arith, a .before, c .before, count-before f x y (omega (arith, ltb-false x y t)) (c .passes)))))
+
+  pub commit-names : (j : ℕ) → j < count → SameNames (slotIn (st .table) (commitRecord st w j .slot)) (commitRecord st w j .now)
+  commit-names j l =
+      let c = commit-slot st w j l .now in
+      record { page = ap (λ (v : Slot). v .page) c; original = ap (λ (v : Slot). v .original) c; spare = ap (λ (v : Slot). v .spare) c }
+
+  module _ (ok : stateOk st ≡ true) (T : CommitTaken st w) where
+    commit-shape : (j : ℕ) → j < count → shaped (st .sizes) (commitRecord st w j .now) ≡ true
+    commit-shape j l =
+        let z : Sizes = st .sizes in
+        let c = commit-slot st w j l in
+        let s : ℕ = commitRecord st w j .slot in
+        let old : Slot = slotIn (st .table) s in
+        owning-shaped z (commitRecord st w j .now)
+        (owning-renamed z old (commitRecord st w j .now) (commit-names j l)
+        (⊎-elim (λ (o : Owning z old). o)
+        (λ (o : Free z old). absurd (valid st ok .held .owned s w (c .slot-low) (T .writer-low) (c .holds) (o .page-none)))
+        (shape z old (valid st ok .slots .shapes s (c .slot-low)))))
+
+    -- they are right records
+    pub commit-right : recordsOk (st .sizes) (st .head) count (commitRecord st w) ≡ true
+    commit-right =
+        one-transaction (st .sizes) (st .head) count (commitRecord st w) (valid st ok .positions .head-low)
+        (λ j l. (commit-first j, commit-slot st w j l .slot-low, commit-shape j l)) commit-rises
+
+    -- and their words are words
+    commit-word : ((s : ℕ) → s < st .sizes .slots → slotIn (st .table) s .bitmap < 2 ^ 64) → ((s : ℕ) → s < st .sizes .slots → heldAt (st .writers .held) w s < 2 ^ 64)
+        → (j k : ℕ) → j < count → wordOfRecord (commitRecord st w j) k < 2 ^ 64
+    commit-word bits held j k l =
+        let z : Sizes = st .sizes in
+        let g : Legal z = valid st ok .legal in
+        let c = commit-slot st w j l in
+        let s : ℕ = commitRecord st w j .slot in
+        record-word-lt (commitRecord st w j) k (omega (arith, commit-first j, valid st ok .positions .head-low, g .places-high)) (omega (arith, c .slot-low, g .slots-high))
+        (shaped-fits z (commitRecord st w j .now) g (commit-shape j l))
+        (subst (λ (v : Slot). v .bitmap < 2 ^ 64) (sym (c .now)) (exclusive-or-lt (slotIn (st .table) s .bitmap) (heldAt (st .writers .held) w s) (bits s (c .slot-low)) (held s (c .slot-low))))
+
+  -- ---- store i
+
+  pub at-record : (i : ℕ) → i < 4 * count → commitAt st w i ≡ recordWord (st .sizes) (position (st .sizes) (st .head) (i / 4)) + i % 4
+  unfolding commitAt
+  at-record i l = rw (lt-ltb i (4 * count) l)
+
+  pub value-record : (i : ℕ) → i < 4 * count → commitValue st w i ≡ wordOfRecord (commitRecord st w (i / 4)) (i % 4)
+  unfolding commitValue
+  value-record i l = rw (lt-ltb i (4 * count) l)
+
+  pub at-head : commitAt st w (4 * count) ≡ headWord
+  unfolding commitAt
+  at-head = rw (le-ltb (4 * count) (4 * count) (omega arith))
+
+  pub value-head : commitValue st w (4 * count) ≡ position (st .sizes) (st .head) count
+  unfolding commitValue
+  value-head = rw (le-ltb (4 * count) (4 * count) (omega arith))
+
+  pub commit-needs : (m : ℕ) → m < needs st (Commit w) → needs st (Commit w) ≡ 4 * count + 1
+  unfolding needs
+  commit-needs m l =
+      caseOn (eqb count 0)
+      (λ e. absurd (omega (arith, rw e at l)))
+      (λ e. rw e)
+
+-- ---- every store but the last
+
+module _ (past : List ℕ) (st : State) (img : List ℕ) (b : Reference) (B : Busy past st img b) (w : ℕ) (e : st .pending .op ≡ Commit w) where
+  T : CommitTaken st w
+  T = commit-pending st w (B .valid) e
+
+  pub commit-mid : (m : ℕ) → m < 4 * count st w → Mid past st img b (B .durable) (Commit w) m
+  commit-mid m l =
+      let z : Sizes = st .sizes in
+      let n : ℕ = count st w in
+      let D = B .durable in
+      let g : Legal z = valid st (B .valid) .legal in
+      let at : commitAt st w m ≡ recordWord z (position z (st .head) (m / 4)) + m % 4 = at-record st w m l in
+      let end = record-end z g (position z (st .head) (m / 4)) in
+      record {
+        inside = omega (arith, at, end);
+        low = subst (λ (x : ℕ). x < 2 ^ 64) (sym (value-record st w m l)) (commit-word st w (B .valid) T (bitmap-low past st img b D) (λ s k. B .writers .held-low w s (T .writer-low) k) (m / 4) (m % 4) (omega arith));
+        apart =
+            λ j k q.
+            let o : commitAt st w j ≡ recordWord z (position z (st .head) (j / 4)) + j % 4 = at-record st w j (omega arith) in
+            let x = words-apart z g (st .head) (m / 4) (m % 4) (j / 4) (j % 4) (omega (arith, T .fits)) (omega (arith, T .fits)) (omega arith) (omega arith) (sym at ∙ q ∙ o) in
+            omega (arith, x .0, x .1);
+        stable = λ j k. refl;
+        harmless =
+            inr (aside-before past st img b D (Commit w) (commitAt st w m) (omega (arith, at, end))
+            (subst (λ (a : ℕ). Dead (D .view) a) (sym at)
+            (subst (λ (v : View). Dead v (recordWord z (position z (st .head) (m / 4)) + m % 4)) (sym (own-same past st img b D))
+            (dead-new (ownView past st img b D) g (valid st (B .valid) .positions) (m / 4) (m % 4) (omega (arith, T .fits)) (omega arith)))));
+      }
+
+  pub commit-doing : b .work ≡ under (committing w) (needs st (Commit w) - st .pending .made)
+  commit-doing = subst (Doing st img b) e (B .doing)
+
+  pub commit-on : st .pending .made + 1 < needs st (Commit w) → Related past (stepped (record { st = st; image = img })) (advances 1 (b .work) b)
+  unfolding needs
+  commit-on h =
+      let m : ℕ = st .pending .made in
+      step-mid past st img b B (committing w) (Commit w) e refl commit-doing h (commit-mid m (omega (arith, h, commit-needs st w m (omega arith)))) refl

@@ -1,0 +1,214 @@
+-- The copies of lines that the image keeps. The state's slots name the same frames as those that a mount finds, so the committed
+-- copies and the writers' own lie in frames of their own, and a store to one copy leaves the others alone.
+use Prim.Native.Nat.{ℕ, _+_, _*_, _<_, _≤_}
+use mathlib.Core.Bool.{true}
+use mathlib.Core.List.{List, _++_}
+use mathlib.Core.Logic.{⊎-elim}
+use mathlib.Core.Path.{_≡_, sym, ap, ap₂, _∙_, subst}
+use native.Mathlib.Omega.{arith}
+use lib.Dec.{ltb}
+use lib.ListN.{length}
+use borrow.Author.Tests.{ltb-true, lt-ltb, le-ltb}
+use Rattle.bounded.specs.Count.{Once}
+use Rattle.bounded.specs.Tab.{tab}
+use Rattle.bounded.proofs.Tab.{tab-ext}
+use Rattle.bounded.proofs.Tests.{caseOn}
+use Rattle.layout.specs.declared.Sizes.{Sizes}
+use Rattle.layout.specs.Layout.{Legal, frames, pageWord, frameWord, lineWord, imageLength}
+use Rattle.image.specs.Lines.{lineBytes}
+use Rattle.words.specs.Words.{Bytes, word, store}
+use Rattle.layout.proofs.LayoutLaws.{line-apart}
+use Rattle.image.proofs.LineLaws.{line-ext}
+use Rattle.words.proofs.WordLaws.{word-store-other, length-store, bytes-store}
+use Rattle.journal.specs.declared.Slot.{Slot}
+use Rattle.journal.specs.declared.Table.{Table}
+use Rattle.journal.specs.Slots.{noPage}
+use Rattle.journal.specs.Table.{slotIn, slotOf, homeOf, frameNames, pagesApart}
+use Rattle.journal.proofs.View.{View, Shows, shown, table-shown, slot-none}
+use Rattle.journal.proofs.Verdict.{namesIn}
+use Rattle.masks.proofs.Members.{in-none}
+use Rattle.state.specs.declared.State.{State}
+use Rattle.state.specs.Operations.{slotFor}
+use Rattle.state.specs.Validity.{stateOk}
+use Rattle.stores.specs.Frames.{committedFrame, otherFrame}
+use Rattle.transactions.specs.Recall.{frameOf}
+use Rattle.refinement.specs.Reference.{Reference}
+use Rattle.refinement.proofs.Invariant.{TakenOnly, Behind, Durable}
+use Rattle.refinement.proofs.Valid.{good, legal-sizes}
+use Rattle.refinement.proofs.PageSlots.{slot-page, slot-is, slotted-of}
+use Rattle.refinement.proofs.Names.{Owned, spare-low, owned-low, owned-apart, spare-unowned, committed-owned, other-owned, copies-apart}
+
+-- ---- the state's table t and the one d that a mount finds name the same frames
+
+-- page p has the same slot in both; or t's slot was only taken; or it has none
+pub data Kept (r : ℕ → ℕ) (z : Sizes) (d t : Table) (p : ℕ) : Type 0 where
+  same : slotOf z t p < z .slots → slotOf z d p ≡ slotOf z t p → slotIn t (slotOf z t p) ≡ slotIn d (slotOf z t p) → Kept r z d t p
+  took : slotOf z t p < z .slots → slotOf z d p ≡ z .slots → slotIn t (slotOf z t p) .page ≡ p → TakenOnly r z d t (slotOf z t p) → Kept r z d t p
+  bare : slotOf z t p ≡ z .slots → slotOf z d p ≡ z .slots → Kept r z d t p
+
+module _ (r : ℕ → ℕ) (z : Sizes) (d t : Table) (legal : Legal z) (d-apart : pagesApart z (d .page) ≡ true) (t-apart : pagesApart z (t .page) ≡ true) (behind : Behind r z d t) where
+  pub page-kept : (p : ℕ) → p < z .pages → Kept r z d t p
+  page-kept p h =
+      let s : ℕ = slotOf z t p in
+      let k : ℕ = slotOf z d p in
+      caseOn (ltb s (z .slots))
+      (λ b.
+      let l : s < z .slots = ltb-true s (z .slots) b in
+      let q : slotIn t s .page ≡ p = slot-page z t p l in
+      ⊎-elim
+      (λ e. same l (slot-is z d legal d-apart p s h l (sym (ap (λ (v : Slot). v .page) e) ∙ q)) e)
+      (λ e. took l (ap (slotOf z d) (sym q) ∙ e .unslotted) q e)
+      (behind .slot-same s l))
+      (λ b.
+      let n : s ≡ z .slots = slot-none z t p b in
+      caseOn (ltb k (z .slots))
+      (λ c.
+      let l : k < z .slots = ltb-true k (z .slots) c in
+      let q : slotIn d k .page ≡ p = slot-page z d p l in
+      absurd
+      (⊎-elim
+      (λ e. omega (arith, slotted-of z t p k l (ap (λ (v : Slot). v .page) e ∙ q)))
+      (λ e.
+      let f : slotIn d k .page ≡ noPage = ap (λ (v : Slot). v .page) (e .was-free) in
+      omega (arith, legal .pages-high))
+      (behind .slot-same k l)))
+      (λ c. bare n (slot-none z d p c)))
+
+  -- a slot that was only taken keeps its spare
+  pub spare-kept : (s : ℕ) → s < z .slots → slotIn t s .spare ≡ slotIn d s .spare
+  spare-kept s l = ⊎-elim (λ e. ap (λ (v : Slot). v .spare) e) (λ e. sym (ap (λ (v : Slot). v .spare) (e .was-free))) (behind .slot-same s l)
+
+  -- and its page's home stays the page word
+  home-kept : (p : ℕ) → Kept r z d t p → homeOf r z t p ≡ homeOf r z d p
+  home-kept p (same l m e) = rw (m, lt-ltb (slotOf z t p) (z .slots) l) (ap (λ (v : Slot). v .original) e)
+  home-kept p (took l m q e) =
+      rw (lt-ltb (slotOf z t p) (z .slots) l, m, le-ltb (z .slots) (z .slots) (omega arith)) (e .original ∙ ap (λ (x : ℕ). r (pageWord x)) q)
+  home-kept p (bare n m) = rw (n, m, le-ltb (z .slots) (z .slots) (omega arith))
+
+  -- as does the frame of a committed copy
+  kept-frame : (p l : ℕ) → Kept r z d t p → frameOf r z t p l ≡ frameOf r z d p l
+  kept-frame p l (same k m e) = rw (m, lt-ltb (slotOf z t p) (z .slots) k) (ap (λ (v : Slot). committedFrame v l) e)
+  kept-frame p l (took k m q e) =
+      rw (lt-ltb (slotOf z t p) (z .slots) k, m, le-ltb (z .slots) (z .slots) (omega arith), e .bitmap, in-none l) (e .original ∙ ap (λ (x : ℕ). r (pageWord x)) q)
+  kept-frame p l (bare n m) = rw (n, m, le-ltb (z .slots) (z .slots) (omega arith))
+
+  pub frame-kept : (p l : ℕ) → p < z .pages → frameOf r z t p l ≡ frameOf r z d p l
+  frame-kept p l h = kept-frame p l (page-kept p h)
+
+  pub table-names : frameNames r z t ≡ frameNames r z d
+  unfolding frameNames
+  table-names =
+      ap₂ (λ (a b : List ℕ). a ++ b)
+      (tab-ext (z .slots) (λ s. slotIn t s .spare) (λ s. slotIn d s .spare) spare-kept)
+      (tab-ext (z .pages) (homeOf r z t) (homeOf r z d) (λ p l. home-kept p (page-kept p l)))
+
+-- ---- the names in a view are those of its table
+
+pub view-names : (img : List ℕ) (v : View) → Shows img v → namesIn v ≡ frameNames (word img) (v .sizes) (v .table)
+unfolding frameNames
+view-names img v shows =
+    let e : v .homes ≡ tab (v .sizes .pages) (homeOf (word img) (v .sizes) (v .table)) =
+    ap (λ (u : View). u .homes) (shown img v shows) ∙ ap (λ (t : Table). tab (v .sizes .pages) (homeOf (word img) (v .sizes) t)) (sym (table-shown img v shows)) in
+    ap (λ (l : List ℕ). tab (v .sizes .slots) (λ s. slotIn (v .table) s .spare) ++ l) e
+
+-- ---- of a valid state and its image
+
+module _ {past : List ℕ} (st : State) (img : List ℕ) {b : Reference} (valid : stateOk st ≡ true) (D : Durable past st img b) where
+  -- what a mount finds, under the state's sizes
+  pub mount-apart : pagesApart (st .sizes) (D .view .table .page) ≡ true
+  mount-apart = subst (λ (y : Sizes). pagesApart y (D .view .table .page) ≡ true) (D .sizes-same) (D .mounts .apart)
+
+  pub mount-once : Once (frames (st .sizes)) (frameNames (word img) (st .sizes) (D .view .table))
+  mount-once =
+      subst (λ (y : Sizes). Once (frames y) (frameNames (word img) y (D .view .table))) (D .sizes-same)
+      (subst (Once (frames (D .view .sizes))) (view-names img (D .view) (D .shows)) (D .mounts .names))
+
+  pub image-fits : imageLength (st .sizes) ≤ length img
+  image-fits = subst (λ (y : Sizes). imageLength y ≤ length img) (D .sizes-same) (D .mounts .fits)
+
+  pub names-same : frameNames (word img) (st .sizes) (st .table) ≡ frameNames (word img) (st .sizes) (D .view .table)
+  names-same = table-names (word img) (st .sizes) (D .view .table) (st .table) (legal-sizes st valid) mount-apart (good st valid .pages) (D .behind)
+
+  pub names-once : Once (frames (st .sizes)) (frameNames (word img) (st .sizes) (st .table))
+  names-once = subst (Once (frames (st .sizes))) (sym names-same) mount-once
+
+  -- ---- the frames that a page owns
+
+  abbrev owns : ℕ → ℕ → Type 0
+  owns = Owned (word img) (st .sizes) (st .table)
+
+  committed-in : (p l : ℕ) → owns p (frameOf (word img) (st .sizes) (st .table) p l)
+  committed-in = committed-owned (word img) (st .sizes) (st .table) (legal-sizes st valid) names-once
+
+  other-in : (p l : ℕ) → slotFor st p < st .sizes .slots → owns p (otherFrame (slotIn (st .table) (slotFor st p)) l)
+  other-in = other-owned (word img) (st .sizes) (st .table) (legal-sizes st valid) names-once
+
+  same-owner : (p q x y : ℕ) → p < st .sizes .pages → q < st .sizes .pages → owns p x → owns q y → x ≡ y → p ≡ q
+  same-owner = owned-apart (word img) (st .sizes) (st .table) (legal-sizes st valid) names-once
+
+  free-unowned : (s p x : ℕ) → s < st .sizes .slots → p < st .sizes .pages → slotIn (st .table) s .page ≡ noPage → owns p x → slotIn (st .table) s .spare ≡ x → ⊥
+  free-unowned = spare-unowned (word img) (st .sizes) (st .table) (legal-sizes st valid) names-once
+
+  in-range : (p x : ℕ) → p < st .sizes .pages → owns p x → x < frames (st .sizes)
+  in-range = owned-low (word img) (st .sizes) (st .table) (legal-sizes st valid) names-once
+
+  -- ---- in range
+
+  pub frame-low : (p l : ℕ) → p < st .sizes .pages → frameOf (word img) (st .sizes) (st .table) p l < frames (st .sizes)
+  frame-low p l h = in-range p _ h (committed-in p l)
+
+  pub other-low : (p l : ℕ) → p < st .sizes .pages → slotFor st p < st .sizes .slots → otherFrame (slotIn (st .table) (slotFor st p)) l < frames (st .sizes)
+  other-low p l h m = in-range p _ h (other-in p l m)
+
+  pub slot-spare-low : (s : ℕ) → s < st .sizes .slots → slotIn (st .table) s .spare < frames (st .sizes)
+  slot-spare-low = spare-low (word img) (st .sizes) (st .table) (legal-sizes st valid) names-once
+
+  -- ---- apart: the frames of line l of page p and line m of page q
+
+  pub frames-apart : (p l q m : ℕ) → p < st .sizes .pages → q < st .sizes .pages → (p ≡ q → ⊥)
+      → frameOf (word img) (st .sizes) (st .table) p l ≡ frameOf (word img) (st .sizes) (st .table) q m → ⊥
+  frames-apart p l q m h k n e = n (same-owner p q _ _ h k (committed-in p l) (committed-in q m) e)
+
+  pub other-apart : (p l q m : ℕ) → p < st .sizes .pages → q < st .sizes .pages → slotFor st p < st .sizes .slots → (p ≡ q → ⊥)
+      → otherFrame (slotIn (st .table) (slotFor st p)) l ≡ frameOf (word img) (st .sizes) (st .table) q m → ⊥
+  other-apart p l q m h k s n e = n (same-owner p q _ _ h k (other-in p l s) (committed-in q m) e)
+
+  pub others-apart : (p l q m : ℕ) → p < st .sizes .pages → q < st .sizes .pages → slotFor st p < st .sizes .slots → slotFor st q < st .sizes .slots → (p ≡ q → ⊥)
+      → otherFrame (slotIn (st .table) (slotFor st p)) l ≡ otherFrame (slotIn (st .table) (slotFor st q)) m → ⊥
+  others-apart p l q m h k s u n e = n (same-owner p q _ _ h k (other-in p l s) (other-in q m u) e)
+
+  -- the two copies of one line, of one page or of two
+  pub copy-apart : (p l q : ℕ) → p < st .sizes .pages → q < st .sizes .pages → slotFor st p < st .sizes .slots
+      → otherFrame (slotIn (st .table) (slotFor st p)) l ≡ frameOf (word img) (st .sizes) (st .table) q l → ⊥
+  copy-apart p l q h k s e =
+      let w : p ≡ q = same-owner p q _ _ h k (other-in p l s) (committed-in q l) e in
+      copies-apart (word img) (st .sizes) (st .table) (legal-sizes st valid) names-once p l h s
+      (subst (λ (x : ℕ). otherFrame (slotIn (st .table) (slotFor st p)) l ≡ frameOf (word img) (st .sizes) (st .table) x l) (sym w) e)
+
+  -- a free slot's spare
+  pub free-apart : (s q m : ℕ) → s < st .sizes .slots → slotIn (st .table) s .page ≡ noPage → q < st .sizes .pages
+      → slotIn (st .table) s .spare ≡ frameOf (word img) (st .sizes) (st .table) q m → ⊥
+  free-apart s q m l f k e = free-unowned s q _ l k f (committed-in q m) e
+
+  pub free-other-apart : (s q m : ℕ) → s < st .sizes .slots → slotIn (st .table) s .page ≡ noPage → q < st .sizes .pages → slotFor st q < st .sizes .slots
+      → slotIn (st .table) s .spare ≡ otherFrame (slotIn (st .table) (slotFor st q)) m → ⊥
+  free-other-apart s q m l f k u e = free-unowned s q _ l k f (other-in q m u) e
+
+-- ---- a store leaves the lines alone that it does not lie in
+
+module _ (img : List ℕ) (z : Sizes) (a v : ℕ) (bytes : Bytes img) (whole : imageLength z ≤ length img) (fits : 8 * a + 8 ≤ length img) where
+  pub line-kept : (g m : ℕ) → g < frames z → m < 64 → ((k : ℕ) → k < 8 → a ≡ lineWord z g m + k → ⊥) → lineBytes (store img a v) z g m ≡ lineBytes img z g m
+  line-kept g m h l n =
+      line-ext (store img a v) img z g m g m (bytes-store img a v bytes) bytes h l h l (omega (arith, length-store img a v fits)) whole
+      (λ k p. word-store-other img a v (lineWord z g m + k) fits (n k p))
+
+  -- a store before the frames
+  pub line-kept-before : (g m : ℕ) → g < frames z → m < 64 → a < frameWord z → lineBytes (store img a v) z g m ≡ lineBytes img z g m
+  line-kept-before g m h l n = line-kept g m h l (λ k p e. omega arith)
+
+-- a store to word k of line l of frame f
+pub line-kept-other : (img : List ℕ) (z : Sizes) (f l k v : ℕ) → Bytes img → imageLength z ≤ length img → f < frames z → l < 64 → k < 8
+    → (g m : ℕ) → g < frames z → m < 64 → (f ≡ g → l ≡ m → ⊥) → lineBytes (store img (lineWord z f l + k) v) z g m ≡ lineBytes img z g m
+line-kept-other img z f l k v bytes whole f-low l-low k-low g m h n apart =
+    line-kept img z (lineWord z f l + k) v bytes whole (omega arith) g m h n
+    (λ j p e. let w = line-apart z f l k g m j l-low n k-low p e in apart (w .0) (w .1))

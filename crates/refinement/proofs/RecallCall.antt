@@ -1,0 +1,83 @@
+-- A recall mounts and copies a committed line: it is refused for its arguments alone, and changes nothing.
+use Prim.Native.Nat.{ℕ}
+use mathlib.Core.Bool.{Bool, true, false, _||_, cond}
+use mathlib.Core.List.{List, [], _∷_, _++_}
+use mathlib.Core.Logic.{_⊎_, inl, inr}
+use mathlib.Core.Path.{_≡_, refl, sym, ap, _∙_, subst}
+use native.Mathlib.Omega.{arith}
+use lib.Dec.{ltb, leb, eqb}
+use lib.ListN.{length}
+use borrow.Author.Tests.{ltb-false, leb-false, eqb-true}
+use Rattle.bounded.specs.Rows.{Row, refusal, Past}
+use Rattle.bounded.proofs.Rows.{none-apply}
+use Rattle.bounded.proofs.Tests.{caseOn, or-left, or-right}
+use Rattle.words.specs.Words.{word, over}
+use Rattle.journal.specs.declared.Mounted.{Mounted}
+use Rattle.journal.specs.Mount.{mountOf, mountRead, mountRows, sizesFrom}
+use Rattle.journal.proofs.Verdict.{taken-mount}
+use Rattle.journal.proofs.View.{View, viewOf}
+use Rattle.state.specs.declared.State.{State}
+use Rattle.state.specs.Validity.{stateOk}
+use Rattle.stores.specs.Stores.{World}
+use Rattle.transactions.specs.Recall.{recallRow, recallBytes}
+use Rattle.transactions.specs.Run.{recall, exec}
+use Rattle.refinement.specs.Reference.{Reference, recallLine}
+use Rattle.refinement.proofs.Invariant.{Durable, Related}
+use Rattle.refinement.proofs.Mounted.{Committed}
+use Rattle.refinement.proofs.MountCall.{mounted-committed}
+use Rattle.refinement.proofs.ReadCall.{turn-kept}
+use Rattle.refinement.proofs.Sound.{Sound, related-valid, related-durable}
+
+-- rows of which none applies, before others
+refusal-past : (rs ss : List Row) → Past rs (length rs) → refusal (rs ++ ss) ≡ refusal ss
+refusal-past [] ss p = refl
+refusal-past (r ∷ rs) ss p = rw (p .0) (refusal-past rs ss (p .1))
+
+-- no row of a taken mount applies
+no-row : (img : List ℕ) → mountOf img .row ≡ 0 → refusal (mountRows (length img) (word img)) ≡ 0
+unfolding mountOf mountRead
+no-row img e =
+    let row : ℕ = refusal (mountRows (length img) (word img)) in
+    caseOn (eqb row 0) (λ t. eqb-true row 0 t) (λ t. rw t at e)
+
+abbrev argsBad : List ℕ → ℕ → ℕ → List ℕ → Bool
+argsBad img p l target = leb (sizesFrom (word img) .pages) p || ltb 63 l || ltb (length target) 64
+
+module _ {past : List ℕ} (st : State) (img : List ℕ) (b : Reference) (valid : stateOk st ≡ true) (D : Durable past st img b) (p l : ℕ) (target : List ℕ) where
+  row-is : recallRow img p l target ≡ cond (argsBad img p l target) 11 0
+  unfolding recallRow
+  row-is =
+      refusal-past (mountRows (length img) (word img)) ((argsBad img p l target, 11) ∷ [])
+      (none-apply (mountRows (length img) (word img)) (omega arith) (no-row img (ap (λ (m : Mounted). m .row) (taken-mount img (D .view) (D .shows) (D .mounts)))))
+
+  recall-answer : (recallRow img p l target ≡ 0) ⊎ (recallRow img p l target ≡ 11)
+  recall-answer =
+      caseOn (argsBad img p l target)
+      (λ t. inr (row-is ∙ ap (λ (x : Bool). cond x 11 0) t))
+      (λ t. inl (row-is ∙ ap (λ (x : Bool). cond x 11 0) t))
+
+  args-good : recallRow img p l target ≡ 0 → argsBad img p l target ≡ false
+  args-good e =
+      caseOn (argsBad img p l target)
+      (λ t. let q : _≡_ {A = ℕ} 11 0 = sym (row-is ∙ ap (λ (x : Bool). cond x 11 0) t) ∙ e in absurd (omega arith))
+      (λ t. t)
+
+  recall-right : recallRow img p l target ≡ 0 → recallBytes img p l target ≡ over target 0 (recallLine b p l)
+  unfolding recallBytes
+  recall-right e =
+      let c : Committed img (viewOf (word img)) b = subst (λ (v : View). Committed img v b) (sym (D .shows)) (mounted-committed st img b valid D) in
+      let low : Bool = leb (sizesFrom (word img) .pages) p in
+      let a = or-left (low || ltb 63 l) (ltb (length target) 64) (args-good e) in
+      rw e
+      (ap (over target 0) (c p l (leb-false (sizesFrom (word img) .pages) p (or-left low (ltb 63 l) a)) (omega (arith, ltb-false 63 l (or-right low (ltb 63 l) a)))))
+
+pub recall-sound : {past : List ℕ} (p l : ℕ) (target : List ℕ) (v : World) (b : Reference) → Related past v b → Sound past (recall p l target) v b
+unfolding exec
+recall-sound {past = past} p l target v b h =
+    let ok = related-valid (v .st) (v .image) b h in
+    let D = related-durable (v .st) (v .image) b h in
+    record {
+      right = (recall-answer (v .st) (v .image) b ok D p l target, recall-right (v .st) (v .image) b ok D p l target);
+      sizes = refl;
+      related = subst (Related past v) (sym (turn-kept (recall p l target) (recallRow (v .image) p l target) 0 b refl)) h;
+    }

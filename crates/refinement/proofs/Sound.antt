@@ -1,0 +1,84 @@
+-- What every call's proof has to show, and that a refused call keeps what holds.
+use Prim.Native.Nat.{ℕ, zero, suc}
+use mathlib.Core.Bool.{true, false, cond, not}
+use mathlib.Core.List.{List}
+use mathlib.Core.Logic.{inl, inr}
+use mathlib.Core.Path.{_≡_, refl, ap}
+use lib.Dec.{eqb, eqb·suc-zero}
+use Rattle.bounded.proofs.Tests.{contradicts}
+use Rattle.state.specs.declared.State.{State}
+use Rattle.state.specs.declared.Op.{Op}
+use Rattle.state.specs.declared.Op.the-variants.{Idle, Write, Commit, Consolidate, Checkpoint}
+use Rattle.state.specs.declared.Pending.{Pending}
+use Rattle.state.specs.Operations.{isIdle}
+use Rattle.state.specs.Validity.{stateOk}
+use Rattle.stores.specs.Stores.{World}
+use Rattle.transactions.specs.Answers.{answered}
+use Rattle.transactions.specs.Calls.{worldOf}
+use Rattle.transactions.specs.Run.{Call, exec}
+use Rattle.refinement.specs.Reference.{Reference, taken, turn}
+use Rattle.refinement.specs.Statement.{Right}
+use Rattle.refinement.proofs.Invariant.{Durable, Quiet, Busy, Doing, Related}
+
+-- the answer is right, the sizes stay, and what holds between two calls holds again
+pub record Sound (past : List ℕ) (c : Call) (v : World) (b : Reference) : Type 0 where
+  pub right : Right c (exec c v) b
+  pub sizes : exec c v .world .st .sizes ≡ v .st .sizes
+  pub related : Related past (exec c v .world) (turn c (exec c v .number) (exec c v .stores) b)
+
+-- ---- what is answered, by its row
+
+-- a world after a call, with its sizes
+pub record After (past : List ℕ) (v u : World) (b : Reference) : Type 0 where
+  pub sizes : u .st .sizes ≡ v .st .sizes
+  pub related : Related past u b
+
+pub unchanged : {past : List ℕ} (v : World) (b : Reference) → Related past v b → After past v v b
+unchanged v b h = record { sizes = refl; related = h }
+
+-- with row 0 the taken call's, with any other none
+pub answered-after : {past : List ℕ} (c : Call) (v : World) (b : Reference) (row n : ℕ) (after : State) (img : List ℕ)
+    → Related past v b → (row ≡ 0 → After past v (worldOf after img) (taken c n b))
+    → After past v (worldOf (answered row (v .st) n after .state) (cond (eqb row 0) img (v .image))) (turn c row (answered row (v .st) n after .stores) b)
+answered-after c v b zero n after img h f = f refl
+answered-after c v b (suc k) n after img h f = rw (eqb·suc-zero k) (unchanged v b h)
+
+-- of a call that leaves the image alone
+pub answered-kept : {past : List ℕ} (c : Call) (v : World) (b : Reference) (row n : ℕ) (after : State)
+    → Related past v b → (row ≡ 0 → After past v (worldOf after (v .image)) (taken c n b))
+    → After past v (worldOf (answered row (v .st) n after .state) (v .image)) (turn c row (answered row (v .st) n after .stores) b)
+answered-kept c v b zero n after h f = f refl
+answered-kept c v b (suc k) n after h f = rw (eqb·suc-zero k) (unchanged v b h)
+
+-- ---- quiet or busy, by whether an operation is pending
+
+doing-pending : (st : State) (img : List ℕ) (b : Reference) (op : Op) → Doing st img b op → isIdle op ≡ false
+doing-pending st img b Idle d = absurd d
+doing-pending st img b (Write w p l o n) d = refl
+doing-pending st img b (Commit w) d = refl
+doing-pending st img b (Consolidate p) d = refl
+doing-pending st img b Checkpoint d = refl
+
+module _ {past : List ℕ} (st : State) (img : List ℕ) (b : Reference) where
+  pub quiet-idle : Quiet past st img b → isIdle (st .pending .op) ≡ true
+  quiet-idle q = ap (λ (p : Pending). isIdle (p .op)) (q .pending)
+
+  pub busy-pending : Busy past st img b → isIdle (st .pending .op) ≡ false
+  busy-pending q = doing-pending st img b (st .pending .op) (q .doing)
+
+  pub is-quiet : Related past (worldOf st img) b → not (isIdle (st .pending .op)) ≡ false → Quiet past st img b
+  is-quiet (inl q) e = q
+  is-quiet (inr q) e = contradicts (ap not (busy-pending q)) e
+
+  pub is-busy : Related past (worldOf st img) b → isIdle (st .pending .op) ≡ false → Busy past st img b
+  is-busy (inl q) e = contradicts (quiet-idle q) e
+  is-busy (inr q) e = q
+
+  -- both
+  pub related-valid : Related past (worldOf st img) b → stateOk st ≡ true
+  related-valid (inl q) = q .valid
+  related-valid (inr q) = q .valid
+
+  pub related-durable : Related past (worldOf st img) b → Durable past st img b
+  related-durable (inl q) = q .durable
+  related-durable (inr q) = q .durable

@@ -1,0 +1,154 @@
+-- Step and run: one step makes a store of whatever operation is pending; a run is steps, the smaller of k and those left.
+use Prim.Native.Nat.{ℕ, zero, suc, _+_, _-_, _<_, _≤_, min}
+use mathlib.Core.Bool.{Bool, true, false}
+use mathlib.Core.List.{List}
+use mathlib.Core.Logic.{inr, ⊎-elim}
+use mathlib.Core.Path.{_≡_, refl, sym, ap, _∙_, subst}
+use native.Mathlib.Omega.{arith}
+use lib.Dec.{eqb}
+use Rattle.bounded.specs.Below.{upTo}
+use Rattle.bounded.proofs.Rows.{none-apply}
+use Rattle.bounded.proofs.Tests.{caseOn, contradicts}
+use Rattle.state.specs.declared.State.{State}
+use Rattle.state.specs.declared.Op.{Op}
+use Rattle.state.specs.declared.Op.the-variants.{Idle, Write, Commit, Consolidate, Checkpoint}
+use Rattle.state.specs.Operations.{needs}
+use Rattle.stores.specs.Stores.{World, completed, stepped, steppedBy, left}
+use Rattle.transactions.specs.Calls.{stepRows, stepRow, stepOf, stepBytes, runOf, runBytes, worldOf}
+use Rattle.transactions.specs.Run.{step, run, exec}
+use Rattle.refinement.specs.Reference.{Reference, Task, Work, idle, under, writing, committing, nothing, withWork, continues, advances}
+use Rattle.refinement.proofs.Invariant.{Doing, Busy, Related}
+use Rattle.refinement.proofs.Sound.{Sound, answered-after, is-busy, busy-pending}
+use Rattle.refinement.proofs.StepCheckpoint.{step-checkpoint}
+use Rattle.refinement.proofs.StepConsolidate.{step-consolidate}
+use Rattle.refinement.proofs.StepWrite.{step-write}
+use Rattle.refinement.proofs.Underway.{underway}
+
+-- ---- one store of the pending operation
+
+-- the step lemma of one operation
+abbrev pub Steps : Op → Type 0
+Steps op = (past : List ℕ) (st : State) (img : List ℕ) (b : Reference) → Busy past st img b → st .pending .op ≡ op → Related past (stepped (worldOf st img)) (advances 1 (b .work) b)
+
+module _ (step-commit : (w : ℕ) → Steps (Commit w)) where
+  steps : (op : Op) → Steps op
+  steps Idle past st img b B e = absurd (subst (Doing st img b) e (B .doing))
+  steps (Write w p l o n) past st img b B e = step-write past st img b B w p l o n e
+  steps (Commit w) past st img b B e = step-commit w past st img b B e
+  steps (Consolidate p) past st img b B e = step-consolidate past st img b B p e
+  steps Checkpoint past st img b B e = step-checkpoint past st img b B e
+
+  one-store : (past : List ℕ) (st : State) (img : List ℕ) (b : Reference) → Busy past st img b → Related past (stepped (worldOf st img)) (advances 1 (b .work) b)
+  one-store past st img b B = steps (st .pending .op) past st img b B refl
+
+-- it keeps the sizes
+completed-sizes : (st : State) (op : Op) → completed st op .sizes ≡ st .sizes
+completed-sizes st Idle = refl
+completed-sizes st (Write w p l o n) = refl
+completed-sizes st (Commit w) = refl
+completed-sizes st (Consolidate p) = refl
+completed-sizes st Checkpoint = refl
+
+stepped-sizes : (v : World) → stepped v .st .sizes ≡ v .st .sizes
+unfolding stepped
+stepped-sizes v =
+    let op : Op = v .st .pending .op in
+    let m : ℕ = v .st .pending .made in
+    caseOn (eqb (m + 1) (needs (v .st) op)) (λ t. rw t (completed-sizes (v .st) op)) (λ t. rw t)
+
+steppedBy-sizes : (n : ℕ) (v : World) → steppedBy n v .st .sizes ≡ v .st .sizes
+unfolding steppedBy upTo
+steppedBy-sizes zero v = refl
+steppedBy-sizes (suc n) v = stepped-sizes (steppedBy n v) ∙ steppedBy-sizes n v
+
+-- ---- what the reference machine has under way has the same stores left
+
+doing-work : (st : State) (img : List ℕ) (b : Reference) (op : Op) → Doing st img b op → (t : Task) × (b .work ≡ under t (needs st op - st .pending .made))
+doing-work st img b Idle d = absurd d
+doing-work st img b (Write w p l o n) d = (writing w p l o n (d .0), d .3)
+doing-work st img b (Commit w) d = (committing w, d)
+doing-work st img b (Consolidate p) d = (nothing, d)
+doing-work st img b Checkpoint d = (nothing, d)
+
+no-work : Work → Bool
+no-work idle = true
+no-work (under t k) = false
+
+idle-apart : (t : Task) (k : ℕ) (w : Work) → w ≡ under t k → w ≡ idle → ⊥
+unfolding no-work
+idle-apart t k w e i = contradicts (ap no-work i) (ap no-work e)
+
+-- ---- n stores
+
+-- the reference machine with m stores left, told from any work
+continues-work : (t : Task) (m : ℕ) (k : Work) (b : Reference) → continues t m (withWork k b) ≡ continues t m b
+continues-work t zero k b = refl
+continues-work t (suc m) k b = refl
+
+-- while some are left it has them under way
+continues-on : (t : Task) (m : ℕ) (b : Reference) → 0 < m → continues t m b ≡ withWork (under t m) b
+continues-on t zero b l = absurd (omega arith)
+continues-on t (suc m) b l = refl
+
+work-same : (b : Reference) (k : Work) → b .work ≡ k → withWork k b ≡ b
+work-same b k e = λ i. record { pages = b .pages; writes = b .writes; work = sym e i }
+
+one-advance : (t : Task) (m : ℕ) (b : Reference) → 0 < m → advances 1 (under t m) (withWork (under t m) b) ≡ continues t (m - 1) b
+one-advance t m b l =
+    let e : m - min 1 m ≡ m - 1 = omega arith in
+    ap (λ (k : ℕ). continues t k (withWork (under t m) b)) e ∙ continues-work t (m - 1) (under t m) b
+
+module _ (step-commit : (w : ℕ) → Steps (Commit w)) (past : List ℕ) (b : Reference) (t : Task) (m : ℕ) (v : World) (some : 0 < m) (work : b .work ≡ under t m) (h : Related past v b) where
+  -- after n of the m stores that are left
+  many : (n : ℕ) → n ≤ m → Related past (steppedBy n v) (continues t (m - n) b)
+  unfolding steppedBy upTo
+  many zero l =
+      let e : m - 0 ≡ m = omega arith in
+      subst (Related past v) (sym (ap (λ (k : ℕ). continues t k b) e ∙ continues-on t m b some ∙ work-same b (under t m) work)) h
+  many (suc n) l =
+      let u : World = steppedBy n v in
+      let left : 0 < m - n = omega arith in
+      let e : m - n - 1 ≡ m - suc n = omega arith in
+      let now : Reference = withWork (under t (m - n)) b in
+      let r : Related past u now = subst (Related past u) (continues-on t (m - n) b left) (many n (omega arith)) in
+      let B : Busy past (u .st) (u .image) now = ⊎-elim (λ q. absurd (idle-apart t (m - n) (now .work) refl (q .work))) (λ q. q) r in
+      subst (Related past (stepped u)) (one-advance t (m - n) b left ∙ ap (λ (k : ℕ). continues t k b) e) (one-store step-commit past (u .st) (u .image) now B)
+
+-- ---- the calls
+
+module _ (step-commit : (w : ℕ) → Steps (Commit w)) where
+  pub step-sound : {past : List ℕ} (v : World) (b : Reference) → Related past v b → Sound past step v b
+  unfolding exec stepOf stepBytes
+  step-sound {past = past} v b h =
+      let st = v .st in
+      let img = v .image in
+      let a =
+      answered-after step v b (stepRow st img) 1 (stepped (worldOf st img) .st) (stepped (worldOf st img) .image) h
+      (λ e.
+      let rows = none-apply (stepRows st img) (omega arith) e in
+      record { sizes = stepped-sizes (worldOf st img); related = one-store step-commit past st img b (is-busy st img b h (rows .1 .1 .0)) }) in
+      record { right = tt; sizes = a .sizes; related = a .related }
+
+  run-related : {past : List ℕ} (k : ℕ) (v : World) (b : Reference) → Busy past (v .st) (v .image) b → Related past (steppedBy (min k (left (v .st))) v) (advances k (b .work) b)
+  run-related {past = past} k v b B =
+      let st = v .st in
+      let x = doing-work st (v .image) b (st .pending .op) (B .doing) in
+      let t : Task = x .0 in
+      let m : ℕ = left st in
+      let work : b .work ≡ under t m = x .1 in
+      let low = underway st (B .valid) (busy-pending st (v .image) b B) .some-left in
+      let r : Related past (steppedBy (min k m) v) (continues t (m - min k m) b) = many step-commit past b t m v (omega (arith, low)) work (inr B) (min k m) (omega arith) in
+      subst (λ (w : Work). Related past (steppedBy (min k m) v) (advances k w b)) (sym work) r
+
+  pub run-sound : {past : List ℕ} (k : ℕ) (v : World) (b : Reference) → Related past v b → Sound past (run k) v b
+  unfolding exec runOf runBytes
+  run-sound {past = past} k v b h =
+      let st = v .st in
+      let img = v .image in
+      let n : ℕ = min k (left st) in
+      let a =
+      answered-after (run k) v b (stepRow st img) n (steppedBy n (worldOf st img) .st) (steppedBy n (worldOf st img) .image) h
+      (λ e.
+      let rows = none-apply (stepRows st img) (omega arith) e in
+      record { sizes = steppedBy-sizes n (worldOf st img); related = run-related k v b (is-busy st img b h (rows .1 .1 .0)) }) in
+      record { right = tt; sizes = a .sizes; related = a .related }

@@ -1,0 +1,346 @@
+-- What a store of a pending operation keeps where it is not the last: the store goes to a dead word that no copy of a line has, or
+-- stores the value that is there; so the image shows what it showed, and the stores made so far are one more.
+use Prim.Native.Nat.{ℕ, suc, _+_, _-_, _*_, _^_, _<_, _≤_, min}
+use mathlib.Core.Bool.{true, false}
+use mathlib.Core.List.{List}
+use mathlib.Core.Logic.{_⊎_, ⊎-elim, inl, inr}
+use mathlib.Core.Path.{_≡_, refl, sym, ap, _∙_, subst}
+use native.Mathlib.Omega.{arith}
+use lib.Dec.{ltb}
+use lib.ListN.{length}
+use borrow.Author.Tests.{ltb-true, ltb-false, lt-ltb, eq-eqb, ne-eqb}
+use Rattle.bounded.proofs.Below.{split-below}
+use Rattle.bounded.proofs.Tests.{caseOn}
+use Rattle.layout.specs.declared.Sizes.{Sizes}
+use Rattle.layout.specs.Layout.{Legal, imageLength, frameWord, pageWord, lineWord}
+use Rattle.image.specs.Lines.{lineBytes}
+use Rattle.words.specs.Words.{bytesOf, putWord, word, store}
+use Rattle.words.proofs.Bytes.{length-bytes}
+use Rattle.words.proofs.Parts.{part-over-other}
+use Rattle.words.proofs.WordLaws.{word-store, word-store-other, length-store, bytes-store, drop-store}
+use Rattle.journal.specs.declared.Table.{Table}
+use Rattle.journal.specs.Slots.{noPage}
+use Rattle.journal.specs.Table.{slotIn, slotOf}
+use Rattle.journal.proofs.View.{Read, page, slot-none}
+use Rattle.journal.proofs.Verdict.{Taken}
+use Rattle.journal.proofs.Dead.{Dead, dead-view, store-old}
+use Rattle.state.specs.declared.State.{State}
+use Rattle.state.specs.declared.Op.{Op}
+use Rattle.state.specs.declared.Op.the-variants.{Idle, Write, Commit, Consolidate, Checkpoint}
+use Rattle.state.specs.Operations.{slotFor, needs, isIdle, opRows}
+use Rattle.state.specs.Validity.{stateOk, pendingOk}
+use Rattle.stores.specs.Frames.{otherFrame}
+use Rattle.stores.specs.Write.{writeSlot}
+use Rattle.stores.specs.Commit.{commitAt, commitValue, commitRecord}
+use Rattle.stores.specs.Consolidate.{consolidateAt, consolidateValue, freeingRecord}
+use Rattle.stores.specs.Checkpoint.{checkpointAt, checkpointValue}
+use Rattle.stores.specs.Stores.{World, stepped, withMade, completed, storeAt, storeValue, storeMade}
+use Rattle.transactions.specs.Recall.{frameOf}
+use Rattle.refinement.specs.Reference.{Reference, Task, idle, under, withWork, does, continues, advances}
+use Rattle.refinement.proofs.Invariant.{TakenOnly, Behind, Durable, holds, Writing, Doing, Changing, Busy, Related}
+use Rattle.refinement.proofs.PageSlots.{slotted-of, unslotted-of}
+use Rattle.refinement.proofs.Valid.{valid-parts, valid-made}
+use Rattle.refinement.proofs.Underway.{underway}
+
+-- ---- one store of a word
+
+-- a line that does not have the stored word
+pub line-kept : (img : List ℕ) (a w : ℕ) (z : Sizes) (f l : ℕ) → 8 * a + 8 ≤ length img → ((k : ℕ) → k < 8 → lineWord z f l + k ≡ a → ⊥)
+    → lineBytes (store img a w) z f l ≡ lineBytes img z f l
+unfolding putWord
+line-kept img a w z f l fits apart =
+    let b : ℕ = lineWord z f l in
+    let e : length (bytesOf 8 w) ≡ 8 = length-bytes 8 w in
+    let h : 8 * a + length (bytesOf 8 w) ≤ length img = omega arith in
+    let sides : (8 * a + length (bytesOf 8 w) ≤ 8 * b) ⊎ (8 * b + 64 ≤ 8 * a) =
+    caseOn (ltb a b)
+    (λ t. let m : a < b = ltb-true a b t in inl (omega arith))
+    (λ t.
+    let m : b ≤ a = ltb-false a b t in
+    caseOn (ltb a (b + 8))
+    (λ u. let n : a < b + 8 = ltb-true a (b + 8) u in absurd (apart (a - b) (omega arith) (omega arith)))
+    (λ u. let n : b + 8 ≤ a = ltb-false a (b + 8) u in inr (omega arith))) in
+    part-over-other img (8 * a) (bytesOf 8 w) h (8 * b) 64 sides
+
+-- ---- the words that the state's slots lean on
+
+-- a page without a slot in the state has none in the image
+pub unslotted-durable : (r : ℕ → ℕ) (z : Sizes) (d t : Table) → Legal z → Behind r z d t → (p : ℕ) → p < z .pages → slotOf z t p ≡ z .slots → slotOf z d p ≡ z .slots
+unslotted-durable r z d t g h p low none =
+    unslotted-of z d p (λ s l e.
+    ⊎-elim
+    (λ q. let m : slotOf z t p < z .slots = slotted-of z t p s l (ap (λ u. u .page) q ∙ e) in omega arith)
+    (λ (q : TakenOnly r z d t s). let m : slotIn d s .page ≡ noPage = ap (λ u. u .page) (q .was-free) in omega (arith, g .pages-high))
+    (h .slot-same s l))
+
+-- the frames of committed lines and the slots that were only taken, by the page words of pages without a slot alone
+module _ (r r′ : ℕ → ℕ) (z : Sizes) (d t : Table) (g : Legal z) (h : Behind r z d t)
+    (same : (p : ℕ) → p < z .pages → slotOf z d p ≡ z .slots → r′ (pageWord p) ≡ r (pageWord p)) where
+  pub behind-ext : Behind r′ z d t
+  behind-ext =
+      record {
+        sixteen = h .sixteen;
+        last-same = h .last-same;
+        slot-same =
+            λ s l.
+            ⊎-elim inl
+            (λ (q : TakenOnly r z d t s).
+            inr (record { page-low = q .page-low; original = q .original ∙ sym (same (slotIn t s .page) (q .page-low) (q .unslotted)); bitmap = q .bitmap; was-free = q .was-free; unslotted = q .unslotted }))
+            (h .slot-same s l);
+      }
+
+  pub frame-ext : (p l : ℕ) → p < z .pages → frameOf r′ z t p l ≡ frameOf r z t p l
+  frame-ext p l low =
+      caseOn (ltb (slotOf z t p) (z .slots))
+      (λ e. rw e)
+      (λ e. rw e (same p low (unslotted-durable r z d t g h p low (slot-none z t p e))))
+
+-- ---- the image after a store to a dead word
+
+module _ (past : List ℕ) (st : State) (img : List ℕ) (b : Reference) (D : Durable past st img b) where
+  pub durable-legal : Legal (st .sizes)
+  durable-legal = subst Legal (D .sizes-same) (D .mounts .legal)
+
+  pub durable-fits : imageLength (st .sizes) ≤ length img
+  durable-fits = subst (λ (z : Sizes). imageLength z ≤ length img) (D .sizes-same) (D .mounts .fits)
+
+  -- mount reads the page word of a page without a slot
+  pub page-read : (p : ℕ) → p < st .sizes .pages → slotOf (st .sizes) (D .view .table) p ≡ st .sizes .slots → Read (D .view) (pageWord p)
+  page-read p low none = page p (rw (D .sizes-same) low) (rw (D .sizes-same) none) refl
+
+  -- word a is no word of a committed line
+  abbrev pub Uncommitted : ℕ → Type 0
+  Uncommitted a = (p l k : ℕ) → p < st .sizes .pages → l < 64 → k < 8 → lineWord (st .sizes) (frameOf (word img) (st .sizes) (st .table) p l) l + k ≡ a → ⊥
+
+  module _ (a w : ℕ) (inside : 8 * a + 8 ≤ imageLength (st .sizes)) where
+    pub store-fits : 8 * a + 8 ≤ length img
+    store-fits = omega (arith, durable-fits)
+
+    -- page words of pages without a slot, committed frames and committed lines, where mount does not read a
+    pub page-kept : Dead (D .view) a → (p : ℕ) → p < st .sizes .pages → slotOf (st .sizes) (D .view .table) p ≡ st .sizes .slots
+        → word (store img a w) (pageWord p) ≡ word img (pageWord p)
+    page-kept dead p low none =
+        word-store-other img a w (pageWord p) store-fits (λ e. dead (subst (Read (D .view)) (sym e) (page-read p low none)))
+
+    pub durable-kept : Dead (D .view) a → Uncommitted a → Durable past st (store img a w) b
+    durable-kept dead free =
+        let z : Sizes = st .sizes in
+        let same = page-kept dead in
+        record {
+          bytes = bytes-store img a w (D .bytes);
+          past-kept = drop-store img a w (imageLength z) store-fits inside ∙ D .past-kept;
+          view = D .view;
+          shows = dead-view img (D .view) (D .shows) a w store-fits dead;
+          mounts = subst (λ (n : ℕ). Taken n (D .view)) (sym (length-store img a w store-fits)) (D .mounts);
+          sizes-same = D .sizes-same;
+          head-same = D .head-same;
+          tail-same = D .tail-same;
+          behind = behind-ext (word img) (word (store img a w)) z (D .view .table) (st .table) durable-legal (D .behind) same;
+          committed =
+              λ p l low line.
+              ap (λ (f : ℕ). lineBytes (store img a w) z f l)
+              (frame-ext (word img) (word (store img a w)) z (D .view .table) (st .table) durable-legal (D .behind) same p l low)
+              ∙ line-kept img a w z (frameOf (word img) z (st .table) p l) l store-fits (λ k m. free p l k low line m)
+              ∙ D .committed p l low line;
+        }
+
+    -- of the value that is there
+    pub store-none : w ≡ word img a → store img a w ≡ img
+    store-none e = store-old img a w (D .bytes) store-fits e
+
+-- what does not say how many stores are made
+pub durable-made : (past : List ℕ) (st : State) (img : List ℕ) (b : Reference) (n : ℕ) (k : _) → Durable past st img b → Durable past (withMade st n) img (withWork k b)
+durable-made past st img b n k D =
+    record { bytes = D .bytes; past-kept = D .past-kept; view = D .view; shows = D .shows; mounts = D .mounts; sizes-same = D .sizes-same; head-same = D .head-same; tail-same = D .tail-same; behind = D .behind; committed = D .committed }
+
+-- ---- the writers' copies
+
+module _ (st : State) (img : List ℕ) (b : Reference) (Being : ℕ → ℕ → ℕ → Type 0) where
+  -- word a is no word of a writer's own copy
+  abbrev pub Unowned : ℕ → Type 0
+  Unowned a =
+      (v p l k : ℕ) → v < 4 → p < st .sizes .pages → l < 64 → k < 8 → (Being v p l → ⊥) → holds st v p l ≡ true
+      → lineWord (st .sizes) (otherFrame (slotIn (st .table) (slotFor st p)) l) l + k ≡ a → ⊥
+
+  pub writing-kept : (a w : ℕ) → 8 * a + 8 ≤ length img → Unowned a → Writing st img b Being → Writing st (store img a w) b Being
+  writing-kept a w fits free W =
+      record {
+        four = W .four;
+        sixty-four = W .sixty-four;
+        held-low = W .held-low;
+        own-copy =
+            λ v p l lv lp ll out h.
+            line-kept img a w (st .sizes) (otherFrame (slotIn (st .table) (slotFor st p)) l) l fits (λ k m. free v p l k lv lp ll m out h)
+            ∙ W .own-copy v p l lv lp ll out h;
+        no-writes = W .no-writes;
+      }
+
+  pub writing-made : (n : ℕ) (k : _) → Writing st img b Being → Writing (withMade st n) img (withWork k b) Being
+  writing-made n k W = record { four = W .four; sixty-four = W .sixty-four; held-low = W .held-low; own-copy = W .own-copy; no-writes = W .no-writes }
+
+-- ---- the state with one store more made
+
+module _ (st : State) (n : ℕ) where
+  pub at-made : (op : Op) (j : ℕ) → storeAt (withMade st n) op j ≡ storeAt st op j
+  unfolding writeSlot commitAt consolidateAt checkpointAt
+  at-made Idle j = refl
+  at-made (Write w p l o k) j = refl
+  at-made (Commit w) j = refl
+  at-made (Consolidate p) j = refl
+  at-made Checkpoint j = refl
+
+  pub value-made : (img : List ℕ) (op : Op) (j : ℕ) → storeValue (withMade st n) img op j ≡ storeValue st img op j
+  unfolding commitValue commitRecord consolidateValue freeingRecord checkpointValue
+  value-made img Idle j = refl
+  value-made img (Write w p l o k) j = refl
+  value-made img (Commit w) j = refl
+  value-made img (Consolidate p) j = refl
+  value-made img Checkpoint j = refl
+
+  pub needs-made : (op : Op) → needs (withMade st n) op ≡ needs st op
+  unfolding needs
+  needs-made Idle = refl
+  needs-made (Write w p l o k) = refl
+  needs-made (Commit w) = refl
+  needs-made (Consolidate p) = refl
+  needs-made Checkpoint = refl
+
+  rows-made : (op : Op) (f : ℕ) → opRows (withMade st n) op f ≡ opRows st op f
+  rows-made Idle f = refl
+  rows-made (Write w p l o k) f = refl
+  rows-made (Commit w) f = refl
+  rows-made (Consolidate p) f = refl
+  rows-made Checkpoint f = refl
+
+  -- it is valid while a store is left
+  pub made-valid : stateOk st ≡ true → isIdle (st .pending .op) ≡ false → n < needs st (st .pending .op) → stateOk (withMade st n) ≡ true
+  unfolding pendingOk
+  made-valid e i l =
+      let v = valid-parts st e in
+      let u = underway st e i in
+      valid-made (withMade st n)
+      (record {
+        slots = v .slots;
+        held = v .held;
+        next-low = v .next-low;
+        lasts = v .lasts;
+        pending = rw (i, needs-made (st .pending .op), lt-ltb n (needs st (st .pending .op)) l, rows-made (st .pending .op) (st .pending .frame), u .no-row);
+      })
+
+-- ---- a step
+
+module _ (st : State) (img : List ℕ) where
+  abbrev world : World
+  world = record { st = st; image = img }
+
+  pub step-on : st .pending .made + 1 < needs st (st .pending .op)
+      → stepped world ≡ record { st = withMade st (st .pending .made + 1); image = storeMade st img (st .pending .op) (st .pending .made) }
+  unfolding stepped
+  step-on l = rw (ne-eqb (st .pending .made + 1) (needs st (st .pending .op)) (λ e. omega arith))
+
+  pub step-ends : st .pending .made + 1 ≡ needs st (st .pending .op)
+      → stepped world ≡ record { st = completed st (st .pending .op); image = storeMade st img (st .pending .op) (st .pending .made) }
+  unfolding stepped
+  step-ends e = rw (eq-eqb (st .pending .made + 1) (needs st (st .pending .op)) e)
+
+-- the reference machine, with n stores needed and m made
+module _ (b : Reference) (t : Task) (n m : ℕ) (work : b .work ≡ under t (n - m)) where
+  pub advance-on : m + 1 < n → advances 1 (b .work) b ≡ withWork (under t (n - (m + 1))) b
+  advance-on l =
+      let e : n - m - min 1 (n - m) ≡ suc (n - m - 2) = omega arith in
+      let f : suc (n - m - 2) ≡ n - (m + 1) = omega arith in
+      ap (λ k. advances 1 k b) work ∙ ap (λ (k : ℕ). continues t k b) e ∙ ap (λ (k : ℕ). withWork (under t k) b) f
+
+  pub advance-ends : m + 1 ≡ n → advances 1 (b .work) b ≡ does t (withWork idle b)
+  advance-ends q =
+      let e : n - m - min 1 (n - m) ≡ 0 = omega arith in
+      ap (λ k. advances 1 k b) work ∙ ap (λ (k : ℕ). continues t k b) e
+
+-- ---- a store that is not the last
+
+-- store a of the pending operation op, of value w: it stores what is there; or mount does not read a, and no committed line and no
+-- writer's own copy has it
+pub record Aside (past : List ℕ) (st : State) (img : List ℕ) (b : Reference) (D : Durable past st img b) (op : Op) (a : ℕ) : Type 0 where
+  pub dead : Dead (D .view) a
+  pub uncommitted : Uncommitted past st img b D a
+  pub unowned : Unowned st img b (Changing op) a
+
+pub record Mid (past : List ℕ) (st : State) (img : List ℕ) (b : Reference) (D : Durable past st img b) (op : Op) (m : ℕ) : Type 0 where
+  pub inside : 8 * storeAt st op m + 8 ≤ imageLength (st .sizes)
+  pub low : storeValue st img op m < 2 ^ 64
+  pub apart : (j : ℕ) → j < m → storeAt st op m ≡ storeAt st op j → ⊥
+  pub stable : (j : ℕ) → j ≤ m → storeValue st (storeMade st img op m) op j ≡ storeValue st img op j
+  pub harmless : (storeValue st img op m ≡ word img (storeAt st op m)) ⊎ Aside past st img b D op (storeAt st op m)
+
+-- a word before the frames is no word of a line
+pub aside-before : (past : List ℕ) (st : State) (img : List ℕ) (b : Reference) (D : Durable past st img b) (op : Op) (a : ℕ) → a < frameWord (st .sizes) → Dead (D .view) a
+    → Aside past st img b D op a
+aside-before past st img b D op a early dead =
+    record { dead = dead; uncommitted = λ p l k lp ll lk e. omega arith; unowned = λ v p l k lv lp ll lk out h e. omega arith }
+
+module _ (past : List ℕ) (st : State) (img : List ℕ) (b : Reference) (D : Durable past st img b) (op : Op) (m : ℕ) (M : Mid past st img b D op m) where
+  abbrev a : ℕ
+  a = storeAt st op m
+
+  abbrev w : ℕ
+  w = storeValue st img op m
+
+  abbrev after : List ℕ
+  after = storeMade st img op m
+
+  pub mid-durable : Durable past st after b
+  mid-durable =
+      ⊎-elim
+      (λ e. subst (λ (i : List ℕ). Durable past st i b) (sym (store-none past st img b D a w (M .inside) e)) D)
+      (λ (s : Aside past st img b D op a). durable-kept past st img b D a w (M .inside) (s .dead) (s .uncommitted))
+      (M .harmless)
+
+  pub mid-writing : Writing st img b (Changing op) → Writing st after b (Changing op)
+  mid-writing W =
+      ⊎-elim
+      (λ e. subst (λ (i : List ℕ). Writing st i b (Changing op)) (sym (store-none past st img b D a w (M .inside) e)) W)
+      (λ (s : Aside past st img b D op a). writing-kept st img b (Changing op) a w (store-fits past st img b D a w (M .inside)) (s .unowned) W)
+      (M .harmless)
+
+  pub mid-landed : ((j : ℕ) → j < m → word img (storeAt st op j) ≡ storeValue st img op j) → (j : ℕ) → j < m + 1 → word after (storeAt st op j) ≡ storeValue st after op j
+  mid-landed h j l =
+      let fits = store-fits past st img b D a w (M .inside) in
+      let n : j < suc m = omega arith in
+      split-below n
+      (λ q. rw q (word-store img a w fits (M .low) ∙ sym (M .stable m (omega arith))))
+      (λ lt. word-store-other img a w (storeAt st op j) fits (M .apart j lt) ∙ h j lt ∙ sym (M .stable j (omega arith)))
+
+module _ (past : List ℕ) (st : State) (img : List ℕ) (b : Reference) (B : Busy past st img b) (t : Task) where
+  -- facts about the pending operation, where it is op
+  abbrev Goes : Op → Type 0
+  Goes op =
+      isIdle op ≡ false → b .work ≡ under t (needs st op - st .pending .made) → st .pending .made + 1 < needs st op
+      → Mid past st img b (B .durable) op (st .pending .made)
+      → Doing (withMade st (st .pending .made + 1)) (storeMade st img op (st .pending .made)) (withWork (under t (needs st op - (st .pending .made + 1))) b) op
+      → Related past (stepped (record { st = st; image = img })) (advances 1 (b .work) b)
+
+  goes : Goes (st .pending .op)
+  goes i work l M doing =
+      let op : Op = st .pending .op in
+      let m : ℕ = st .pending .made in
+      let k = under t (needs st op - (m + 1)) in
+      let img′ : List ℕ = storeMade st img op m in
+      let now : Busy past (withMade st (m + 1)) img′ (withWork k b) =
+      record {
+        valid = made-valid st (m + 1) (B .valid) i l;
+        durable = durable-made past st img′ b (m + 1) k (mid-durable past st img b (B .durable) op m M);
+        writers = writing-made st img′ b (Changing op) (m + 1) k (mid-writing past st img b (B .durable) op m M (B .writers));
+        landed =
+            λ j n.
+            ap (word img′) (at-made st (m + 1) op j)
+            ∙ mid-landed past st img b (B .durable) op m M (B .landed) j n
+            ∙ sym (value-made st (m + 1) img′ op j);
+        doing = doing;
+      } in
+      subst (λ (v : World). Related past v (advances 1 (b .work) b)) (sym (step-on st img l))
+      (subst (λ (c : Reference). Related past (record { st = withMade st (m + 1); image = img′ }) c) (sym (advance-on b t (needs st op) m work l))
+      (inr now))
+
+  -- one step of it leaves it pending with one more store made
+  pub step-mid : (op : Op) → st .pending .op ≡ op → Goes op
+  step-mid op e = subst Goes e goes

@@ -1,0 +1,45 @@
+-- Demand 3, the statement. For every list of calls on a freshly formatted buffer, refused calls included, and with a mount (which stands for
+-- a power cut) after any call, the store and the reference machine agree at every call.
+use Prim.Native.Nat.{ℕ, _≤_}
+use mathlib.Core.Bool.{Bool, true}
+use mathlib.Core.List.{List, [], _∷_}
+use mathlib.Core.Logic.{_⊎_}
+use mathlib.Core.Path.{_≡_}
+use lib.ListN.{length, drop}
+use Rattle.layout.specs.declared.Sizes.{Sizes}
+use Rattle.layout.specs.Layout.{sizesOk, imageLength}
+use Rattle.words.specs.Words.{Bytes, over}
+use Rattle.stores.specs.Stores.{World}
+use Rattle.transactions.specs.Run.{Call, Result, mount, checkpoint, step, begin, abort, commit, consolidate, run, write, read, recall, exec, formattedWorld}
+use Rattle.refinement.specs.Reference.{Reference, blank, turn, readLine, recallLine}
+
+-- what one call must answer, b being the reference machine before it:
+-- a taken read's target starts with the reference machine's 64 bytes, and the rest of it is unchanged;
+-- every mount is taken;
+-- a recall is taken, or its number is 11, and a taken one's target starts with the 64 bytes of the pages
+abbrev pub Right : Call → Result → Reference → Type 0
+Right mount d b = d .number ≡ 0
+Right (read w p l target) d b = d .number ≡ 0 → d .target ≡ over target 0 (readLine b w p l)
+Right (recall p l target) d b =
+    ((d .number ≡ 0) ⊎ (d .number ≡ 11)) × (d .number ≡ 0 → d .target ≡ over target 0 (recallLine b p l))
+Right checkpoint d b = Unit
+Right step d b = Unit
+Right (begin w) d b = Unit
+Right (abort w) d b = Unit
+Right (commit w) d b = Unit
+Right (consolidate p) d b = Unit
+Right (run k) d b = Unit
+Right (write w p l o n bytes) d b = Unit
+
+-- at every call of the list the answer is right and the bytes past the image are the buffer's
+abbrev pub Agrees : ℕ → List ℕ → List Call → World → Reference → Type 0
+Agrees n past [] v b = Unit
+Agrees n past (c ∷ cs) v b =
+    let d = exec c v in
+    Right c d b × (drop n (d .world .image) ≡ past) × Agrees n past cs (d .world) (turn c (d .number) (d .stores) b)
+
+-- the theorem
+pub Demand3 : Type 0
+Demand3 =
+    (z : Sizes) → sizesOk z ≡ true → (buffer : List ℕ) → Bytes buffer → imageLength z ≤ length buffer
+    → (calls : List Call) → Agrees (imageLength z) (drop (imageLength z) buffer) calls (formattedWorld z buffer) blank

@@ -1,0 +1,62 @@
+use Prim.Native.Nat.{_≤_, _-_}
+use mathlib.Core.Bool.{true}
+use mathlib.Core.Path.{_≡_}
+use borrow.Author.Tests.{not-true, not-false}
+use borrow.Author.Needs.{needs}
+use Rattle.bounded.proofs.Below.{all-none, all-turn, all-stops, all-ends}
+use Rattle.bounded.specs.Below.{allBelow}
+use Rattle.state.specs.Slots.{freeAt}
+use Rattle.state.specs.Held.{holderOk, heldOk}
+use Rattle.state.proofs.held.held_ok.Statement.{statement}
+use Rattle.state.proofs.held.held_ok.Tie as tie
+
+abbrev Inv-loop : tie.InvT-loop
+Inv-loop z page opened held s₀ s = (s ≤ z .slots) × (allBelow s (λ k. allBelow 4 (holderOk opened held (freeAt page k) k)) ≡ true)
+
+abbrev μ-loop : tie.MeasureT-loop
+μ-loop z page opened held s₀ s = z .slots - s
+
+loop-holds : tie.Need-loop-holds Inv-loop μ-loop
+loop-holds c = (search needs, all-none _)
+
+mul-free : tie.Need-mul-free Inv-loop μ-loop
+mul-free c = search needs
+
+element-copy-out-free : tie.Need-element-copy-out-free Inv-loop μ-loop
+element-copy-out-free c = search needs
+
+slot-held-ok-requires : tie.Need-slot-held-ok-requires Inv-loop μ-loop
+slot-held-ok-requires c κs = search needs
+
+returns : tie.Need-returns Inv-loop μ-loop
+unfolding heldOk
+returns c = all-stops _ _ _ _ (c .before .before .before .if1 .taken) (c .before .slot-held-ok .ensures) (not-true _ (c .if2 .taken))
+
+add-s : tie.Need-add-s Inv-loop μ-loop
+add-s c = search needs
+
+loop-less : tie.Need-loop-less Inv-loop μ-loop
+loop-less c = search needs
+
+loop-again : tie.Need-loop-again Inv-loop μ-loop
+loop-again c = (search needs, all-turn _ _ _ (c .before .before .before .before .before .loop .inv .1) (c .before .slot-held-ok .ensures) (not-false _ (c .if2 .left)))
+
+returns-2 : tie.Need-returns-2 Inv-loop μ-loop
+unfolding heldOk
+returns-2 c = all-ends _ _ _ (c .before .before .loop .inv .0) (c .if1 .left) (c .before .before .loop .inv .1)
+
+pub held-ok-spec : {M : Type 1} → statement M
+held-ok-spec =
+    tie.close
+    (tie.spec
+    Inv-loop
+    μ-loop
+    loop-holds
+    mul-free
+    element-copy-out-free
+    slot-held-ok-requires
+    returns
+    add-s
+    loop-less
+    loop-again
+    returns-2)

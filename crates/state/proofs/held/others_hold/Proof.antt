@@ -1,0 +1,70 @@
+use Prim.Native.Nat.{_≤_, _-_}
+use mathlib.Core.Bool.{Bool, false, not, _&&_}
+use mathlib.Core.Path.{_≡_, ap}
+use lib.Dec.{eqb}
+use borrow.Author.Needs.{needs}
+use Rattle.bounded.proofs.Below.{some-none, some-turn, some-stops, some-ends}
+use Rattle.bounded.specs.Below.{someBelow}
+use Rattle.masks.specs.Lines.{inMask}
+use Rattle.state.specs.Held.{heldAt, othersHold}
+use Rattle.state.proofs.held.others_hold.Statement.{statement}
+use Rattle.state.proofs.held.others_hold.Tie as tie
+
+abbrev Inv-loop : tie.InvT-loop
+Inv-loop held w s l v₀ v = (v ≤ 4) × (someBelow v (λ k. not (eqb k w) && inMask (heldAt held k s) l) ≡ false)
+
+abbrev μ-loop : tie.MeasureT-loop
+μ-loop held w s l v₀ v = 4 - v
+
+loop-holds : tie.Need-loop-holds Inv-loop μ-loop
+loop-holds c = (search needs, some-none _)
+
+mul-has : tie.Need-mul-has Inv-loop μ-loop
+mul-has c = search needs
+
+add-has : tie.Need-add-has Inv-loop μ-loop
+add-has c = search needs
+
+mul-has-2 : tie.Need-mul-has-2 Inv-loop μ-loop
+mul-has-2 c = search needs
+
+element-copy-out-has : tie.Need-element-copy-out-has Inv-loop μ-loop
+element-copy-out-has c = search needs
+
+has-requires : tie.Need-has-requires Inv-loop μ-loop
+has-requires c κs = search needs
+
+returns : tie.Need-returns Inv-loop μ-loop
+unfolding othersHold
+returns c = some-stops _ _ _ _ (c .before .before .before .loop-test .taken) (ap (λ (b : Bool). not (eqb (c .before .before .before .before .loop .v) (c .before .before .before .before .before .args .w)) && b) (c .before .has .ensures)) (c .if1 .taken)
+
+add-v : tie.Need-add-v Inv-loop μ-loop
+add-v c = search needs
+
+loop-less : tie.Need-loop-less Inv-loop μ-loop
+loop-less c = search needs
+
+loop-again : tie.Need-loop-again Inv-loop μ-loop
+loop-again c = (search needs, some-turn _ _ _ (c .before .before .before .before .loop .inv .1) (ap (λ (b : Bool). not (eqb (c .before .before .before .before .loop .v) (c .before .before .before .before .before .args .w)) && b) (c .before .has .ensures)) (c .if1 .left))
+
+returns-2 : tie.Need-returns-2 Inv-loop μ-loop
+unfolding othersHold
+returns-2 c = some-ends _ _ _ (c .before .loop .inv .0) (c .loop-test .left) (c .before .loop .inv .1)
+
+pub others-hold-spec : {M : Type 1} → statement M
+others-hold-spec =
+    tie.close
+    (tie.spec
+    Inv-loop
+    μ-loop
+    loop-holds
+    mul-has
+    add-has
+    mul-has-2
+    element-copy-out-has
+    has-requires
+    returns
+    add-v
+    loop-less
+    loop-again
+    returns-2)

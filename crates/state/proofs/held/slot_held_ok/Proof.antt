@@ -1,0 +1,51 @@
+use Prim.Native.Nat.{_≤_, _-_}
+use mathlib.Core.Bool.{true}
+use mathlib.Core.Path.{_≡_}
+use borrow.Author.Tests.{not-true, not-false}
+use borrow.Author.Needs.{needs}
+use Rattle.bounded.proofs.Below.{all-none, all-turn, all-stops, all-ends}
+use Rattle.bounded.specs.Below.{allBelow}
+use Rattle.state.specs.Held.{holderOk}
+use Rattle.state.proofs.held.slot_held_ok.Statement.{statement}
+use Rattle.state.proofs.held.slot_held_ok.Tie as tie
+
+abbrev Inv-loop : tie.InvT-loop
+Inv-loop opened held free s w₀ w = (w ≤ 4) × (allBelow w (holderOk opened held free s) ≡ true)
+
+abbrev μ-loop : tie.MeasureT-loop
+μ-loop opened held free s w₀ w = 4 - w
+
+loop-holds : tie.Need-loop-holds Inv-loop μ-loop
+loop-holds c = (search needs, all-none _)
+
+holder-ok-requires : tie.Need-holder-ok-requires Inv-loop μ-loop
+holder-ok-requires c κs = search needs
+
+returns : tie.Need-returns Inv-loop μ-loop
+returns c = all-stops _ _ _ _ (c .before .before .loop-test .taken) (c .before .holder-ok .ensures) (not-true _ (c .if1 .taken))
+
+add-w : tie.Need-add-w Inv-loop μ-loop
+add-w c = search needs
+
+loop-less : tie.Need-loop-less Inv-loop μ-loop
+loop-less c = search needs
+
+loop-again : tie.Need-loop-again Inv-loop μ-loop
+loop-again c = (search needs, all-turn _ _ _ (c .before .before .before .loop .inv .1) (c .before .holder-ok .ensures) (not-false _ (c .if1 .left)))
+
+returns-2 : tie.Need-returns-2 Inv-loop μ-loop
+returns-2 c = all-ends _ _ _ (c .before .loop .inv .0) (c .loop-test .left) (c .before .loop .inv .1)
+
+pub slot-held-ok-spec : {M : Type 1} → statement M
+slot-held-ok-spec =
+    tie.close
+    (tie.spec
+    Inv-loop
+    μ-loop
+    loop-holds
+    holder-ok-requires
+    returns
+    add-w
+    loop-less
+    loop-again
+    returns-2)

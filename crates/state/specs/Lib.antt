@@ -1,0 +1,4 @@
+pub mod Slots
+pub mod Held
+pub mod Operations
+pub mod Validity

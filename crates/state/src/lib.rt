@@ -1,0 +1,52 @@
+// The state that the host keeps, and whether it keeps the rules (row 8).
+pub mod held;
+pub mod operations;
+pub mod slots;
+pub mod validity;
+
+use journal::Table;
+use layout::Sizes;
+
+// An operation that has been asked for, with its arguments.
+pub enum Op {
+    Idle,
+    Write {
+        writer: usize,
+        page: usize,
+        line: usize,
+        offset: usize,
+        length: usize,
+    },
+    Commit {
+        writer: usize,
+    },
+    Consolidate {
+        page: usize,
+    },
+    Checkpoint,
+}
+
+// Four writers: open or not, and the lines that each holds of each slot, at 16 × writer + slot.
+pub struct Writers {
+    pub opened: [bool; 4],
+    pub held: [u64; 64],
+}
+
+// The pending operation, how many of its stores are made, and for a write the finished line's words and the page's
+// frame.
+pub struct Pending {
+    pub op: Op,
+    pub made: usize,
+    pub line: [u64; 8],
+    pub frame: usize,
+}
+
+pub struct State {
+    pub sizes: Sizes,
+    pub head: usize,
+    pub tail: usize,
+    pub next: usize,
+    pub table: Table,
+    pub writers: Writers,
+    pub pending: Pending,
+}

@@ -1,0 +1,112 @@
+// Reading the slots of a state.
+ghost use mathlib.Core.Path.{_≡_};
+ghost use Prim.Native.Nat.{_<_, _≤_};
+ghost use lib.Dec.{eqb};
+ghost use lib.ListN.{getD};
+ghost use Rattle.bounded.specs.Below.{firstBelow, allBelow};
+ghost use Rattle.layout.specs.Layout.{Legal};
+ghost use Rattle.state.specs.Slots.{roundSlot, freeAfter, frameOfSlot, slotsApart, framesApart};
+use layout::Sizes;
+
+// The slot of page p, or S where it has none.
+pub fn slot_of(z: Sizes, page: &[usize; 16], p: usize) -> usize
+    requires { ⌜ Legal z ⌝ }
+    ensures { λ r. ⌜ r ≡ firstBelow (z .slots) (λ s. eqb (getD (now (page .entry)) s 0) p) ⌝ }
+{
+    let mut s = 0;
+    while s < z.slots {
+        if page[s] == p {
+            return s;
+        }
+        s += 1;
+    }
+    z.slots
+}
+
+// The slot k places on from next, going round.
+pub fn round_slot(z: Sizes, next: usize, k: usize) -> usize
+    requires { ⌜ Legal z × (next < z .slots) × (k ≤ z .slots) ⌝ }
+    ensures { λ r. ⌜ r ≡ roundSlot z next k ⌝ }
+{
+    (next + k) % z.slots
+}
+
+// How many places on from next the first free slot lies, or S where none is free.
+pub fn free_after(z: Sizes, page: &[usize; 16], next: usize) -> usize
+    requires { ⌜ Legal z × (next < z .slots) ⌝ }
+    ensures { λ r. ⌜ r ≡ freeAfter z (now (page .entry)) next ⌝ }
+{
+    let mut k = 0;
+    while k < z.slots {
+        let s = round_slot(z, next, k);
+        if page[s] == 18446744073709551615 {
+            return k;
+        }
+        k += 1;
+    }
+    z.slots
+}
+
+// Whether f is a frame of a slot.
+pub fn frame_of_slot<'a>(
+    z: Sizes,
+    page: &'a [usize; 16],
+    original: &'a [usize; 16],
+    spare: &'a [usize; 16],
+    f: usize,
+) -> bool
+    requires { ⌜ Legal z ⌝ }
+    ensures { λ r. ⌜ r ≡ frameOfSlot z (now (page .entry)) (now (original .entry)) (now (spare .entry)) f ⌝ }
+{
+    let mut s = 0;
+    while s < z.slots {
+        if (spare[s] == f) | ((page[s] != 18446744073709551615) & (original[s] == f)) {
+            return true;
+        }
+        s += 1;
+    }
+    false
+}
+
+// Whether slot s names no frame that a slot below it names.
+fn slot_apart<'a>(
+    page: &'a [usize; 16],
+    original: &'a [usize; 16],
+    spare: &'a [usize; 16],
+    s: usize,
+) -> bool
+    requires { ⌜ s < 16 ⌝ }
+    ensures { λ r. ⌜ r ≡ allBelow s (slotsApart (now (page .entry)) (now (original .entry)) (now (spare .entry)) s) ⌝ }
+{
+    let free = page[s] == 18446744073709551615;
+    let o = original[s];
+    let e = spare[s];
+    let mut k = 0;
+    while k < s {
+        if !((e != spare[k]) & (o != spare[k]) & (e != original[k]) & (free | (o != original[k]))) {
+            return false;
+        }
+        k += 1;
+    }
+    true
+}
+
+// Whether no two slots name one frame.
+pub fn frames_apart<'a>(
+    z: Sizes,
+    page: &'a [usize; 16],
+    original: &'a [usize; 16],
+    spare: &'a [usize; 16],
+) -> bool
+    requires { ⌜ Legal z ⌝ }
+    ensures { λ r. ⌜ r ≡ framesApart z (now (page .entry)) (now (original .entry)) (now (spare .entry)) ⌝ }
+{
+    let mut s = 0;
+    while s < z.slots {
+        if !slot_apart(page, original, spare, s) {
+            return false;
+        }
+        s += 1;
+    }
+    true
+}

@@ -1,0 +1,16 @@
+pub mod Valid
+pub mod Pending
+pub mod OneSlot
+pub mod LinePut
+pub mod Appended
+pub mod Closed
+pub mod WriteValid
+pub mod CommitValid
+pub mod ConsolidateValid
+pub mod CheckpointValid
+pub mod InRange
+pub mod Sized
+pub mod Completed
+pub mod Steps
+pub mod PageSlots
+pub mod NamesOnce

@@ -1,0 +1,121 @@
+// Words of 8 bytes, little-endian.
+ghost use mathlib.Core.Path.{_≡_};
+ghost use Prim.Native.Nat.{_+_, _*_, _≤_};
+ghost use lib.ListN.{length, replicate};
+ghost use Rattle.words.specs.Words.{leOf, bytesOf, wordAt, putWord, word, store, putWords, wordsAt, part, over, Bytes};
+
+// The number that 8 bytes make, the lowest first.
+fn join(b0: u8, b1: u8, b2: u8, b3: u8, b4: u8, b5: u8, b6: u8, b7: u8) -> u64
+    ensures { λ r. ⌜ r ≡ b0 + 256 * (b1 + 256 * (b2 + 256 * (b3 + 256 * (b4 + 256 * (b5 + 256 * (b6 + 256 * b7)))))) ⌝ }
+{
+    let r6 = b6 as u64 + 256 * (b7 as u64);
+    let r5 = b5 as u64 + 256 * r6;
+    let r4 = b4 as u64 + 256 * r5;
+    let r3 = b3 as u64 + 256 * r4;
+    let r2 = b2 as u64 + 256 * r3;
+    let r1 = b1 as u64 + 256 * r2;
+    b0 as u64 + 256 * r1
+}
+
+fn word_of(b: &[u8]) -> u64
+    requires { ⌜ length (now b) ≡ 8 ⌝ }
+    ensures { λ r. ⌜ r ≡ leOf (now (b .entry)) ⌝ }
+{
+    join(b[0], b[1], b[2], b[3], b[4], b[5], b[6], b[7])
+}
+
+// The word at byte at.
+pub fn word_at(s: &[u8], at: usize) -> u64
+    requires { ⌜ at + 8 ≤ length (now s) ⌝ }
+    ensures { λ r. ⌜ r ≡ wordAt (now (s .entry)) at ⌝ }
+{
+    word_of(&s[at..at + 8])
+}
+
+// Lays the 8 bytes of v over b.
+fn put_bytes(b: &mut [u8], v: u64)
+    requires { ⌜ length (now b) ≡ 8 ⌝ }
+    ensures { λ _. ⌜ now (b .exit) ≡ bytesOf 8 v ⌝ }
+{
+    let v1 = v / 256;
+    let v2 = v1 / 256;
+    let v3 = v2 / 256;
+    let v4 = v3 / 256;
+    let v5 = v4 / 256;
+    let v6 = v5 / 256;
+    let v7 = v6 / 256;
+    b[0] = (v % 256) as u8;
+    b[1] = (v1 % 256) as u8;
+    b[2] = (v2 % 256) as u8;
+    b[3] = (v3 % 256) as u8;
+    b[4] = (v4 % 256) as u8;
+    b[5] = (v5 % 256) as u8;
+    b[6] = (v6 % 256) as u8;
+    b[7] = (v7 % 256) as u8;
+}
+
+// Puts v at byte at.
+pub fn put_word(s: &mut [u8], at: usize, v: u64)
+    requires { ⌜ at + 8 ≤ length (now s) ⌝ }
+    ensures { λ _. ⌜ now (s .exit) ≡ putWord (now (s .entry)) at v ⌝ }
+{
+    put_bytes(&mut s[at..at + 8], v);
+}
+
+// Word i of an image.
+pub fn read_word(image: &[u8], i: usize) -> u64
+    requires { ⌜ 8 * i + 8 ≤ length (now image) ⌝ }
+    ensures { λ r. ⌜ r ≡ word (now (image .entry)) i ⌝ }
+{
+    word_at(image, 8 * i)
+}
+
+// Stores v as word i of an image.
+pub fn store_word(image: &mut [u8], i: usize, v: u64)
+    requires { ⌜ 8 * i + 8 ≤ length (now image) ⌝ }
+    ensures { λ _. ⌜ now (image .exit) ≡ store (now (image .entry)) i v ⌝ }
+{
+    put_word(image, 8 * i, v);
+}
+
+// Puts v as each of the n words from byte at on.
+pub fn fill_words(s: &mut [u8], at: usize, n: usize, v: u64)
+    requires { ⌜ at + 8 * n ≤ length (now s) ⌝ }
+    ensures { λ _. ⌜ now (s .exit) ≡ putWords (now (s .entry)) at (replicate n v) ⌝ }
+{
+    let mut i = 0;
+    while i < n {
+        put_word(s, at + 8 * i, v);
+        i += 1;
+    }
+}
+
+// Copies n words from byte from of src to byte to of dst.
+pub fn copy_words(src: &[u8], from: usize, dst: &mut [u8], to: usize, n: usize)
+    requires { ⌜ (from + 8 * n ≤ length (now src)) × (to + 8 * n ≤ length (now dst)) ⌝ }
+    ensures { λ _. ⌜ now (dst .exit) ≡ over (now (dst .entry)) to (part (now (src .entry)) from (8 * n)) ⌝ }
+{
+    let mut i = 0;
+    while i < n {
+        let v = word_at(src, from + 8 * i);
+        put_word(dst, to + 8 * i, v);
+        i += 1;
+    }
+}
+
+// The 8 words of a line.
+pub fn words_of(line: &[u8]) -> [u64; 8]
+    requires { ⌜ length (now line) ≡ 64 ⌝ }
+    ensures { λ r. ⌜ r ≡ wordsAt (now (line .entry)) 0 8 ⌝ }
+{
+    [
+        word_at(line, 0),
+        word_at(line, 8),
+        word_at(line, 16),
+        word_at(line, 24),
+        word_at(line, 32),
+        word_at(line, 40),
+        word_at(line, 48),
+        word_at(line, 56),
+    ]
+}
