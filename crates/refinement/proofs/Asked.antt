@@ -1,60 +1,23 @@
 -- An operation asked for: pending with no store made, where it needs any.
 use Prim.Native.Nat.{ℕ, zero, suc, _-_, _<_}
-use mathlib.Core.Bool.{true, cond}
+use mathlib.Core.Bool.{cond}
 use mathlib.Core.List.{List}
-use mathlib.Core.Path.{_≡_, refl, ap, _∙_}
+use mathlib.Core.Path.{_≡_, refl, ap}
 use native.Mathlib.Omega.{arith}
 use lib.Dec.{eqb, eqb·suc-zero}
 use Rattle.bounded.specs.Rows.{refusal}
 use Rattle.state.specs.declared.State.{State}
 use Rattle.state.specs.declared.Op.{Op}
-use Rattle.state.specs.declared.Op.the-variants.{Idle, Write, Commit, Consolidate, Checkpoint}
 use Rattle.state.specs.Operations.{needs, opRows}
-use Rattle.state.specs.Validity.{stateOk}
 use Rattle.stores.specs.Stores.{World, completed}
-use Rattle.stores.proofs.Pending.{pends-ok}
-use Rattle.stores.proofs.Valid.{valid, valid-ok}
+use Rattle.stores.proofs.Valid.{valid}
 use Rattle.transactions.specs.Calls.{withPending, worldOf, asked}
+use Rattle.transactions.proofs.Asked.{needs-asked, pending-valid}
 use Rattle.transactions.specs.Run.{Call}
 use Rattle.refinement.specs.Reference.{Reference, Task, under, withWork, does, starts, taken, turn}
 use Rattle.refinement.proofs.Invariant.{Doing, Quiet, Busy, Related}
 use Rattle.refinement.proofs.Keeps.{durable-kept}
 use Rattle.refinement.proofs.Sound.{After, unchanged}
-
--- ---- rows and needs read nothing of what is pending
-
-module _ (st : State) (line : List ℕ) (frame : ℕ) (pending : Op) where
-  pub needs-asked : (op : Op) → needs (withPending st pending line frame) op ≡ needs st op
-  unfolding needs
-  needs-asked Idle = refl
-  needs-asked (Write w p l o n) = refl
-  needs-asked (Commit w) = refl
-  needs-asked (Consolidate p) = refl
-  needs-asked Checkpoint = refl
-
-  rows-asked : (op : Op) (f : ℕ) → refusal (opRows (withPending st pending line frame) op f) ≡ refusal (opRows st op f)
-  rows-asked Idle f = refl
-  rows-asked (Write w p l o n) f = refl
-  rows-asked (Commit w) f = refl
-  rows-asked (Consolidate p) f = refl
-  rows-asked Checkpoint f = refl
-
-asked-valid : (st : State) (op : Op) (line : List ℕ) (frame : ℕ) → stateOk st ≡ true → 0 < needs st op → refusal (opRows st op frame) ≡ 0
-    → stateOk (withPending st op line frame) ≡ true
-asked-valid st op line frame e l r =
-    let v = valid st e in
-    valid-ok (withPending st op line frame)
-    (record {
-      legal = v .legal;
-      positions = v .positions;
-      slots = v .slots;
-      held = v .held;
-      next-low = v .next-low;
-      lasts = v .lasts;
-      pending =
-          pends-ok (withPending st op line frame) op refl
-          (record { made-low = omega (arith, needs-asked st line frame op op); taken = rows-asked st line frame op op frame ∙ r });
-    })
 
 -- what the reference machine has under way, with all its stores left
 pub all-left : (st : State) (op : Op) (line : List ℕ) (frame : ℕ) (t : Task) → under t (needs st op) ≡ under t (needs (withPending st op line frame) op - 0)
@@ -67,7 +30,7 @@ pub asked-busy : {past : List ℕ} (st : State) (img : List ℕ) (b : Reference)
 asked-busy st img b op line frame t q l r doing =
     let ws = q .writers in
     record {
-      valid = asked-valid st op line frame (q .valid) l r;
+      valid = pending-valid st line frame op (q .valid) r l;
       durable = durable-kept st img b (withWork (under t (needs st op)) b) (st .next) (st .writers) _ (λ p l h k. refl) (q .durable);
       writers =
           record {

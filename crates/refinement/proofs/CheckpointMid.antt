@@ -1,11 +1,10 @@
 -- The stores of a checkpoint: the slot words of slots with a live record, which a mount does not read while those records are live. Their
 -- values are read from the journal, which none of them goes to.
-use Prim.Native.Nat.{ℕ, zero, suc, _+_, _*_, _/_, _%_, _<_, _≤_}
+use Prim.Native.Nat.{ℕ, _+_, _*_, _/_, _%_, _<_, _≤_}
 use mathlib.Core.Bool.{Bool, true, not}
-use mathlib.Core.List.{List, [], _∷_}
+use mathlib.Core.List.{List}
 use mathlib.Core.Logic.{inr}
-use mathlib.Core.Path.{_≡_, refl, sym, ap, _∙_, subst}
-use native.Mathlib.Nat.{not-suc-le-zero, le-of-suc-le-suc}
+use mathlib.Core.Path.{_≡_, sym, ap, _∙_, subst}
 use native.Mathlib.Omega.{arith}
 use lib.Dec.{eqb}
 use lib.ListN.{length, getD}
@@ -24,16 +23,11 @@ use Rattle.journal.proofs.Tables.{Sixteen}
 use Rattle.state.specs.declared.State.{State}
 use Rattle.state.specs.declared.Op.the-variants.{Checkpoint}
 use Rattle.state.specs.Operations.{recordedSlots}
+use Rattle.stores.proofs.Appended.{last-at}
 use Rattle.stores.specs.Checkpoint.{checkpointSlot, checkpointAt, checkpointValue}
 use Rattle.refinement.specs.Reference.{Reference}
 use Rattle.refinement.proofs.Invariant.{Durable}
 use Rattle.refinement.proofs.Stepping.{Mid, aside-before, store-fits, durable-legal}
-
--- an entry of a list is the same with any default
-entry-is : (l : List ℕ) (i d e : ℕ) → i < length l → getD l i d ≡ getD l i e
-entry-is [] i d e h = absurd (not-suc-le-zero h)
-entry-is (x ∷ l) zero d e h = refl
-entry-is (x ∷ l) (suc i) d e h = entry-is l i d e (le-of-suc-le-suc h)
 
 -- how many slots have a live record
 abbrev pub recorded : State → ℕ
@@ -47,7 +41,7 @@ module _ (st : State) (legal : Legal (st .sizes)) (full : Sixteen (st .table)) w
   has s = not (eqb (getD (st .table .last) s 0) noPosition)
 
   last-is : (s : ℕ) → s < z .slots → getD (st .table .last) s 0 ≡ lastIn (st .table) s
-  last-is s l = entry-is (st .table .last) s 0 noPosition (omega (arith, legal .slots-high, full .last))
+  last-is s l = last-at (st .table) s full (omega (arith, legal .slots-high))
 
   -- the slot that store i is of
   pub record StoredSlot (i : ℕ) : Type 0 where

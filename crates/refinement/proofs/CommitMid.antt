@@ -10,7 +10,6 @@ use lib.Dec.{ltb, eqb}
 use lib.ListN.{length, getD}
 use borrow.Author.Tests.{ltb-true, ltb-false, lt-ltb, le-ltb, eqb-true, eqb-false}
 use Rattle.bounded.specs.Below.{those, countBelow}
-use Rattle.bounded.specs.Rows.{refusal}
 use Rattle.bounded.proofs.Below.{count-before}
 use Rattle.bounded.proofs.Tests.{caseOn}
 use Rattle.bounded.proofs.Those.{length-those, chosen}
@@ -32,20 +31,19 @@ use Rattle.journal.proofs.View.{View, Shows}
 use Rattle.journal.proofs.Verdict.{Taken}
 use Rattle.masks.proofs.Members.{exclusive-or-lt}
 use Rattle.state.specs.declared.State.{State}
-use Rattle.state.specs.declared.Op.{Op}
 use Rattle.state.specs.declared.Op.the-variants.{Commit}
 use Rattle.state.specs.Held.{heldAt, heldSlots}
-use Rattle.state.specs.Operations.{live, needs, opRows, isIdle}
+use Rattle.state.specs.Operations.{live, needs}
 use Rattle.state.specs.Validity.{stateOk}
 use Rattle.state.proofs.Taken.{CommitTaken, commit-taken}
 use Rattle.stores.specs.Commit.{commitSlots, commitRecord, commitAt, commitValue}
 use Rattle.stores.specs.Stores.{stepped}
 use Rattle.stores.proofs.CommitValid.{SameNames, owning-renamed, commit-slot}
+use Rattle.stores.proofs.Pending.{pends}
 use Rattle.stores.proofs.Valid.{valid}
 use Rattle.refinement.specs.Reference.{Reference, committing, under, advances}
 use Rattle.refinement.proofs.Invariant.{TakenOnly, Durable, Doing, Busy, Related}
 use Rattle.refinement.proofs.Stepping.{Mid, aside-before, step-mid}
-use Rattle.refinement.proofs.Underway.{underway}
 
 -- ---- what a mount finds, under the state's own header
 
@@ -87,7 +85,7 @@ module _ (past : List ℕ) (st : State) (img : List ℕ) (b : Reference) (D : Du
 -- ---- the records
 
 pub commit-pending : (st : State) (w : ℕ) → stateOk st ≡ true → st .pending .op ≡ Commit w → CommitTaken st w
-commit-pending st w ok e = commit-taken st w (subst (λ (op : Op). refusal (opRows st op (st .pending .frame)) ≡ 0) e (underway st ok (ap isIdle e) .no-row))
+commit-pending st w ok e = commit-taken st w (pends st (Commit w) ok e refl .taken)
 
 module _ (st : State) (w : ℕ) where
   abbrev pub count : ℕ

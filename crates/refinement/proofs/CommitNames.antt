@@ -26,7 +26,7 @@ use Rattle.journal.proofs.Tables.{Sixteen}
 use Rattle.journal.proofs.View.{slot-none}
 use Rattle.stores.proofs.CommitValid.{SameNames}
 use Rattle.refinement.proofs.Invariant.{TakenOnly, Behind}
-use Rattle.refinement.proofs.PageSlots.{slot-le, slot-page, slot-first, slotted-of, unslotted-of, apart-at, slot-is}
+use Rattle.stores.proofs.PageSlots.{slot-le, slot-page, slot-first, slotted-of, unslotted-of, apart-at, slot-is}
 use Rattle.refinement.proofs.Copies.{table-names}
 use Rattle.refinement.proofs.WriteTable.{taken-only-kept}
 

@@ -32,7 +32,7 @@ use Rattle.journal.proofs.Verdict.{Taken}
 use Rattle.journal.proofs.View.{Shows}
 use Rattle.state.specs.declared.State.{State}
 use Rattle.state.specs.declared.Op.the-variants.{Consolidate}
-use Rattle.state.specs.Operations.{live, slotFor, copyCount}
+use Rattle.state.specs.Operations.{slotFor, copyCount}
 use Rattle.state.specs.Validity.{stateOk}
 use Rattle.stores.specs.Consolidate.{pageSlot, isFew, copyTo, copyFrom, copyStoreCount, freeingRecord, consolidateAt, consolidateValue, consolidateTable}
 use Rattle.stores.specs.Frames.{committedFrame}
@@ -41,12 +41,12 @@ use Rattle.transactions.specs.Recall.{frameOf}
 use Rattle.refinement.specs.Reference.{Reference, idle, withWork, recallLine}
 use Rattle.refinement.proofs.Invariant.{TakenOnly, Durable}
 use Rattle.refinement.proofs.Copies.{mount-apart, mount-once, image-fits, names-same}
-use Rattle.refinement.proofs.Names.{name-spare, name-home}
+use Rattle.stores.proofs.NamesOnce.{name-spare, name-home}
 use Rattle.refinement.proofs.ConsolidateStores.{lineOf, copied-line, line-goes, freeing-slot, freeing-now, freeing-first, at-line, at-page, at-freeing, value-line, value-page, value-freeing}
 use Rattle.refinement.proofs.ConsolidateSlot.{Freed}
 use Rattle.refinement.proofs.FreeNames.{Frees, freed-sixteen, freed-slot, kept-slot, slot-kept, frame-gone, frame-other, freed-once, freed-shapes, freed-apart}
 use Rattle.refinement.proofs.HeaderStore.{header-fits, header-page, header-copy}
-use Rattle.refinement.proofs.PageSlots.{slot-is, slot-first}
+use Rattle.stores.proofs.PageSlots.{slot-is, slot-first}
 use Rattle.refinement.proofs.Valid.{good}
 
 -- ---- the freed slot, in the state's table and in the one that a mount finds
@@ -135,7 +135,7 @@ module _ (past : List ℕ) (st : State) (img : List ℕ) (b : Reference) (valid 
     abbrev new : ℕ → Record
     new = freeingRecord st p
 
-    module _ (room : live st + 1 ≤ z .places) (full : Sixteen d) where
+    module _ (full : Sixteen d) where
       S : Frees z (st .head) new (st .table) s p (copyFrom t)
       S = frees-state st p valid (D .behind .sixteen) F
 
@@ -147,7 +147,7 @@ module _ (past : List ℕ) (st : State) (img : List ℕ) (b : Reference) (valid 
           record {
             legal = D .mounts .legal;
             positions = D .mounts .positions;
-            room = rw (D .sizes-same, D .head-same, D .tail-same) room;
+            room = rw (D .sizes-same, D .head-same, D .tail-same) (F .room);
             right =
                 right-all (D .view .sizes) (D .view .head) new 1 (λ i l.
                 let e : i ≡ 0 = omega arith in

@@ -26,7 +26,7 @@ use Rattle.masks.proofs.Counts.{count-lines-none}
 use Rattle.state.specs.declared.State.{State}
 use Rattle.state.specs.declared.Op.the-variants.{Consolidate}
 use Rattle.state.specs.Held.{heldAt}
-use Rattle.state.specs.Operations.{slotFor, slotted, copyCount, live}
+use Rattle.state.specs.Operations.{slotFor, slotted, copyCount}
 use Rattle.state.specs.Validity.{stateOk}
 use Rattle.stores.specs.Consolidate.{pageSlot, copyTo, copyStoreCount, consolidateAt, consolidateValue}
 use Rattle.stores.specs.Frames.{otherFrame}
@@ -34,7 +34,7 @@ use Rattle.transactions.specs.Recall.{frameOf}
 use Rattle.refinement.specs.Reference.{Reference}
 use Rattle.refinement.proofs.Invariant.{TakenOnly, Durable, holds}
 use Rattle.refinement.proofs.Copies.{copy-apart, others-apart}
-use Rattle.refinement.proofs.PageSlots.{slotted-of}
+use Rattle.stores.proofs.PageSlots.{slotted-of}
 use Rattle.refinement.proofs.ConsolidateStores.{lineOf, copied-line, Part, line, page, freeing, value-page}
 use Rattle.refinement.proofs.ConsolidateSlot.{Freed, at-line′, at-page′, at-freeing′, in-image, words-differ, value-kept, value-low}
 use Rattle.refinement.proofs.Stepping.{Aside, Mid, aside-before, store-fits}
@@ -46,7 +46,7 @@ held-other st p F w q l low h e =
     let n : heldAt (st .writers .held) w (slotFor st q) ≡ 0 = ap (λ (x : ℕ). heldAt (st .writers .held) w (slotFor st x)) e ∙ F .none-held w low in
     contradicts m (ap (λ (x : ℕ). inMask x l) n ∙ in-none l)
 
-module _ (past : List ℕ) (st : State) (img : List ℕ) (b : Reference) (valid : stateOk st ≡ true) (D : Durable past st img b) (p : ℕ) (F : Freed st p) (room : live st + 1 ≤ st .sizes .places) where
+module _ (past : List ℕ) (st : State) (img : List ℕ) (b : Reference) (valid : stateOk st ≡ true) (D : Durable past st img b) (p : ℕ) (F : Freed st p) where
   abbrev t : Slot
   t = pageSlot st p
 
@@ -95,7 +95,7 @@ module _ (past : List ℕ) (st : State) (img : List ℕ) (b : Reference) (valid 
       let z : Sizes = st .sizes in
       let v : View = D .view in
       let q : position (v .sizes) (v .head) 0 ≡ st .head = pos-none (v .sizes) (v .head) (D .mounts .positions .head-low) ∙ D .head-same in
-      let n : liveCount (v .sizes) (v .head) (v .tail) + 0 < v .sizes .places = rw (D .sizes-same, D .head-same, D .tail-same) (omega arith) in
+      let n : liveCount (v .sizes) (v .head) (v .tail) + 0 < v .sizes .places = rw (D .sizes-same, D .head-same, D .tail-same) (omega (arith, F .room)) in
       let dead : Dead v (recordWord (v .sizes) (position (v .sizes) (v .head) 0) + k) = dead-new v (D .mounts .legal) (D .mounts .positions) 0 k n l in
       aside-before past st img b D (Consolidate p) (recordWord z (st .head) + k) (omega (arith, place-lt z (F .ranges .legal) (st .head)))
       (subst (λ (x : ℕ). Dead v (recordWord z x + k)) q (subst (λ (y : Sizes). Dead v (recordWord y (position (v .sizes) (v .head) 0) + k)) (D .sizes-same) dead))

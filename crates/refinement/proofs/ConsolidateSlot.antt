@@ -1,35 +1,30 @@
 -- The slot that a consolidation frees: it owns the page, its two frames differ, no writer holds a line of it; and what that says of the
 -- stores: they lie in the image, no two go to one word, none goes to a word that another one's value is read from, and each value fits a word.
 use Prim.Native.Nat.{ℕ, _+_, _*_, _^_, _<_, _≤_}
-use mathlib.Core.Bool.{true, not}
+use mathlib.Core.Bool.{true}
 use mathlib.Core.List.{List}
-use mathlib.Core.Logic.{⊎-elim}
 use mathlib.Core.Path.{_≡_, sym, ap, _∙_}
 use native.Mathlib.Omega.{arith}
-use lib.Dec.{eqb}
 use lib.ListN.{length}
-use borrow.Author.Tests.{ltb-true, eqb-true, not-false}
-use Rattle.bounded.proofs.Below.{all-at, none-at}
+use borrow.Author.Tests.{ltb-true}
 use Rattle.bounded.proofs.Tests.{caseOn}
-use Rattle.layout.specs.declared.Sizes.{Sizes}
 use Rattle.layout.specs.Layout.{Legal, frames, pageWord, recordWord, lineWord, imageLength}
 use Rattle.words.specs.Words.{store, Bytes}
 use Rattle.layout.proofs.LayoutLaws.{place-lt, line-apart}
 use Rattle.words.proofs.WordLaws.{word-lt, word-store-other}
 use Rattle.journal.specs.declared.Slot.{Slot}
-use Rattle.journal.specs.Slots.{shaped}
 use Rattle.journal.specs.Records.{wordOfRecord}
-use Rattle.journal.specs.Table.{slotIn}
-use Rattle.journal.proofs.SlotWords.{Owning, Free, shape, record-word-lt}
+use Rattle.journal.proofs.Tables.{Sixteen}
+use Rattle.journal.proofs.SlotWords.{Owning, record-word-lt}
 use Rattle.state.specs.declared.State.{State}
-use Rattle.state.specs.Held.{heldAt, someHold}
-use Rattle.state.specs.Operations.{Ranged, slotFor, copyCount}
+use Rattle.state.specs.Held.{heldAt}
+use Rattle.state.specs.Operations.{Ranged, live, slotFor, copyCount}
 use Rattle.state.specs.Validity.{stateOk}
 use Rattle.state.proofs.Ranged.{ranged}
 use Rattle.state.proofs.Taken.{ConsolidateTaken}
 use Rattle.stores.specs.Consolidate.{pageSlot, isFew, copyTo, copyFrom, copyStoreCount, freeingRecord, consolidateAt, consolidateValue}
-use Rattle.refinement.proofs.Valid.{valid-parts, good}
-use Rattle.refinement.proofs.PageSlots.{slot-page}
+use Rattle.stores.proofs.ConsolidateValid.{slot-low, slot-page, slot-owns, unheld}
+use Rattle.stores.proofs.Valid.{parts}
 use Rattle.refinement.proofs.ConsolidateStores.{lineOf, copied-line, copied-apart, Part, line, page, freeing, at-line, at-page, at-freeing, value-line, value-page, value-freeing}
 
 module _ (st : State) (p : ℕ) where
@@ -41,28 +36,31 @@ module _ (st : State) (p : ℕ) where
     pub page-low : p < st .sizes .pages
     pub slot-low : slotFor st p < st .sizes .slots
     pub page-is : pageSlot st p .page ≡ p
-    pub owning : Owning (st .sizes) (pageSlot st p)
     pub to-low : copyTo (pageSlot st p) < frames (st .sizes)
     pub from-low : copyFrom (pageSlot st p) < frames (st .sizes)
     pub apart : copyTo (pageSlot st p) ≡ copyFrom (pageSlot st p) → ⊥
     pub none-held : (w : ℕ) → w < 4 → heldAt (st .writers .held) w (slotFor st p) ≡ 0
+    pub room : live st + 1 ≤ st .sizes .places
 
-  pub freed : stateOk st ≡ true → ConsolidateTaken st p → Freed
-  unfolding someHold
-  freed valid h =
-      let z : Sizes = st .sizes in
-      let r : Ranged st = ranged st (valid-parts st valid .slots) (valid-parts st valid .next-low) in
-      let low : slotFor st p < z .slots = ltb-true (slotFor st p) (z .slots) (h .has-slot) in
-      let e : t .page ≡ p = slot-page z (st .table) p low in
-      let o : Owning z t =
-      ⊎-elim (λ (q : Owning z t). q)
-      (λ (q : Free z t). absurd (omega (arith, q .page-none, e, h .page-low, r .legal .pages-high)))
-      (shape z t (all-at (λ s. shaped z (slotIn (st .table) s)) (z .slots) (slotFor st p) low (good st valid .shapes))) in
-      let held : (w : ℕ) → w < 4 → heldAt (st .writers .held) w (slotFor st p) ≡ 0 =
-      λ w l. eqb-true (heldAt (st .writers .held) w (slotFor st p)) 0 (not-false (eqb (heldAt (st .writers .held) w (slotFor st p)) 0) (none-at (λ v. not (eqb (heldAt (st .writers .held) v (slotFor st p)) 0)) 4 w l (h .none-held))) in
+  pub freed : stateOk st ≡ true → Sixteen (st .table) → ConsolidateTaken st p → Freed
+  freed valid full h =
+      let o : Owning (st .sizes) t = slot-owns st p valid full h in
+      let made : copyTo t < frames (st .sizes) → copyFrom t < frames (st .sizes) → (copyTo t ≡ copyFrom t → ⊥) → Freed =
+      λ to from apart.
+      record {
+        ranges = ranged st (parts st valid .slots) (ltb-true (st .next) (st .sizes .slots) (parts st valid .next));
+        page-low = h .page-low;
+        slot-low = slot-low st p valid full h;
+        page-is = slot-page st p valid full h;
+        to-low = to;
+        from-low = from;
+        apart = apart;
+        none-held = unheld st p valid full h;
+        room = h .fits;
+      } in
       caseOn (isFew t)
-      (λ f. record { ranges = r; page-low = h .page-low; slot-low = low; page-is = e; owning = o; to-low = rw f (o .original-low); from-low = rw f (o .spare-low); apart = rw f (o .apart); none-held = held })
-      (λ f. record { ranges = r; page-low = h .page-low; slot-low = low; page-is = e; owning = o; to-low = rw f (o .spare-low); from-low = rw f (o .original-low); apart = rw f (λ q. o .apart (sym q)); none-held = held })
+      (λ f. made (rw f (o .original-low)) (rw f (o .spare-low)) (rw f (o .apart)))
+      (λ f. made (rw f (o .spare-low)) (rw f (o .original-low)) (rw f (λ q. o .apart (sym q))))
 
   -- ---- the stores before the one to head
 

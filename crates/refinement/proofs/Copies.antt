@@ -1,6 +1,6 @@
 -- The copies of lines that the image keeps. The state's slots name the same frames as those that a mount finds, so the committed
--- copies and the writers' own lie in frames of their own, and a store to one copy leaves the others alone.
-use Prim.Native.Nat.{ℕ, _+_, _*_, _<_, _≤_}
+-- copies and the writers' own lie in frames of their own.
+use Prim.Native.Nat.{ℕ, _+_, _<_, _≤_}
 use mathlib.Core.Bool.{true}
 use mathlib.Core.List.{List, _++_}
 use mathlib.Core.Logic.{⊎-elim}
@@ -10,33 +10,29 @@ use lib.Dec.{ltb}
 use lib.ListN.{length}
 use borrow.Author.Tests.{ltb-true, lt-ltb, le-ltb}
 use Rattle.bounded.specs.Count.{Once}
-use Rattle.bounded.specs.Tab.{tab}
 use Rattle.bounded.proofs.Tab.{tab-ext}
 use Rattle.bounded.proofs.Tests.{caseOn}
 use Rattle.layout.specs.declared.Sizes.{Sizes}
-use Rattle.layout.specs.Layout.{Legal, frames, pageWord, frameWord, lineWord, imageLength}
-use Rattle.image.specs.Lines.{lineBytes}
-use Rattle.words.specs.Words.{Bytes, word, store}
-use Rattle.layout.proofs.LayoutLaws.{line-apart}
-use Rattle.image.proofs.LineLaws.{line-ext}
-use Rattle.words.proofs.WordLaws.{word-store-other, length-store, bytes-store}
+use Rattle.layout.specs.Layout.{Legal, frames, pageWord, imageLength}
+use Rattle.words.specs.Words.{word}
 use Rattle.journal.specs.declared.Slot.{Slot}
 use Rattle.journal.specs.declared.Table.{Table}
 use Rattle.journal.specs.Slots.{noPage}
 use Rattle.journal.specs.Table.{slotIn, slotOf, homeOf, frameNames, pagesApart}
-use Rattle.journal.proofs.View.{View, Shows, shown, table-shown, slot-none}
-use Rattle.journal.proofs.Verdict.{namesIn}
+use Rattle.journal.proofs.View.{slot-none}
 use Rattle.masks.proofs.Members.{in-none}
 use Rattle.state.specs.declared.State.{State}
 use Rattle.state.specs.Operations.{slotFor}
 use Rattle.state.specs.Validity.{stateOk}
 use Rattle.stores.specs.Frames.{committedFrame, otherFrame}
+use Rattle.stores.proofs.NamesOnce.{spare-low}
+use Rattle.stores.proofs.PageSlots.{slot-page, slot-is, slotted-of}
 use Rattle.transactions.specs.Recall.{frameOf}
+use Rattle.transactions.proofs.Mounted.{view-names}
 use Rattle.refinement.specs.Reference.{Reference}
 use Rattle.refinement.proofs.Invariant.{TakenOnly, Behind, Durable}
 use Rattle.refinement.proofs.Valid.{good, legal-sizes}
-use Rattle.refinement.proofs.PageSlots.{slot-page, slot-is, slotted-of}
-use Rattle.refinement.proofs.Names.{Owned, spare-low, owned-low, owned-apart, spare-unowned, committed-owned, other-owned, copies-apart}
+use Rattle.refinement.proofs.Names.{Owned, owned-low, owned-apart, spare-unowned, committed-owned, other-owned, copies-apart}
 
 -- ---- the state's table t and the one d that a mount finds name the same frames
 
@@ -102,15 +98,6 @@ module _ (r : ℕ → ℕ) (z : Sizes) (d t : Table) (legal : Legal z) (d-apart 
       (tab-ext (z .slots) (λ s. slotIn t s .spare) (λ s. slotIn d s .spare) spare-kept)
       (tab-ext (z .pages) (homeOf r z t) (homeOf r z d) (λ p l. home-kept p (page-kept p l)))
 
--- ---- the names in a view are those of its table
-
-pub view-names : (img : List ℕ) (v : View) → Shows img v → namesIn v ≡ frameNames (word img) (v .sizes) (v .table)
-unfolding frameNames
-view-names img v shows =
-    let e : v .homes ≡ tab (v .sizes .pages) (homeOf (word img) (v .sizes) (v .table)) =
-    ap (λ (u : View). u .homes) (shown img v shows) ∙ ap (λ (t : Table). tab (v .sizes .pages) (homeOf (word img) (v .sizes) t)) (sym (table-shown img v shows)) in
-    ap (λ (l : List ℕ). tab (v .sizes .slots) (λ s. slotIn (v .table) s .spare) ++ l) e
-
 -- ---- of a valid state and its image
 
 module _ {past : List ℕ} (st : State) (img : List ℕ) {b : Reference} (valid : stateOk st ≡ true) (D : Durable past st img b) where
@@ -154,24 +141,13 @@ module _ {past : List ℕ} (st : State) (img : List ℕ) {b : Reference} (valid 
 
   -- ---- in range
 
-  pub frame-low : (p l : ℕ) → p < st .sizes .pages → frameOf (word img) (st .sizes) (st .table) p l < frames (st .sizes)
-  frame-low p l h = in-range p _ h (committed-in p l)
-
   pub other-low : (p l : ℕ) → p < st .sizes .pages → slotFor st p < st .sizes .slots → otherFrame (slotIn (st .table) (slotFor st p)) l < frames (st .sizes)
   other-low p l h m = in-range p _ h (other-in p l m)
 
   pub slot-spare-low : (s : ℕ) → s < st .sizes .slots → slotIn (st .table) s .spare < frames (st .sizes)
-  slot-spare-low = spare-low (word img) (st .sizes) (st .table) (legal-sizes st valid) names-once
+  slot-spare-low = spare-low (word img) (st .sizes) (st .table) names-once
 
   -- ---- apart: the frames of line l of page p and line m of page q
-
-  pub frames-apart : (p l q m : ℕ) → p < st .sizes .pages → q < st .sizes .pages → (p ≡ q → ⊥)
-      → frameOf (word img) (st .sizes) (st .table) p l ≡ frameOf (word img) (st .sizes) (st .table) q m → ⊥
-  frames-apart p l q m h k n e = n (same-owner p q _ _ h k (committed-in p l) (committed-in q m) e)
-
-  pub other-apart : (p l q m : ℕ) → p < st .sizes .pages → q < st .sizes .pages → slotFor st p < st .sizes .slots → (p ≡ q → ⊥)
-      → otherFrame (slotIn (st .table) (slotFor st p)) l ≡ frameOf (word img) (st .sizes) (st .table) q m → ⊥
-  other-apart p l q m h k s n e = n (same-owner p q _ _ h k (other-in p l s) (committed-in q m) e)
 
   pub others-apart : (p l q m : ℕ) → p < st .sizes .pages → q < st .sizes .pages → slotFor st p < st .sizes .slots → slotFor st q < st .sizes .slots → (p ≡ q → ⊥)
       → otherFrame (slotIn (st .table) (slotFor st p)) l ≡ otherFrame (slotIn (st .table) (slotFor st q)) m → ⊥
@@ -193,22 +169,3 @@ module _ {past : List ℕ} (st : State) (img : List ℕ) {b : Reference} (valid 
   pub free-other-apart : (s q m : ℕ) → s < st .sizes .slots → slotIn (st .table) s .page ≡ noPage → q < st .sizes .pages → slotFor st q < st .sizes .slots
       → slotIn (st .table) s .spare ≡ otherFrame (slotIn (st .table) (slotFor st q)) m → ⊥
   free-other-apart s q m l f k u e = free-unowned s q _ l k f (other-in q m u) e
-
--- ---- a store leaves the lines alone that it does not lie in
-
-module _ (img : List ℕ) (z : Sizes) (a v : ℕ) (bytes : Bytes img) (whole : imageLength z ≤ length img) (fits : 8 * a + 8 ≤ length img) where
-  pub line-kept : (g m : ℕ) → g < frames z → m < 64 → ((k : ℕ) → k < 8 → a ≡ lineWord z g m + k → ⊥) → lineBytes (store img a v) z g m ≡ lineBytes img z g m
-  line-kept g m h l n =
-      line-ext (store img a v) img z g m g m (bytes-store img a v bytes) bytes h l h l (omega (arith, length-store img a v fits)) whole
-      (λ k p. word-store-other img a v (lineWord z g m + k) fits (n k p))
-
-  -- a store before the frames
-  pub line-kept-before : (g m : ℕ) → g < frames z → m < 64 → a < frameWord z → lineBytes (store img a v) z g m ≡ lineBytes img z g m
-  line-kept-before g m h l n = line-kept g m h l (λ k p e. omega arith)
-
--- a store to word k of line l of frame f
-pub line-kept-other : (img : List ℕ) (z : Sizes) (f l k v : ℕ) → Bytes img → imageLength z ≤ length img → f < frames z → l < 64 → k < 8
-    → (g m : ℕ) → g < frames z → m < 64 → (f ≡ g → l ≡ m → ⊥) → lineBytes (store img (lineWord z f l + k) v) z g m ≡ lineBytes img z g m
-line-kept-other img z f l k v bytes whole f-low l-low k-low g m h n apart =
-    line-kept img z (lineWord z f l + k) v bytes whole (omega arith) g m h n
-    (λ j p e. let w = line-apart z f l k g m j l-low n k-low p e in apart (w .0) (w .1))

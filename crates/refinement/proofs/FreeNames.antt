@@ -29,8 +29,8 @@ use Rattle.journal.proofs.SlotWords.{free-shaped}
 use Rattle.journal.proofs.Tables.{Sixteen}
 use Rattle.stores.specs.Frames.{committedFrame}
 use Rattle.transactions.specs.Recall.{frameOf}
-use Rattle.refinement.proofs.Names.{name-spare, name-home}
-use Rattle.refinement.proofs.PageSlots.{slot-page, unslotted-of, apart-at}
+use Rattle.stores.proofs.NamesOnce.{name-spare, name-home}
+use Rattle.stores.proofs.PageSlots.{slot-page, unslotted-of, apart-at}
 
 -- the first that passes is found by the test's values alone
 first-ext : (f g : ℕ → Bool) (n : ℕ) → ((i : ℕ) → i < n → f i ≡ g i) → firstBelow n f ≡ firstBelow n g

@@ -1,16 +1,13 @@
 pub mod Invariant
 pub mod Valid
-pub mod PageSlots
 pub mod Names
 pub mod Copies
-pub mod Underway
 pub mod Sound
 pub mod Keeps
 pub mod Begin
 pub mod Abort
 pub mod Seen
 pub mod ReadCall
-pub mod MountValid
 pub mod Mounted
 pub mod MountCall
 pub mod RecallCall
@@ -41,4 +38,5 @@ pub mod CommitMid
 pub mod StepCommit
 pub mod CheckpointRoom
 pub mod StepCall
+pub mod CommitWhole
 pub mod Theorem

@@ -1,5 +1,5 @@
 -- A state just mounted: it is what the image shows, no writer is open and nothing is pending.
-use Prim.Native.Nat.{ℕ, _<_}
+use Prim.Native.Nat.{ℕ, _+_, _*_, _<_}
 use mathlib.Core.Bool.{Bool, false, _&&_, and-false}
 use mathlib.Core.List.{List}
 use mathlib.Core.Logic.{inl}
@@ -10,17 +10,19 @@ use Rattle.bounded.proofs.Tests.{contradicts}
 use Rattle.layout.specs.Layout.{imageLength}
 use Rattle.image.specs.Lines.{lineBytes}
 use Rattle.words.specs.Words.{Bytes, word}
+use Rattle.journal.proofs.Tables.{one-value}
 use Rattle.journal.proofs.Verdict.{Taken}
 use Rattle.journal.proofs.View.{View, Shows}
 use Rattle.masks.specs.Lines.{inMask}
 use Rattle.masks.proofs.Members.{in-none}
 use Rattle.state.specs.declared.State.{State}
+use Rattle.state.specs.Held.{heldAt}
 use Rattle.state.specs.Operations.{slotFor, slotted}
-use Rattle.transactions.specs.Mount.{quietState}
+use Rattle.transactions.specs.Mount.{quietState, allClosed}
 use Rattle.transactions.specs.Recall.{frameOf}
+use Rattle.transactions.proofs.Mounted.{mount-valid, view-sixteen}
 use Rattle.refinement.specs.Reference.{Reference, none, idle, recallLine}
 use Rattle.refinement.proofs.Invariant.{Quiet, holds}
-use Rattle.refinement.proofs.MountValid.{mounted-valid, view-sixteen, none-held}
 
 abbrev pub stateOf : View → State
 stateOf v = quietState (v .sizes) (v .head) (v .tail) (v .table)
@@ -29,6 +31,9 @@ stateOf v = quietState (v .sizes) (v .head) (v .tail) (v .table)
 abbrev pub Committed : List ℕ → View → Reference → Type 0
 Committed img v b =
     (p l : ℕ) → p < v .sizes .pages → l < 64 → lineBytes img (v .sizes) (frameOf (word img) (v .sizes) (v .table) p l) l ≡ recallLine b p l
+
+none-held : (w s : ℕ) → heldAt (allClosed .held) w s ≡ 0
+none-held w s = one-value 64 (16 * w + s) 0
 
 none-holds : (v : View) (w p l : ℕ) → holds (stateOf v) w p l ≡ false
 none-holds v w p l =
@@ -40,7 +45,7 @@ pub mounted-quiet : {past : List ℕ} (img : List ℕ) (v : View) (b : Reference
     → Committed img v b → ((w p l i : ℕ) → b .writes w p l i ≡ none) → b .work ≡ idle → Quiet past (stateOf v) img b
 mounted-quiet img v b bytes past shows taken committed none-written work =
     record {
-      valid = mounted-valid img v shows taken;
+      valid = mount-valid img v shows taken;
       pending = refl;
       durable =
           record {
@@ -52,7 +57,7 @@ mounted-quiet img v b bytes past shows taken committed none-written work =
             sizes-same = refl;
             head-same = refl;
             tail-same = refl;
-            behind = record { sixteen = view-sixteen img v shows taken; last-same = λ s l. refl; slot-same = λ s l. inl refl };
+            behind = record { sixteen = view-sixteen img v shows; last-same = λ s l. refl; slot-same = λ s l. inl refl };
             committed = committed;
           };
       writers =

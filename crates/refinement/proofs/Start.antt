@@ -22,8 +22,8 @@ use Rattle.transactions.specs.Calls.{worldOf}
 use Rattle.transactions.specs.Mount.{freshState, formatCall}
 use Rattle.transactions.specs.Recall.{frameOf}
 use Rattle.transactions.specs.Run.{formattedWorld}
+use Rattle.transactions.proofs.Mounted.{view-names}
 use Rattle.refinement.specs.Reference.{blank}
-use Rattle.refinement.proofs.Copies.{view-names}
 use Rattle.refinement.proofs.Invariant.{Quiet}
 use Rattle.refinement.proofs.Mounted.{Committed, mounted-quiet}
 use Rattle.refinement.proofs.Names.{owned-low, committed-owned}

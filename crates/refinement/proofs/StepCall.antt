@@ -14,32 +14,29 @@ use Rattle.state.specs.declared.Op.{Op}
 use Rattle.state.specs.declared.Op.the-variants.{Idle, Write, Commit, Consolidate, Checkpoint}
 use Rattle.state.specs.Operations.{needs}
 use Rattle.stores.specs.Stores.{World, completed, stepped, steppedBy, left}
+use Rattle.stores.proofs.Pending.{pends}
 use Rattle.transactions.specs.Calls.{stepRows, stepRow, stepOf, stepBytes, runOf, runBytes, worldOf}
 use Rattle.transactions.specs.Run.{step, run, exec}
 use Rattle.refinement.specs.Reference.{Reference, Task, Work, idle, under, writing, committing, nothing, withWork, continues, advances}
 use Rattle.refinement.proofs.Invariant.{Doing, Busy, Related}
 use Rattle.refinement.proofs.Sound.{Sound, answered-after, is-busy, busy-pending}
 use Rattle.refinement.proofs.StepCheckpoint.{step-checkpoint}
+use Rattle.refinement.proofs.StepCommit.{step-commit}
 use Rattle.refinement.proofs.StepConsolidate.{step-consolidate}
 use Rattle.refinement.proofs.StepWrite.{step-write}
-use Rattle.refinement.proofs.Underway.{underway}
 
 -- ---- one store of the pending operation
 
--- the step lemma of one operation
-abbrev pub Steps : Op → Type 0
-Steps op = (past : List ℕ) (st : State) (img : List ℕ) (b : Reference) → Busy past st img b → st .pending .op ≡ op → Related past (stepped (worldOf st img)) (advances 1 (b .work) b)
+module _ (past : List ℕ) (st : State) (img : List ℕ) (b : Reference) (B : Busy past st img b) where
+  step-of : (op : Op) → st .pending .op ≡ op → Related past (stepped (worldOf st img)) (advances 1 (b .work) b)
+  step-of Idle e = absurd (subst (Doing st img b) e (B .doing))
+  step-of (Write w p l o n) e = step-write past st img b B w p l o n e
+  step-of (Commit w) e = step-commit past st img b B w e
+  step-of (Consolidate p) e = step-consolidate past st img b B p e
+  step-of Checkpoint e = step-checkpoint past st img b B e
 
-module _ (step-commit : (w : ℕ) → Steps (Commit w)) where
-  steps : (op : Op) → Steps op
-  steps Idle past st img b B e = absurd (subst (Doing st img b) e (B .doing))
-  steps (Write w p l o n) past st img b B e = step-write past st img b B w p l o n e
-  steps (Commit w) past st img b B e = step-commit w past st img b B e
-  steps (Consolidate p) past st img b B e = step-consolidate past st img b B p e
-  steps Checkpoint past st img b B e = step-checkpoint past st img b B e
-
-  one-store : (past : List ℕ) (st : State) (img : List ℕ) (b : Reference) → Busy past st img b → Related past (stepped (worldOf st img)) (advances 1 (b .work) b)
-  one-store past st img b B = steps (st .pending .op) past st img b B refl
+  one-store : Related past (stepped (worldOf st img)) (advances 1 (b .work) b)
+  one-store = step-of (st .pending .op) refl
 
 -- it keeps the sizes
 completed-sizes : (st : State) (op : Op) → completed st op .sizes ≡ st .sizes
@@ -98,7 +95,7 @@ one-advance t m b l =
     let e : m - min 1 m ≡ m - 1 = omega arith in
     ap (λ (k : ℕ). continues t k (withWork (under t m) b)) e ∙ continues-work t (m - 1) (under t m) b
 
-module _ (step-commit : (w : ℕ) → Steps (Commit w)) (past : List ℕ) (b : Reference) (t : Task) (m : ℕ) (v : World) (some : 0 < m) (work : b .work ≡ under t m) (h : Related past v b) where
+module _ (past : List ℕ) (b : Reference) (t : Task) (m : ℕ) (v : World) (some : 0 < m) (work : b .work ≡ under t m) (h : Related past v b) where
   -- after n of the m stores that are left
   many : (n : ℕ) → n ≤ m → Related past (steppedBy n v) (continues t (m - n) b)
   unfolding steppedBy upTo
@@ -112,43 +109,42 @@ module _ (step-commit : (w : ℕ) → Steps (Commit w)) (past : List ℕ) (b : R
       let now : Reference = withWork (under t (m - n)) b in
       let r : Related past u now = subst (Related past u) (continues-on t (m - n) b left) (many n (omega arith)) in
       let B : Busy past (u .st) (u .image) now = ⊎-elim (λ q. absurd (idle-apart t (m - n) (now .work) refl (q .work))) (λ q. q) r in
-      subst (Related past (stepped u)) (one-advance t (m - n) b left ∙ ap (λ (k : ℕ). continues t k b) e) (one-store step-commit past (u .st) (u .image) now B)
+      subst (Related past (stepped u)) (one-advance t (m - n) b left ∙ ap (λ (k : ℕ). continues t k b) e) (one-store past (u .st) (u .image) now B)
 
 -- ---- the calls
 
-module _ (step-commit : (w : ℕ) → Steps (Commit w)) where
-  pub step-sound : {past : List ℕ} (v : World) (b : Reference) → Related past v b → Sound past step v b
-  unfolding exec stepOf stepBytes
-  step-sound {past = past} v b h =
-      let st = v .st in
-      let img = v .image in
-      let a =
-      answered-after step v b (stepRow st img) 1 (stepped (worldOf st img) .st) (stepped (worldOf st img) .image) h
-      (λ e.
-      let rows = none-apply (stepRows st img) (omega arith) e in
-      record { sizes = stepped-sizes (worldOf st img); related = one-store step-commit past st img b (is-busy st img b h (rows .1 .1 .0)) }) in
-      record { right = tt; sizes = a .sizes; related = a .related }
+pub step-sound : {past : List ℕ} (v : World) (b : Reference) → Related past v b → Sound past step v b
+unfolding exec stepOf stepBytes
+step-sound {past = past} v b h =
+    let st = v .st in
+    let img = v .image in
+    let a =
+    answered-after step v b (stepRow st img) 1 (stepped (worldOf st img) .st) (stepped (worldOf st img) .image) h
+    (λ e.
+    let rows = none-apply (stepRows st img) (omega arith) e in
+    record { sizes = stepped-sizes (worldOf st img); related = one-store past st img b (is-busy st img b h (rows .1 .1 .0)) }) in
+    record { right = tt; sizes = a .sizes; related = a .related }
 
-  run-related : {past : List ℕ} (k : ℕ) (v : World) (b : Reference) → Busy past (v .st) (v .image) b → Related past (steppedBy (min k (left (v .st))) v) (advances k (b .work) b)
-  run-related {past = past} k v b B =
-      let st = v .st in
-      let x = doing-work st (v .image) b (st .pending .op) (B .doing) in
-      let t : Task = x .0 in
-      let m : ℕ = left st in
-      let work : b .work ≡ under t m = x .1 in
-      let low = underway st (B .valid) (busy-pending st (v .image) b B) .some-left in
-      let r : Related past (steppedBy (min k m) v) (continues t (m - min k m) b) = many step-commit past b t m v (omega (arith, low)) work (inr B) (min k m) (omega arith) in
-      subst (λ (w : Work). Related past (steppedBy (min k m) v) (advances k w b)) (sym work) r
+pub run-related : {past : List ℕ} (k : ℕ) (v : World) (b : Reference) → Busy past (v .st) (v .image) b → Related past (steppedBy (min k (left (v .st))) v) (advances k (b .work) b)
+run-related {past = past} k v b B =
+    let st = v .st in
+    let x = doing-work st (v .image) b (st .pending .op) (B .doing) in
+    let t : Task = x .0 in
+    let m : ℕ = left st in
+    let work : b .work ≡ under t m = x .1 in
+    let low = pends st (st .pending .op) (B .valid) refl (busy-pending st (v .image) b B) .made-low in
+    let r : Related past (steppedBy (min k m) v) (continues t (m - min k m) b) = many past b t m v (omega (arith, low)) work (inr B) (min k m) (omega arith) in
+    subst (λ (w : Work). Related past (steppedBy (min k m) v) (advances k w b)) (sym work) r
 
-  pub run-sound : {past : List ℕ} (k : ℕ) (v : World) (b : Reference) → Related past v b → Sound past (run k) v b
-  unfolding exec runOf runBytes
-  run-sound {past = past} k v b h =
-      let st = v .st in
-      let img = v .image in
-      let n : ℕ = min k (left st) in
-      let a =
-      answered-after (run k) v b (stepRow st img) n (steppedBy n (worldOf st img) .st) (steppedBy n (worldOf st img) .image) h
-      (λ e.
-      let rows = none-apply (stepRows st img) (omega arith) e in
-      record { sizes = steppedBy-sizes n (worldOf st img); related = run-related k v b (is-busy st img b h (rows .1 .1 .0)) }) in
-      record { right = tt; sizes = a .sizes; related = a .related }
+pub run-sound : {past : List ℕ} (k : ℕ) (v : World) (b : Reference) → Related past v b → Sound past (run k) v b
+unfolding exec runOf runBytes
+run-sound {past = past} k v b h =
+    let st = v .st in
+    let img = v .image in
+    let n : ℕ = min k (left st) in
+    let a =
+    answered-after (run k) v b (stepRow st img) n (steppedBy n (worldOf st img) .st) (steppedBy n (worldOf st img) .image) h
+    (λ e.
+    let rows = none-apply (stepRows st img) (omega arith) e in
+    record { sizes = steppedBy-sizes n (worldOf st img); related = run-related k v b (is-busy st img b h (rows .1 .1 .0)) }) in
+    record { right = tt; sizes = a .sizes; related = a .related }

@@ -35,7 +35,7 @@ use Rattle.refinement.proofs.CheckpointMid.{recorded, slot-stored, at-s
 use Rattle.refinement.proofs.HeaderStore.{header-fits, header-page, header-line, header-copy}
 use Rattle.refinement.proofs.Stepping.{durable-legal, durable-fits, needs-made, step-mid}
 use Rattle.refinement.proofs.StepLast.{step-last}
-use Rattle.refinement.proofs.Underway.{underway}
+use Rattle.stores.proofs.Pending.{pends}
 
 -- ---- the last store, with those before it landed
 
@@ -123,7 +123,7 @@ module _ (past : List ℕ) (st : State) (img : List ℕ) (b : Reference) (B : Bu
   m = st .pending .made
 
   few-made : m < needs st Checkpoint
-  few-made = subst (λ (o : Op). m < needs st o) is (underway st (B .valid) (ap isIdle is) .some-left)
+  few-made = subst (λ (o : Op). m < needs st o) is (pends st (st .pending .op) (B .valid) refl (ap isIdle is) .made-low)
 
   needed : needs st Checkpoint ≡ 3 * recorded st + 1
   unfolding needs

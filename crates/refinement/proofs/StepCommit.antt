@@ -3,7 +3,6 @@
 use Prim.Native.Nat.{ℕ, _+_, _*_, _/_, _%_, _^_, _<_, _≤_}
 use mathlib.Core.Bool.{true, false}
 use mathlib.Core.List.{List}
-use mathlib.Core.Logic.{inl}
 use mathlib.Core.Path.{_≡_, refl, sym, ap, ap₂, _∙_, subst}
 use native.Mathlib.Omega.{arith}
 use lib.Dec.{ltb, eqb}
@@ -19,24 +18,23 @@ use Rattle.words.specs.Words.{word, store}
 use Rattle.words.proofs.WordLaws.{length-store, bytes-store, drop-store}
 use Rattle.journal.specs.declared.Record.{Record}
 use Rattle.journal.specs.declared.Table.{Table}
-use Rattle.journal.specs.Records.{position, wordOfRecord, liveRecord}
-use Rattle.journal.specs.Table.{slotIn, tableFrom, replay, frameNames}
+use Rattle.journal.specs.Records.{position, wordOfRecord}
+use Rattle.journal.specs.Table.{slotIn, replay, frameNames}
 use Rattle.journal.proofs.Append.{Appendable, Landed, appended, append-view, append-taken}
-use Rattle.journal.proofs.Latest.{sixteen-replay}
-use Rattle.journal.proofs.Tables.{Sixteen, sixteen-from}
+use Rattle.journal.proofs.Tables.{Sixteen}
 use Rattle.journal.proofs.Verdict.{Taken, namesIn}
-use Rattle.journal.proofs.View.{View, Shows, live, table-shown}
+use Rattle.journal.proofs.View.{View, Shows}
 use Rattle.masks.specs.Lines.{inMask}
 use Rattle.state.specs.declared.State.{State}
 use Rattle.state.specs.declared.Op.{Op}
 use Rattle.state.specs.declared.Op.the-variants.{Commit}
 use Rattle.state.specs.Held.{heldAt}
-use Rattle.state.specs.Operations.{slotFor, slotted, needs, isIdle}
+use Rattle.state.specs.Operations.{slotFor, slotted, needs}
 use Rattle.state.specs.Validity.{stateOk}
 use Rattle.state.proofs.Taken.{CommitTaken}
 use Rattle.stores.specs.Commit.{commitRecord, commitAt, commitValue, commitTable}
 use Rattle.stores.specs.Frames.{otherFrame}
-use Rattle.stores.specs.Stores.{World, stepped, completed, storeAt, storeValue, storeMade}
+use Rattle.stores.specs.Stores.{stepped, completed, storeAt, storeValue, storeMade}
 use Rattle.stores.proofs.Closed.{closed-holds, others-hold, closed-opened-length, closed-held-length}
 use Rattle.stores.proofs.CommitValid.{commit-valid}
 use Rattle.stores.proofs.Pending.{pends}
@@ -49,8 +47,9 @@ use Rattle.refinement.proofs.CommitMid.{ownView, own-shows, own-mounts,
 use Rattle.refinement.proofs.CommitNames.{behind-shapes, behind-apart, behind-more, once-more}
 use Rattle.refinement.proofs.Copies.{names-once}
 use Rattle.refinement.proofs.HeaderStore.{header-fits, header-page, header-line, header-copy}
-use Rattle.refinement.proofs.Stepping.{durable-fits, behind-ext, step-ends, advance-ends}
-use Rattle.refinement.proofs.Underway.{underway}
+use Rattle.transactions.proofs.Mounted.{view-sixteen}
+use Rattle.refinement.proofs.Stepping.{durable-fits, behind-ext}
+use Rattle.refinement.proofs.StepLast.{step-last}
 use Rattle.refinement.proofs.Valid.{good}
 
 -- ---- what a mount finds once head is stored
@@ -78,9 +77,7 @@ module _ (past : List ℕ) (st : State) (img : List ℕ) (b : Reference) (ok : s
   whole = durable-fits past st img b D
 
   sixteen : Sixteen d
-  sixteen =
-      subst Sixteen (sym (table-shown img before (own-shows past st img b D)))
-      (sixteen-replay z (st .tail) (live before) (liveRecord (word img) z (st .tail)) (tableFrom (word img) z) (sixteen-from (word img) z))
+  sixteen = view-sixteen img (D .view) (D .shows)
 
   behind : Behind (word img) z (replay z (st .head) n new d) (commitTable st w)
   behind = behind-more (word img) z (st .head) n new d (st .table) legal sixteen (D .behind) (good st ok .pages) (commit-names st w)
@@ -252,14 +249,7 @@ module _ (past : List ℕ) (st : State) (img : List ℕ) (b : Reference) (B : Bu
   commit-quiet = record { valid = done-ok; pending = refl; durable = durable; writers = writers; work = refl }
 
   pub commit-ends : st .pending .made + 1 ≡ needs st (Commit w) → Related past (stepped (record { st = st; image = img })) (advances 1 (b .work) b)
-  commit-ends q =
-      let m : ℕ = st .pending .made in
-      let x : m + 1 ≡ needs st (st .pending .op) = q ∙ sym (ap (needs st) e) in
-      subst (λ (v : World). Related past v (advances 1 (b .work) b))
-      (sym (step-ends st img x ∙ ap (λ (o : Op). record { st = completed st o; image = storeMade st img o m }) e ∙ ap (λ (i : List ℕ). record { st = after; image = i }) image-is))
-      (subst (λ (c : Reference). Related past (record { st = after; image = image }) c)
-      (sym (advance-ends b (committing w) (needs st (Commit w)) m (commit-doing past st img b B w e) q))
-      (inl commit-quiet))
+  commit-ends q = step-last past st img b (Commit w) (committing w) image e (commit-doing past st img b B w e) q image-is commit-quiet
 
 -- one step of a pending commit
 pub step-commit : (past : List ℕ) (st : State) (img : List ℕ) (b : Reference) → Busy past st img b → (w : ℕ) → st .pending .op ≡ Commit w
@@ -267,7 +257,7 @@ pub step-commit : (past : List ℕ) (st : State) (img : List ℕ) (b : Reference
 step-commit past st img b B w e =
     let m : ℕ = st .pending .made in
     let k : ℕ = needs st (Commit w) in
-    let left : m < k = subst (λ (q : Op). m < needs st q) e (underway st (B .valid) (ap isIdle e) .some-left) in
+    let left : m < k = pends st (Commit w) (B .valid) e refl .made-low in
     caseOn (ltb (m + 1) k)
     (λ t. commit-on past st img b B w e (ltb-true (m + 1) k t))
     (λ t.

@@ -14,11 +14,9 @@ use Rattle.layout.specs.Layout.{headWord, imageLength}
 use Rattle.image.specs.Lines.{lineBytes}
 use Rattle.words.specs.Words.{word, store}
 use Rattle.journal.specs.declared.Slot.{Slot}
-use Rattle.journal.specs.Records.{position, liveRecord}
-use Rattle.journal.specs.Table.{slotIn, tableFrom}
-use Rattle.journal.proofs.Latest.{sixteen-replay}
-use Rattle.journal.proofs.Tables.{Sixteen, sixteen-from}
-use Rattle.journal.proofs.View.{View, Shows, live, table-shown}
+use Rattle.journal.specs.Records.{position}
+use Rattle.journal.specs.Table.{slotIn}
+use Rattle.journal.proofs.Tables.{Sixteen}
 use Rattle.masks.specs.Lines.{inMask}
 use Rattle.state.specs.declared.State.{State}
 use Rattle.state.specs.declared.Op.{Op}
@@ -31,6 +29,7 @@ use Rattle.stores.specs.Frames.{otherFrame}
 use Rattle.stores.specs.Stores.{stepped, completed, storeAt, storeValue, storeMade}
 use Rattle.stores.proofs.ConsolidateValid.{consolidate-valid}
 use Rattle.transactions.specs.Calls.{worldOf}
+use Rattle.transactions.proofs.Mounted.{view-sixteen}
 use Rattle.refinement.specs.Reference.{Reference, idle, under, nothing, withWork, advances}
 use Rattle.refinement.proofs.Invariant.{holds, Writing, Never, Changing, Doing, Quiet, Busy, Related}
 use Rattle.refinement.proofs.Copies.{image-fits}
@@ -42,13 +41,7 @@ use Rattle.refinement.proofs.FreeNames.{Frees, slot-gone, slot-kept, sl
 use Rattle.refinement.proofs.HeaderStore.{header-line}
 use Rattle.refinement.proofs.Stepping.{needs-made, step-mid}
 use Rattle.refinement.proofs.StepLast.{step-last}
-use Rattle.refinement.proofs.Underway.{Underway, underway}
-
--- a mount finds a table of 16 slots
-pub mounted-sixteen : (img : List ℕ) (v : View) → Shows img v → Sixteen (v .table)
-mounted-sixteen img v shows =
-    subst Sixteen (sym (table-shown img v shows))
-    (sixteen-replay (v .sizes) (v .tail) (live v) (liveRecord (word img) (v .sizes) (v .tail)) (tableFrom (word img) (v .sizes)) (sixteen-from (word img) (v .sizes)))
+use Rattle.stores.proofs.Pending.{Pends, pends}
 
 -- ---- the writers, when it is complete
 
@@ -115,24 +108,24 @@ module _ (past : List ℕ) (st : State) (img : List ℕ) (b : Reference) (B : Bu
   abbrev m : ℕ
   m = st .pending .made
 
-  under-way : Underway st
-  under-way = underway st (B .valid) (ap isIdle is)
+  under-way : Pends st (st .pending .op)
+  under-way = pends st (st .pending .op) (B .valid) refl (ap isIdle is)
 
   no-row : refusal (opRows st (Consolidate p) (st .pending .frame)) ≡ 0
-  no-row = subst (λ (o : Op). refusal (opRows st o (st .pending .frame)) ≡ 0) is (under-way .no-row)
+  no-row = subst (λ (o : Op). refusal (opRows st o (st .pending .frame)) ≡ 0) is (under-way .taken)
 
   taken : ConsolidateTaken st p
   taken = consolidate-taken st p no-row
 
   F : Freed st p
-  F = freed st p (B .valid) taken
+  F = freed st p (B .valid) (B .durable .behind .sixteen) taken
 
   needed : needs st (Consolidate p) ≡ copyStoreCount t + 6
   unfolding needs
   needed = refl
 
   some-left : m < copyStoreCount t + 6
-  some-left = subst (λ (n : ℕ). m < n) needed (subst (λ (o : Op). m < needs st o) is (under-way .some-left))
+  some-left = subst (λ (n : ℕ). m < n) needed (subst (λ (o : Op). m < needs st o) is (under-way .made-low))
 
   working : b .work ≡ under nothing (needs st (Consolidate p) - m)
   working = subst (Doing st img b) is (B .doing)
@@ -143,7 +136,7 @@ module _ (past : List ℕ) (st : State) (img : List ℕ) (b : Reference) (B : Bu
   goes-on : m < copyStoreCount t + 5 → Related past (stepped (worldOf st img)) (advances 1 (b .work) b)
   goes-on l =
       step-mid past st img b B nothing (Consolidate p) is refl working (omega (arith, needed))
-      (consolidate-mid past st img b (B .valid) (B .durable) p F (taken .fits) m (λ i h. part i (omega arith)))
+      (consolidate-mid past st img b (B .valid) (B .durable) p F m (λ i h. part i (omega arith)))
       (ap (λ (n : ℕ). under nothing (n - (m + 1))) (sym (needs-made st (m + 1) (Consolidate p))))
 
   abbrev after : List ℕ
@@ -157,7 +150,7 @@ module _ (past : List ℕ) (st : State) (img : List ℕ) (b : Reference) (B : Bu
       record {
         valid = consolidate-valid st p (B .valid) full no-row;
         pending = refl;
-        durable = consolidated-durable past st img b (B .valid) (B .durable) p F landed (taken .fits) (mounted-sixteen img (B .durable .view) (B .durable .shows));
+        durable = consolidated-durable past st img b (B .valid) (B .durable) p F landed (view-sixteen img (B .durable .view) (B .durable .shows));
         writers =
             consolidated-writing st img b p (position (st .sizes) (st .head) 1) F (frees-state st p (B .valid) full F) (image-fits st img (B .valid) (B .durable))
             (λ w q l c. c) (subst (λ (o : Op). Writing st img b (Changing o)) is (B .writers));

@@ -2,7 +2,7 @@
 use Prim.Native.Nat.{ℕ, _+_, _*_, _<_}
 use mathlib.Core.Bool.{Bool, true, false, cond}
 use mathlib.Core.List.{List}
-use mathlib.Core.Logic.{_⊎_, inl, ⊎-elim}
+use mathlib.Core.Logic.{_⊎_, ⊎-elim}
 use mathlib.Core.Path.{_≡_, refl, sym, ap, _∙_, subst}
 use native.Mathlib.Omega.{arith}
 use lib.Dec.{ltb}
@@ -23,20 +23,21 @@ use Rattle.state.specs.declared.State.{State}
 use Rattle.state.specs.declared.Op.{Op}
 use Rattle.state.specs.declared.Op.the-variants.{Write}
 use Rattle.state.specs.Held.{heldAt}
-use Rattle.state.specs.Operations.{slotFor, slotted, needs, isIdle}
+use Rattle.state.specs.Operations.{slotFor, slotted, needs}
 use Rattle.state.specs.Validity.{stateOk}
 use Rattle.state.proofs.Taken.{WriteTaken}
 use Rattle.stores.specs.Frames.{otherFrame, pageFrame}
 use Rattle.stores.specs.Write.{writeSlot, writeTable}
-use Rattle.stores.specs.Stores.{World, stepped, completed, storeAt, storeValue, storeMade}
+use Rattle.stores.specs.Stores.{stepped, completed, storeAt, storeValue, storeMade}
+use Rattle.stores.proofs.Pending.{pends}
 use Rattle.stores.proofs.WriteValid.{write-valid}
 use Rattle.refinement.specs.Reference.{Reference, idle, writing, withWork, advances, written, readLine}
-use Rattle.refinement.proofs.Invariant.{Durable, holds, Writing, Never, Changing, Quiet, Busy, Related}
-use Rattle.refinement.proofs.Stepping.{Mid, unslotted-durable, durable-legal, durable-fits, mid-durable, mid-writing, mid-landed, step-ends, advance-ends}
-use Rattle.refinement.proofs.Underway.{underway}
+use Rattle.refinement.proofs.Invariant.{Durable, holds, Writing, Never, Changing, Busy, Related}
+use Rattle.refinement.proofs.Stepping.{Mid, unslotted-durable, durable-legal, durable-fits, mid-durable, mid-writing, mid-landed}
+use Rattle.refinement.proofs.StepLast.{step-last}
 use Rattle.refinement.proofs.Valid.{good}
 use Rattle.refinement.proofs.WriteTable.{Own, Takes, own-or-takes, page-slot, slot-whole, other-kept, frame-kept, write-behind}
-use Rattle.refinement.proofs.WriteMid.{write-pending, target-low, given, newLine, new-length, new-bytes, value-is, write-doing, write-mid, page-frame-kept, write-on}
+use Rattle.refinement.proofs.WriteMid.{at-work, write-pending, target-low, given, newLine, new-length, new-bytes, value-is, write-doing, write-mid, page-frame-kept, write-on}
 use Rattle.refinement.proofs.WriteHeld.{same-or-not, holds-new, holds-kept, held-low-kept, writes-kept, line-same}
 
 module _ (past : List ℕ) (st : State) (img : List ℕ) (b : Reference) (B : Busy past st img b) (w p l o n : ℕ) (e : st .pending .op ≡ Write w p l o n)
@@ -180,20 +181,15 @@ module _ (past : List ℕ) (st : State) (img : List ℕ) (b : Reference) (B : Bu
   pub write-ends : Related past (stepped (record { st = st; image = img })) (advances 1 (b .work) b)
   unfolding needs
   write-ends =
-      let d = write-doing past st img b B w p l o n e in
-      let q : m + 1 ≡ needs st (st .pending .op) = last ∙ sym (ap (needs st) e) in
-      let now : Quiet past after image book = record { valid = ok; pending = refl; durable = durable; writers = writers; work = refl } in
-      subst (λ (v : World). Related past v (advances 1 (b .work) b))
-      (sym (step-ends st img q ∙ ap (λ (x : Op). record { st = completed st x; image = storeMade st img x m }) e))
-      (subst (λ (c : Reference). Related past (record { st = after; image = image }) c) (sym (advance-ends b (writing w p l o n bytes) 8 m (d .3) last))
-      (inl now))
+      step-last past st img b op (writing w p l o n bytes) image e (at-work st img b w p l o n (write-doing past st img b B w p l o n e)) last refl
+      (record { valid = ok; pending = refl; durable = durable; writers = writers; work = refl })
 
 -- one step of a pending write
 pub step-write : (past : List ℕ) (st : State) (img : List ℕ) (b : Reference) → Busy past st img b → (w p l o n : ℕ) → st .pending .op ≡ Write w p l o n
     → Related past (stepped (record { st = st; image = img })) (advances 1 (b .work) b)
 unfolding needs
 step-write past st img b B w p l o n e =
-    let left : st .pending .made < 8 = subst (λ (q : Op). st .pending .made < needs st q) e (underway st (B .valid) (ap isIdle e) .some-left) in
+    let left : st .pending .made < 8 = pends st (Write w p l o n) (B .valid) e refl .made-low in
     caseOn (ltb (st .pending .made + 1) 8)
     (λ t. write-on past st img b B w p l o n e (ltb-true (st .pending .made + 1) 8 t))
     (λ t. write-ends past st img b B w p l o n e (omega (arith, left, ltb-false (st .pending .made + 1) 8 t)))

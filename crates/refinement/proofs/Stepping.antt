@@ -8,7 +8,7 @@ use mathlib.Core.Path.{_≡_, refl, sym, ap, _∙_, subst}
 use native.Mathlib.Omega.{arith}
 use lib.Dec.{ltb}
 use lib.ListN.{length}
-use borrow.Author.Tests.{ltb-true, ltb-false, lt-ltb, eq-eqb, ne-eqb}
+use borrow.Author.Tests.{ltb-true, ltb-false, eq-eqb, ne-eqb}
 use Rattle.bounded.proofs.Below.{split-below}
 use Rattle.bounded.proofs.Tests.{caseOn}
 use Rattle.layout.specs.declared.Sizes.{Sizes}
@@ -27,20 +27,19 @@ use Rattle.journal.proofs.Dead.{Dead, dead-view, store-old}
 use Rattle.state.specs.declared.State.{State}
 use Rattle.state.specs.declared.Op.{Op}
 use Rattle.state.specs.declared.Op.the-variants.{Idle, Write, Commit, Consolidate, Checkpoint}
-use Rattle.state.specs.Operations.{slotFor, needs, isIdle, opRows}
-use Rattle.state.specs.Validity.{stateOk, pendingOk}
+use Rattle.state.specs.Operations.{slotFor, needs, isIdle}
 use Rattle.stores.specs.Frames.{otherFrame}
 use Rattle.stores.specs.Write.{writeSlot}
 use Rattle.stores.specs.Commit.{commitAt, commitValue, commitRecord}
 use Rattle.stores.specs.Consolidate.{consolidateAt, consolidateValue, freeingRecord}
 use Rattle.stores.specs.Checkpoint.{checkpointAt, checkpointValue}
 use Rattle.stores.specs.Stores.{World, stepped, withMade, completed, storeAt, storeValue, storeMade}
+use Rattle.stores.proofs.Pending.{made-valid}
+pub use Rattle.stores.proofs.Pending.{needs-made}
 use Rattle.transactions.specs.Recall.{frameOf}
 use Rattle.refinement.specs.Reference.{Reference, Task, idle, under, withWork, does, continues, advances}
 use Rattle.refinement.proofs.Invariant.{TakenOnly, Behind, Durable, holds, Writing, Doing, Changing, Busy, Related}
-use Rattle.refinement.proofs.PageSlots.{slotted-of, unslotted-of}
-use Rattle.refinement.proofs.Valid.{valid-parts, valid-made}
-use Rattle.refinement.proofs.Underway.{underway}
+use Rattle.stores.proofs.PageSlots.{slotted-of, unslotted-of}
 
 -- ---- one store of a word
 
@@ -196,36 +195,6 @@ module _ (st : State) (n : ℕ) where
   value-made img (Commit w) j = refl
   value-made img (Consolidate p) j = refl
   value-made img Checkpoint j = refl
-
-  pub needs-made : (op : Op) → needs (withMade st n) op ≡ needs st op
-  unfolding needs
-  needs-made Idle = refl
-  needs-made (Write w p l o k) = refl
-  needs-made (Commit w) = refl
-  needs-made (Consolidate p) = refl
-  needs-made Checkpoint = refl
-
-  rows-made : (op : Op) (f : ℕ) → opRows (withMade st n) op f ≡ opRows st op f
-  rows-made Idle f = refl
-  rows-made (Write w p l o k) f = refl
-  rows-made (Commit w) f = refl
-  rows-made (Consolidate p) f = refl
-  rows-made Checkpoint f = refl
-
-  -- it is valid while a store is left
-  pub made-valid : stateOk st ≡ true → isIdle (st .pending .op) ≡ false → n < needs st (st .pending .op) → stateOk (withMade st n) ≡ true
-  unfolding pendingOk
-  made-valid e i l =
-      let v = valid-parts st e in
-      let u = underway st e i in
-      valid-made (withMade st n)
-      (record {
-        slots = v .slots;
-        held = v .held;
-        next-low = v .next-low;
-        lasts = v .lasts;
-        pending = rw (i, needs-made (st .pending .op), lt-ltb n (needs st (st .pending .op)) l, rows-made (st .pending .op) (st .pending .frame), u .no-row);
-      })
 
 -- ---- a step
 

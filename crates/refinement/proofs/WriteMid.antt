@@ -9,7 +9,6 @@ use native.Mathlib.Omega.{arith}
 use lib.Dec.{ltb, leb, eqb}
 use lib.ListN.{length, getD, List·getD-eq-default}
 use borrow.Author.Tests.{ltb-true, ltb-false, lt-ltb, eqb-true, eqb-false, ne-eqb}
-use Rattle.bounded.specs.Rows.{refusal}
 use Rattle.bounded.proofs.Below.{none-at}
 use Rattle.bounded.proofs.Tab.{length-tab, getD-tab}
 use Rattle.bounded.proofs.Tests.{caseOn, contradicts, and-left, and-right}
@@ -25,28 +24,25 @@ use Rattle.journal.specs.Table.{slotIn}
 use Rattle.journal.proofs.Dead.{Dead, dead-line}
 use Rattle.masks.specs.Lines.{inMask}
 use Rattle.state.specs.declared.State.{State}
-use Rattle.state.specs.declared.Op.{Op}
 use Rattle.state.specs.declared.Op.the-variants.{Write}
 use Rattle.state.specs.Held.{heldAt, othersHold}
-use Rattle.state.specs.Operations.{slotFor, slotted, needs, opRows, isIdle}
+use Rattle.state.specs.Operations.{slotFor, slotted, needs}
 use Rattle.state.specs.Validity.{stateOk}
 use Rattle.state.proofs.Taken.{WriteTaken, write-taken}
 use Rattle.stores.specs.Frames.{otherFrame, pageFrame}
 use Rattle.stores.specs.Write.{writeSlot}
 use Rattle.stores.specs.Stores.{stepped}
+use Rattle.stores.proofs.Pending.{pends}
 use Rattle.transactions.specs.Recall.{frameOf}
 use Rattle.refinement.specs.Reference.{Reference, Cell, byte, laidOver, writing, under, advances, written, readLine}
 use Rattle.refinement.proofs.Invariant.{Durable, holds, Doing, Busy, Related}
 use Rattle.refinement.proofs.Copies.{other-low, slot-spare-low, copy-apart, others-apart, free-apart, free-other-apart}
 use Rattle.refinement.proofs.Stepping.{Aside, Mid, step-mid, durable-fits}
-use Rattle.refinement.proofs.Underway.{underway}
 use Rattle.refinement.proofs.WriteTable.{Own, Takes, own-or-takes, other-none}
 
 -- no row turns back a write that is pending
 pub write-pending : (st : State) (w p l o n : ℕ) → stateOk st ≡ true → st .pending .op ≡ Write w p l o n → WriteTaken st w p l o n (st .pending .frame)
-write-pending st w p l o n valid e =
-    write-taken st w p l o n (st .pending .frame)
-    (subst (λ (op : Op). refusal (opRows st op (st .pending .frame)) ≡ 0) e (underway st valid (ap isIdle e) .no-row))
+write-pending st w p l o n valid e = write-taken st w p l o n (st .pending .frame) (pends st (Write w p l o n) valid e refl .taken)
 
 -- ---- the frame that is written
 

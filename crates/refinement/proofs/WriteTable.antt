@@ -28,7 +28,7 @@ use Rattle.stores.specs.Frames.{committedFrame, otherFrame}
 use Rattle.stores.specs.Write.{writeSlot, writeTable}
 use Rattle.transactions.specs.Recall.{frameOf}
 use Rattle.refinement.proofs.Invariant.{TakenOnly, Behind}
-use Rattle.refinement.proofs.PageSlots.{slot-page, slotted-of, unslotted-of, slot-is}
+use Rattle.stores.proofs.PageSlots.{slot-page, slotted-of, unslotted-of, slot-is}
 use Rattle.refinement.proofs.Valid.{good, legal-sizes}
 
 -- a slot that was only taken, in other tables that have it as it was

