@@ -1,8 +1,7 @@
 -- Every store of an operation that no row turns back goes to a word of the image.
 use Prim.Native.Nat.{ℕ, _+_, _-_, _*_, _/_, _%_, _<_, _≤_}
 use mathlib.Core.Bool.{Bool, true, false, not}
-use mathlib.Core.Logic.{⊎-elim}
-use mathlib.Core.Path.{_≡_, refl, ap, _∙_}
+use mathlib.Core.Path.{_≡_, refl}
 use native.Mathlib.Omega.{arith}
 use lib.Dec.{ltb, eqb}
 use lib.ListN.{length, getD}
@@ -13,19 +12,13 @@ use Rattle.bounded.proofs.Those.{chosen, length-those}
 use Rattle.layout.specs.declared.Sizes.{Sizes}
 use Rattle.layout.specs.Layout.{Legal, frames, headWord, tailWord, pageWord, slotWord, recordWord, lineWord, imageWords, imageLength}
 use Rattle.layout.proofs.LayoutLaws.{record-end, frame-start, line-end}
-use Rattle.journal.specs.declared.Slot.{Slot}
-use Rattle.journal.specs.Slots.{shaped}
 use Rattle.journal.specs.Records.{position}
 use Rattle.journal.specs.Table.{noPosition, slotIn}
-use Rattle.journal.proofs.SlotWords.{Owning, Free, shape}
 use Rattle.journal.proofs.Tables.{Sixteen}
-use Rattle.masks.specs.Lines.{inMask, countLines}
-use Rattle.masks.proofs.Counts.{count-lines-not, line-chosen, line-chosen-not}
-use Rattle.masks.proofs.Members.{in-none}
 use Rattle.state.specs.declared.State.{State}
 use Rattle.state.specs.declared.Op.{Op}
 use Rattle.state.specs.declared.Op.the-variants.{Idle, Write, Commit, Consolidate, Checkpoint}
-use Rattle.state.specs.Operations.{isIdle, opRows, needs, copyCount, recordedSlots}
+use Rattle.state.specs.Operations.{isIdle, opRows, needs, recordedSlots}
 use Rattle.state.specs.Validity.{stateOk}
 use Rattle.state.proofs.Taken.{write-taken, consolidate-taken}
 use Rattle.stores.specs.Frames.{otherFrame}
@@ -38,6 +31,7 @@ use Rattle.stores.proofs.Valid.{valid}
 use Rattle.stores.proofs.Pending.{pends}
 use Rattle.stores.proofs.WriteValid.{target}
 use Rattle.stores.proofs.ConsolidateValid.{slot-owns}
+pub use Rattle.stores.proofs.Places.{other-low, copy-line}
 
 -- ---- words of the image by what they are
 
@@ -56,24 +50,6 @@ module _ (z : Sizes) (g : Legal z) where
 
   line-in : (f l k : ℕ) → f < frames z → l < 64 → k < 8 → lineWord z f l + k < imageWords z
   line-in f l k a b c = omega (arith, line-end z f l a b)
-
--- the frame that is not the committed one, of a slot with a shape: a free slot's is its spare
-pub other-low : (z : Sizes) (t : Slot) (l : ℕ) → shaped z t ≡ true → otherFrame t l < frames z
-other-low z t l e =
-    ⊎-elim
-    (λ (o : Owning z t). row-keeps (λ (x : ℕ). x < frames z) (inMask (t .bitmap) l) (t .original) (t .spare) (o .original-low) (o .spare-low))
-    (λ (f : Free z t). rw (ap (λ (m : ℕ). inMask m l) (f .bitmap-none) ∙ in-none l) (f .spare-low))
-    (shape z t e)
-
--- the lines that a consolidation copies are as many as are counted, and lines
-pub copy-line : (t : Slot) (j : ℕ) → j < copyCount (t .bitmap) → getD (copyLines t) j 64 < 64
-unfolding copyCount
-copy-line t j l =
-    caseOn (isFew t)
-    (λ e. rw e (line-chosen (t .bitmap) j (rw e at l) .below))
-    (λ e.
-    let m : j < 64 - countLines (t .bitmap) = rw e at l in
-    rw e (line-chosen-not (t .bitmap) j (omega (arith, count-lines-not (t .bitmap))) .below))
 
 -- ---- the operations
 

@@ -1,3 +1,5 @@
+pub mod Nth
+pub mod Places
 pub mod Valid
 pub mod Pending
 pub mod OneSlot
@@ -14,3 +16,5 @@ pub mod Completed
 pub mod Steps
 pub mod PageSlots
 pub mod NamesOnce
+pub mod Going
+pub mod Made

@@ -33,7 +33,9 @@ writeTable st p =
 abbrev pub writeNext : State → ℕ → ℕ
 writeNext st p = cond (slotted st p) (st .next) ((writeSlot st p + 1) % st .sizes .slots)
 
--- the line becomes held
+-- the writers with line l of slot s held, and the line of a write
+abbrev pub withHeld : Writers → ℕ → ℕ → ℕ → Writers
+withHeld ws w s l = record { opened = ws .opened; held = set (ws .held) (16 * w + s) (withLine (heldAt (ws .held) w s) l) }
+
 abbrev pub writeWriters : State → ℕ → ℕ → ℕ → Writers
-writeWriters st w p l =
-    record { opened = st .writers .opened; held = set (st .writers .held) (16 * w + writeSlot st p) (withLine (heldAt (st .writers .held) w (writeSlot st p)) l) }
+writeWriters st w p l = withHeld (st .writers) w (writeSlot st p) l
