@@ -26,8 +26,9 @@ use Rattle.state.specs.Operations.{recordedSlots}
 use Rattle.stores.proofs.Appended.{last-at}
 use Rattle.stores.specs.Checkpoint.{checkpointSlot, checkpointAt, checkpointValue}
 use Rattle.refinement.specs.Reference.{Reference}
+use Rattle.refinement.proofs.Copies.{durable-legal}
 use Rattle.refinement.proofs.Invariant.{Durable}
-use Rattle.refinement.proofs.Stepping.{Mid, aside-before, store-fits, durable-legal}
+use Rattle.refinement.proofs.Stepping.{Mid, aside-before, store-fits}
 
 -- how many slots have a live record
 abbrev pub recorded : State → ℕ

@@ -33,7 +33,7 @@ use Rattle.masks.proofs.Members.{exclusive-or-lt}
 use Rattle.state.specs.declared.State.{State}
 use Rattle.state.specs.declared.Op.the-variants.{Commit}
 use Rattle.state.specs.Held.{heldAt, heldSlots}
-use Rattle.state.specs.Operations.{live, needs}
+use Rattle.state.specs.Operations.{needs}
 use Rattle.state.specs.Validity.{stateOk}
 use Rattle.state.proofs.Taken.{CommitTaken, commit-taken}
 use Rattle.stores.specs.Commit.{commitSlots, commitRecord, commitAt, commitValue}

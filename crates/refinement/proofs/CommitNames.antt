@@ -1,14 +1,14 @@
 -- The slots after a commit name the frames and the pages that they named: its records change bitmaps alone. So the slots that a mount
 -- finds then keep row 7, and the state's are again those or taken from them.
 use Prim.Native.Nat.{ℕ, _<_}
-use mathlib.Core.Bool.{true, not}
+use mathlib.Core.Bool.{true}
 use mathlib.Core.List.{List, _++_}
 use mathlib.Core.Logic.{inl, inr, ⊎-elim}
 use mathlib.Core.Path.{_≡_, refl, sym, ap, ap₂, _∙_, subst}
 use native.Mathlib.Omega.{arith}
 use native.Mathlib.Nat.{le-antisymm}
-use lib.Dec.{ltb, eqb}
-use borrow.Author.Tests.{ltb-true, eqb-false, ne-eqb}
+use lib.Dec.{ltb}
+use borrow.Author.Tests.{ltb-true}
 use Rattle.bounded.specs.Count.{Once}
 use Rattle.bounded.proofs.Below.{all-at, all-made}
 use Rattle.bounded.proofs.Tab.{tab-ext}
@@ -19,12 +19,13 @@ use Rattle.journal.specs.declared.Slot.{Slot}
 use Rattle.journal.specs.declared.Record.{Record}
 use Rattle.journal.specs.declared.Table.{Table}
 use Rattle.journal.specs.Slots.{noPage, freeSlot, shaped}
-use Rattle.journal.specs.Table.{slotIn, slotOf, homeOf, frameNames, slotsShaped, pageApart, pagesApart, replay}
+use Rattle.journal.specs.Table.{slotIn, slotOf, homeOf, frameNames, slotsShaped, pagesApart, replay}
 use Rattle.journal.proofs.Latest.{Latest, NoRecord, latest, sixteen-replay, replay-latest, replay-kept}
 use Rattle.journal.proofs.SlotWords.{Owning, Free, shape, free-shaped}
 use Rattle.journal.proofs.Tables.{Sixteen}
 use Rattle.journal.proofs.View.{slot-none}
 use Rattle.stores.proofs.CommitValid.{SameNames}
+use Rattle.refinement.proofs.PagesApart.{apart-made}
 use Rattle.refinement.proofs.Invariant.{TakenOnly, Behind}
 use Rattle.stores.proofs.PageSlots.{slot-le, slot-page, slot-first, slotted-of, unslotted-of, apart-at, slot-is}
 use Rattle.refinement.proofs.Copies.{table-names}
@@ -56,17 +57,11 @@ module _ (r : ℕ → ℕ) (z : Sizes) (d t : Table) (h : Behind r z d t) where
 
   pub behind-apart : pagesApart z (t .page) ≡ true → pagesApart z (d .page) ≡ true
   behind-apart e =
-      all-made (pageApart (d .page)) (z .slots) (λ s l.
-      caseOn (eqb (slotIn d s .page) noPage)
-      (λ c. rw c)
-      (λ c.
-      let n : slotIn d s .page ≡ noPage → ⊥ = eqb-false (slotIn d s .page) noPage c in
-      rw c
-      (all-made (λ k. not (eqb (slotIn d s .page) (slotIn d k .page))) s (λ k m.
-      ap not (ne-eqb (slotIn d s .page) (slotIn d k .page) (λ q.
+      apart-made z d
+      (λ s k l m n q.
       let a = page-same s l n in
       let b = page-same k (omega arith) (λ x. n (q ∙ x)) in
-      apart-at z t e s k l m (λ x. n (sym a ∙ x)) (a ∙ q ∙ sym b)))))))
+      apart-at z t e s k l m (λ x. n (sym a ∙ x)) (a ∙ q ∙ sym b))
 
 -- ---- tables whose slots have the same names
 

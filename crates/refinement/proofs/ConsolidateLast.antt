@@ -20,7 +20,7 @@ use Rattle.words.proofs.WordLaws.{length-store, bytes-store, drop-store}
 use Rattle.journal.specs.declared.Slot.{Slot}
 use Rattle.journal.specs.declared.Record.{Record}
 use Rattle.journal.specs.declared.Table.{Table}
-use Rattle.journal.specs.Slots.{freeSlot}
+use Rattle.journal.specs.Slots.{noPage, freeSlot}
 use Rattle.journal.specs.Records.{position, wordOfRecord}
 use Rattle.journal.specs.Table.{slotIn, lastIn, replay, slotOf, homeOf, frameNames}
 use Rattle.journal.proofs.Append.{Appendable, Landed, appended, append-view, append-taken}
@@ -40,7 +40,7 @@ use Rattle.stores.specs.Stores.{completed}
 use Rattle.transactions.specs.Recall.{frameOf}
 use Rattle.refinement.specs.Reference.{Reference, idle, withWork, recallLine}
 use Rattle.refinement.proofs.Invariant.{TakenOnly, Durable}
-use Rattle.refinement.proofs.Copies.{mount-apart, mount-once, image-fits, names-same}
+use Rattle.refinement.proofs.Copies.{mount-apart, mount-once, durable-fits, names-same}
 use Rattle.stores.proofs.NamesOnce.{name-spare, name-home}
 use Rattle.refinement.proofs.ConsolidateStores.{lineOf, copied-line, line-goes, freeing-slot, freeing-now, freeing-first, at-line, at-page, at-freeing, value-line, value-page, value-freeing}
 use Rattle.refinement.proofs.ConsolidateSlot.{Freed}
@@ -51,8 +51,10 @@ use Rattle.refinement.proofs.Valid.{good}
 
 -- ---- the freed slot, in the state's table and in the one that a mount finds
 
-pub frees-state : (st : State) (p : ℕ) → stateOk st ≡ true → Sixteen (st .table) → Freed st p → Frees (st .sizes) (st .head) (freeingRecord st p) (st .table) (slotFor st p) p (copyFrom (pageSlot st p))
-frees-state st p valid full F =
+frees : (st : State) (p : ℕ) → Freed st p → (d : Table) → Sixteen d → ((k : ℕ) → k < st .sizes .slots → slotIn d k .page ≡ p → k ≡ slotFor st p)
+    → (slotIn d (slotFor st p) .page ≡ p) ⊎ (slotIn d (slotFor st p) .page ≡ noPage)
+    → Frees (st .sizes) (st .head) (freeingRecord st p) d (slotFor st p) p (copyFrom (pageSlot st p))
+frees st p F d full only no-other =
     record {
       is-slot = freeing-slot st p;
       is-free = freeing-now st p;
@@ -60,9 +62,13 @@ frees-state st p valid full F =
       sixteen = full;
       slot-low = F .slot-low;
       page-low = F .page-low;
-      only = λ k l e. sym (slot-is (st .sizes) (st .table) (F .ranges .legal) (good st valid .pages) p k (F .page-low) l e);
-      no-other = inl (F .page-is);
+      only = only;
+      no-other = no-other;
     }
+
+pub frees-state : (st : State) (p : ℕ) → stateOk st ≡ true → Sixteen (st .table) → Freed st p → Frees (st .sizes) (st .head) (freeingRecord st p) (st .table) (slotFor st p) p (copyFrom (pageSlot st p))
+frees-state st p valid full F =
+    frees st p F (st .table) full (λ k l e. sym (slot-is (st .sizes) (st .table) (F .ranges .legal) (good st valid .pages) p k (F .page-low) l e)) (inl (F .page-is))
 
 module _ (past : List ℕ) (st : State) (img : List ℕ) (b : Reference) (valid : stateOk st ≡ true) (D : Durable past st img b) (p : ℕ) (F : Freed st p) where
   abbrev z : Sizes
@@ -79,29 +85,20 @@ module _ (past : List ℕ) (st : State) (img : List ℕ) (b : Reference) (valid 
 
   pub frees-mounted : Sixteen d → Frees z (st .head) (freeingRecord st p) d s p (copyFrom t)
   frees-mounted full =
-      record {
-        is-slot = freeing-slot st p;
-        is-free = freeing-now st p;
-        legal = F .ranges .legal;
-        sixteen = full;
-        slot-low = F .slot-low;
-        page-low = F .page-low;
-        only =
-            λ k l e.
-            ⊎-elim
-            (λ (q : slotIn (st .table) s ≡ slotIn d s).
-            sym (slot-is z d (F .ranges .legal) (mount-apart st img valid D) p k (F .page-low) l e)
-            ∙ slot-is z d (F .ranges .legal) (mount-apart st img valid D) p s (F .page-low) (F .slot-low) (sym (ap (λ (v : Slot). v .page) q) ∙ F .page-is))
-            (λ (q : TakenOnly (word img) z d (st .table) s).
-            let u : slotOf z d p ≡ z .slots = ap (slotOf z d) (sym (F .page-is)) ∙ q .unslotted in
-            absurd (omega (arith, slot-first z d p k l e)))
-            (D .behind .slot-same s (F .slot-low));
-        no-other =
-            ⊎-elim
-            (λ (q : slotIn (st .table) s ≡ slotIn d s). inl (sym (ap (λ (v : Slot). v .page) q) ∙ F .page-is))
-            (λ (q : TakenOnly (word img) z d (st .table) s). inr (ap (λ (v : Slot). v .page) (q .was-free)))
-            (D .behind .slot-same s (F .slot-low));
-      }
+      frees st p F d full
+      (λ k l e.
+      ⊎-elim
+      (λ (q : slotIn (st .table) s ≡ slotIn d s).
+      sym (slot-is z d (F .ranges .legal) (mount-apart st img valid D) p k (F .page-low) l e)
+      ∙ slot-is z d (F .ranges .legal) (mount-apart st img valid D) p s (F .page-low) (F .slot-low) (sym (ap (λ (v : Slot). v .page) q) ∙ F .page-is))
+      (λ (q : TakenOnly (word img) z d (st .table) s).
+      let u : slotOf z d p ≡ z .slots = ap (slotOf z d) (sym (F .page-is)) ∙ q .unslotted in
+      absurd (omega (arith, slot-first z d p k l e)))
+      (D .behind .slot-same s (F .slot-low)))
+      (⊎-elim
+      (λ (q : slotIn (st .table) s ≡ slotIn d s). inl (sym (ap (λ (v : Slot). v .page) q) ∙ F .page-is))
+      (λ (q : TakenOnly (word img) z d (st .table) s). inr (ap (λ (v : Slot). v .page) (q .was-free)))
+      (D .behind .slot-same s (F .slot-low)))
 
   -- ---- with the stores before it landed
 
@@ -123,7 +120,7 @@ module _ (past : List ℕ) (st : State) (img : List ℕ) (b : Reference) (valid 
         let c = copied-line t j h in
         let e : lineBytes img z (copyTo t) (lineOf t j) ≡ lineBytes img z (copyFrom t) (lineOf t j) =
         line-ext img img z (copyTo t) (lineOf t j) (copyFrom t) (lineOf t j) (D .bytes) (D .bytes) (F .to-low) (c .low) (F .from-low) (c .low)
-        (image-fits st img valid D) (image-fits st img valid D)
+        (durable-fits past st img b D) (durable-fits past st img b D)
         (λ k m. ap (word img) (sym (at-line st p j k h m)) ∙ landed (8 * j + k) (omega arith) ∙ value-line st p img j k h m) in
         let e′ : lineBytes img z (copyTo t) (lineOf t j) ≡ lineBytes img z (committedFrame t (lineOf t j)) (lineOf t j) = e ∙ ap (λ (f : ℕ). lineBytes img z f (lineOf t j)) (sym (c .from)) in
         subst (λ (m : ℕ). lineBytes img z (copyTo t) m ≡ lineBytes img z (committedFrame t m) m) (x .2) e′)
@@ -201,7 +198,7 @@ module _ (past : List ℕ) (st : State) (img : List ℕ) (b : Reference) (valid 
       table = consolidateTable st p
 
       whole : imageLength z ≤ length img
-      whole = image-fits st img valid D
+      whole = durable-fits past st img b D
 
       slot-behind : (k : ℕ) → k < z .slots → (slotIn table k ≡ slotIn (replay z (st .head) 1 new d) k) ⊎ TakenOnly (word after) z (replay z (st .head) 1 new d) table k
       slot-behind k l =

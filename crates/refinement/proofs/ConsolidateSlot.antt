@@ -6,7 +6,6 @@ use mathlib.Core.List.{List}
 use mathlib.Core.Path.{_≡_, sym, ap, _∙_}
 use native.Mathlib.Omega.{arith}
 use lib.ListN.{length}
-use borrow.Author.Tests.{ltb-true}
 use Rattle.bounded.proofs.Tests.{caseOn}
 use Rattle.layout.specs.Layout.{Legal, frames, pageWord, recordWord, lineWord, imageLength}
 use Rattle.words.specs.Words.{store, Bytes}
@@ -24,7 +23,7 @@ use Rattle.state.proofs.Ranged.{ranged}
 use Rattle.state.proofs.Taken.{ConsolidateTaken}
 use Rattle.stores.specs.Consolidate.{pageSlot, isFew, copyTo, copyFrom, copyStoreCount, freeingRecord, consolidateAt, consolidateValue}
 use Rattle.stores.proofs.ConsolidateValid.{slot-low, slot-page, slot-owns, unheld}
-use Rattle.stores.proofs.Valid.{parts}
+use Rattle.stores.proofs.Valid.{parts, valid}
 use Rattle.refinement.proofs.ConsolidateStores.{lineOf, copied-line, copied-apart, Part, line, page, freeing, at-line, at-page, at-freeing, value-line, value-page, value-freeing}
 
 module _ (st : State) (p : ℕ) where
@@ -43,19 +42,19 @@ module _ (st : State) (p : ℕ) where
     pub room : live st + 1 ≤ st .sizes .places
 
   pub freed : stateOk st ≡ true → Sixteen (st .table) → ConsolidateTaken st p → Freed
-  freed valid full h =
-      let o : Owning (st .sizes) t = slot-owns st p valid full h in
+  freed ok full h =
+      let o : Owning (st .sizes) t = slot-owns st p ok full h in
       let made : copyTo t < frames (st .sizes) → copyFrom t < frames (st .sizes) → (copyTo t ≡ copyFrom t → ⊥) → Freed =
       λ to from apart.
       record {
-        ranges = ranged st (parts st valid .slots) (ltb-true (st .next) (st .sizes .slots) (parts st valid .next));
+        ranges = ranged st (parts st ok .slots) (valid st ok .next-low);
         page-low = h .page-low;
-        slot-low = slot-low st p valid full h;
-        page-is = slot-page st p valid full h;
+        slot-low = slot-low st p ok full h;
+        page-is = slot-page st p ok full h;
         to-low = to;
         from-low = from;
         apart = apart;
-        none-held = unheld st p valid full h;
+        none-held = unheld st p ok full h;
         room = h .fits;
       } in
       caseOn (isFew t)

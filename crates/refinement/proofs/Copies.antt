@@ -1,6 +1,6 @@
 -- The copies of lines that the image keeps. The state's slots name the same frames as those that a mount finds, so the committed
 -- copies and the writers' own lie in frames of their own.
-use Prim.Native.Nat.{ℕ, _+_, _<_, _≤_}
+use Prim.Native.Nat.{ℕ, _<_, _≤_}
 use mathlib.Core.Bool.{true}
 use mathlib.Core.List.{List, _++_}
 use mathlib.Core.Logic.{⊎-elim}
@@ -25,13 +25,13 @@ use Rattle.state.specs.declared.State.{State}
 use Rattle.state.specs.Operations.{slotFor}
 use Rattle.state.specs.Validity.{stateOk}
 use Rattle.stores.specs.Frames.{committedFrame, otherFrame}
-use Rattle.stores.proofs.NamesOnce.{spare-low}
-use Rattle.stores.proofs.PageSlots.{slot-page, slot-is, slotted-of}
 use Rattle.transactions.specs.Recall.{frameOf}
 use Rattle.transactions.proofs.Mounted.{view-names}
 use Rattle.refinement.specs.Reference.{Reference}
 use Rattle.refinement.proofs.Invariant.{TakenOnly, Behind, Durable}
 use Rattle.refinement.proofs.Valid.{good, legal-sizes}
+use Rattle.stores.proofs.NamesOnce.{spare-low}
+use Rattle.stores.proofs.PageSlots.{slot-page, slot-is, slotted-of}
 use Rattle.refinement.proofs.Names.{Owned, owned-low, owned-apart, spare-unowned, committed-owned, other-owned, copies-apart}
 
 -- ---- the state's table t and the one d that a mount finds name the same frames
@@ -98,6 +98,15 @@ module _ (r : ℕ → ℕ) (z : Sizes) (d t : Table) (legal : Legal z) (d-apart 
       (tab-ext (z .slots) (λ s. slotIn t s .spare) (λ s. slotIn d s .spare) spare-kept)
       (tab-ext (z .pages) (homeOf r z t) (homeOf r z d) (λ p l. home-kept p (page-kept p l)))
 
+-- ---- of an image that mounts
+
+module _ (past : List ℕ) (st : State) (img : List ℕ) (b : Reference) (D : Durable past st img b) where
+  pub durable-legal : Legal (st .sizes)
+  durable-legal = subst Legal (D .sizes-same) (D .mounts .legal)
+
+  pub durable-fits : imageLength (st .sizes) ≤ length img
+  durable-fits = subst (λ (z : Sizes). imageLength z ≤ length img) (D .sizes-same) (D .mounts .fits)
+
 -- ---- of a valid state and its image
 
 module _ {past : List ℕ} (st : State) (img : List ℕ) {b : Reference} (valid : stateOk st ≡ true) (D : Durable past st img b) where
@@ -109,9 +118,6 @@ module _ {past : List ℕ} (st : State) (img : List ℕ) {b : Reference} (valid 
   mount-once =
       subst (λ (y : Sizes). Once (frames y) (frameNames (word img) y (D .view .table))) (D .sizes-same)
       (subst (Once (frames (D .view .sizes))) (view-names img (D .view) (D .shows)) (D .mounts .names))
-
-  pub image-fits : imageLength (st .sizes) ≤ length img
-  image-fits = subst (λ (y : Sizes). imageLength y ≤ length img) (D .sizes-same) (D .mounts .fits)
 
   pub names-same : frameNames (word img) (st .sizes) (st .table) ≡ frameNames (word img) (st .sizes) (D .view .table)
   names-same = table-names (word img) (st .sizes) (D .view .table) (st .table) (legal-sizes st valid) mount-apart (good st valid .pages) (D .behind)

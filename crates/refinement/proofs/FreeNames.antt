@@ -1,7 +1,7 @@
 -- One slot freed by a record, in a table: the page that it may have had has no slot then, all else is as before. The freed slot's spare and
 -- the page's home name the two frames that they named before, maybe the other way round, so each frame is still named once.
 use Prim.Native.Nat.{ℕ, zero, suc, _+_, _-_, _<_, _≤_}
-use mathlib.Core.Bool.{Bool, true, false, not, cond}
+use mathlib.Core.Bool.{Bool, true, false, cond}
 use mathlib.Core.List.{List}
 use mathlib.Core.Logic.{_⊎_, ⊎-elim}
 use mathlib.Core.Path.{_≡_, refl, sym, ap, ap₂, _∙_, subst}
@@ -22,7 +22,7 @@ use Rattle.journal.specs.declared.Record.{Record}
 use Rattle.journal.specs.declared.Table.{Table}
 use Rattle.journal.specs.Slots.{noPage, freeSlot, shaped}
 use Rattle.journal.specs.Records.{position}
-use Rattle.journal.specs.Table.{slotIn, lastIn, replay, slotsShaped, pageApart, pagesApart, slotOf, homeOf, frameNames}
+use Rattle.journal.specs.Table.{slotIn, lastIn, replay, slotsShaped, pagesApart, slotOf, homeOf, frameNames}
 use Rattle.journal.proofs.Homes.{length-names}
 use Rattle.journal.proofs.Latest.{Latest, Holds, sixteen-replay, replay-latest, replay-kept}
 use Rattle.journal.proofs.SlotWords.{free-shaped}
@@ -31,6 +31,7 @@ use Rattle.stores.specs.Frames.{committedFrame}
 use Rattle.transactions.specs.Recall.{frameOf}
 use Rattle.stores.proofs.NamesOnce.{name-spare, name-home}
 use Rattle.stores.proofs.PageSlots.{slot-page, unslotted-of, apart-at}
+use Rattle.refinement.proofs.PagesApart.{apart-made}
 
 -- the first that passes is found by the test's values alone
 first-ext : (f g : ℕ → Bool) (n : ℕ) → ((i : ℕ) → i < n → f i ≡ g i) → firstBelow n f ≡ firstBelow n g
@@ -227,17 +228,10 @@ module _ {z : Sizes} {head : ℕ} {new : ℕ → Record} {d : Table} {s p x : �
 
   pub freed-apart : pagesApart z (d .page) ≡ true → pagesApart z (freedTable .page) ≡ true
   freed-apart h =
-      all-made (pageApart (freedTable .page)) (z .slots) (λ k l.
-      caseOn (eqb (slotIn freedTable k .page) noPage)
-      (λ e. rw e)
-      (λ e.
-      let n : slotIn freedTable k .page ≡ noPage → ⊥ = eqb-false (slotIn freedTable k .page) noPage e in
+      apart-made z freedTable
+      (λ k j l m n q.
       let o : k ≡ s → ⊥ = λ w. n (ap (λ (i : ℕ). slotIn freedTable i .page) w ∙ ap (λ (v : Slot). v .page) (freed-slot .slot)) in
       let a : slotIn freedTable k .page ≡ slotIn d k .page = ap (λ (v : Slot). v .page) (kept-slot k o .slot) in
-      rw e
-      (all-made (λ j. not (eqb (slotIn freedTable k .page) (slotIn freedTable j .page))) k (λ j m.
-      ap not (ne-eqb (slotIn freedTable k .page) (slotIn freedTable j .page) (λ q.
       caseOn (eqb j s)
       (λ f. n (q ∙ ap (λ (i : ℕ). slotIn freedTable i .page) (eqb-true j s f) ∙ ap (λ (v : Slot). v .page) (freed-slot .slot)))
-      (λ f.
-      apart-at z d h k j l m (λ w. n (a ∙ w)) (sym a ∙ q ∙ ap (λ (v : Slot). v .page) (kept-slot j (eqb-false j s f) .slot)))))))))
+      (λ f. apart-at z d h k j l m (λ w. n (a ∙ w)) (sym a ∙ q ∙ ap (λ (v : Slot). v .page) (kept-slot j (eqb-false j s f) .slot))))

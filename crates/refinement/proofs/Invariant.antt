@@ -1,12 +1,12 @@
 -- What holds of the store and the reference machine between two calls.
-use Prim.Native.Nat.{ℕ, _+_, _-_, _*_, _^_, _<_, _≤_}
+use Prim.Native.Nat.{ℕ, _-_, _^_, _<_, _≤_}
 use mathlib.Core.Bool.{Bool, true, false, _&&_}
 use mathlib.Core.List.{List}
 use mathlib.Core.Logic.{_⊎_}
 use mathlib.Core.Path.{_≡_}
 use lib.ListN.{length, drop}
 use Rattle.layout.specs.declared.Sizes.{Sizes}
-use Rattle.layout.specs.Layout.{Legal, imageLength, pageWord}
+use Rattle.layout.specs.Layout.{imageLength, pageWord}
 use Rattle.image.specs.Lines.{lineBytes, lineWords}
 use Rattle.words.specs.Words.{Bytes, word}
 use Rattle.journal.specs.declared.Table.{Table}
@@ -25,7 +25,7 @@ use Rattle.state.specs.Validity.{stateOk}
 use Rattle.stores.specs.Frames.{otherFrame, pageFrame}
 use Rattle.stores.specs.Stores.{World, noPending, storeAt, storeValue}
 use Rattle.transactions.specs.Recall.{frameOf}
-use Rattle.refinement.specs.Reference.{Reference, Cell, none, Work, idle, under, writing, committing, nothing, written, readLine, recallLine}
+use Rattle.refinement.specs.Reference.{Reference, none, idle, under, writing, committing, nothing, written, readLine, recallLine}
 
 -- slot s of the state's table t is what a mount finds in d; or a write took it and nothing is committed yet, so that it is still free
 -- in the image, whose page words are read through r

@@ -1,5 +1,6 @@
 pub mod Invariant
 pub mod Valid
+pub mod PagesApart
 pub mod Names
 pub mod Copies
 pub mod Sound
@@ -36,7 +37,14 @@ pub mod CommitNames
 pub mod CommitCopies
 pub mod CommitMid
 pub mod StepCommit
-pub mod CheckpointRoom
 pub mod StepCall
-pub mod CommitWhole
+pub mod CallSound
+pub mod Reached
 pub mod Theorem
+pub mod MountReadsBack
+pub mod StoresInside
+pub mod Lacks
+pub mod PageFrame
+pub mod NeverRefused
+pub mod CommitWhole
+pub mod CheckpointRoom

@@ -42,12 +42,19 @@ mount-result : (v : World) (m : Mounted) → mountOf (v .image) ≡ m → exec m
 unfolding exec mountCall
 mount-result v m e = ap (λ (x : Mounted). replaces (answered (x .row) noState 0 (mountedState x)) v) e
 
+-- it is taken, and the state is what the image shows
+pub mount-found : {past : List ℕ} (v : World) (b : Reference) (h : Related past v b)
+    → exec mount v ≡ replaces (answered 0 noState 0 (stateOf (related-durable (v .st) (v .image) b h .view))) v
+mount-found v b h =
+    let D = related-durable (v .st) (v .image) b h in
+    mount-result v (foundIn (D .view)) (taken-mount (v .image) (D .view) (D .shows) (D .mounts))
+
 pub mount-sound : {past : List ℕ} (v : World) (b : Reference) → Related past v b → Sound past mount v b
 mount-sound {past = past} v b h =
     let st = v .st in
     let img = v .image in
     let D = related-durable st img b h in
-    let e : exec mount v ≡ replaces (answered 0 noState 0 (stateOf (D .view))) v = mount-result v (foundIn (D .view)) (taken-mount img (D .view) (D .shows) (D .mounts)) in
+    let e = mount-found v b h in
     let fresh : Reference = record { pages = b .pages; writes = λ w p l i. none; work = idle } in
     let q =
     mounted-quiet img (D .view) fresh (D .bytes) (subst (λ (z : Sizes). drop (imageLength z) img ≡ past) (sym (D .sizes-same)) (D .past-kept)) (D .shows) (D .mounts)

@@ -18,9 +18,9 @@ use Rattle.masks.proofs.Members.{in-none}
 use Rattle.state.specs.declared.State.{State}
 use Rattle.state.specs.Held.{heldAt}
 use Rattle.state.specs.Operations.{slotFor, slotted}
-use Rattle.transactions.specs.Mount.{quietState, allClosed}
+use Rattle.transactions.specs.Mount.{allClosed, quietState}
 use Rattle.transactions.specs.Recall.{frameOf}
-use Rattle.transactions.proofs.Mounted.{mount-valid, view-sixteen}
+use Rattle.transactions.proofs.Mounted.{view-sixteen, mount-valid}
 use Rattle.refinement.specs.Reference.{Reference, none, idle, recallLine}
 use Rattle.refinement.proofs.Invariant.{Quiet, holds}
 

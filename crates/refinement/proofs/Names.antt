@@ -1,5 +1,5 @@
--- The frames that a page owns: as the names of frames are each once, the copies of lines of different pages lie in different
--- frames, and so do the two copies of one line.
+-- The names of frames, each once: spares and homes lie below F, no two of them are alike, and so the copies of lines of
+-- different pages lie in different frames.
 use Prim.Native.Nat.{ℕ, _<_}
 use mathlib.Core.Bool.{true}
 use mathlib.Core.Logic.{_⊎_, inl, inr, ⊎-elim}

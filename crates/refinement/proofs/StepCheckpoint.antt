@@ -24,18 +24,19 @@ use Rattle.journal.proofs.View.{Shows}
 use Rattle.state.specs.declared.State.{State}
 use Rattle.state.specs.declared.Op.{Op}
 use Rattle.state.specs.declared.Op.the-variants.{Checkpoint}
-use Rattle.state.specs.Operations.{isIdle, needs}
+use Rattle.state.specs.Operations.{needs}
 use Rattle.stores.specs.Checkpoint.{checkpointAt, checkpointValue, withoutLasts}
 use Rattle.stores.specs.Stores.{stepped, completed, storeAt, storeValue, storeMade}
+use Rattle.stores.proofs.Pending.{pends}
 use Rattle.stores.proofs.CheckpointValid.{checkpoint-valid}
 use Rattle.transactions.specs.Calls.{worldOf}
 use Rattle.refinement.specs.Reference.{Reference, idle, under, nothing, withWork, advances}
+use Rattle.refinement.proofs.Copies.{durable-legal, durable-fits}
 use Rattle.refinement.proofs.Invariant.{TakenOnly, Behind, Durable, Writing, Never, Changing, Doing, Quiet, Busy, Related}
 use Rattle.refinement.proofs.CheckpointMid.{recorded, slot-stored, at-slot, value-slot, at-tail, value-tail, checkpoint-mid}
 use Rattle.refinement.proofs.HeaderStore.{header-fits, header-page, header-line, header-copy}
-use Rattle.refinement.proofs.Stepping.{durable-legal, durable-fits, needs-made, step-mid}
+use Rattle.refinement.proofs.Stepping.{needs-made, step-mid}
 use Rattle.refinement.proofs.StepLast.{step-last}
-use Rattle.stores.proofs.Pending.{pends}
 
 -- ---- the last store, with those before it landed
 
@@ -123,7 +124,7 @@ module _ (past : List ℕ) (st : State) (img : List ℕ) (b : Reference) (B : Bu
   m = st .pending .made
 
   few-made : m < needs st Checkpoint
-  few-made = subst (λ (o : Op). m < needs st o) is (pends st (st .pending .op) (B .valid) refl (ap isIdle is) .made-low)
+  few-made = pends st Checkpoint (B .valid) is refl .made-low
 
   needed : needs st Checkpoint ≡ 3 * recorded st + 1
   unfolding needs

@@ -40,15 +40,15 @@ use Rattle.stores.proofs.CommitValid.{commit-valid}
 use Rattle.stores.proofs.Pending.{pends}
 use Rattle.stores.proofs.Valid.{valid}
 use Rattle.transactions.specs.Recall.{frameOf}
-use Rattle.refinement.specs.Reference.{Reference, Cell, laidOver, idle, committing, withWork, laid, emptied, does, advances, readLine, recallLine}
+use Rattle.refinement.specs.Reference.{Reference, Cell, laidOver, idle, committing, withWork, laid, emptied, advances, readLine, recallLine}
 use Rattle.refinement.proofs.Invariant.{Behind, Durable, holds, Writing, Never, Changing, Quiet, Busy, Related}
 use Rattle.refinement.proofs.CommitCopies.{names-kept, frame-held, frame-other, other-after, closed-none, others-keep, not-both}
 use Rattle.refinement.proofs.CommitMid.{ownView, own-shows, own-mounts, commit-pending, count, commit-names, commit-right, at-record, value-record, at-head, value-head, commit-needs, commit-doing, commit-on}
 use Rattle.refinement.proofs.CommitNames.{behind-shapes, behind-apart, behind-more, once-more}
-use Rattle.refinement.proofs.Copies.{names-once}
+use Rattle.refinement.proofs.Copies.{names-once, durable-fits}
 use Rattle.refinement.proofs.HeaderStore.{header-fits, header-page, header-line, header-copy}
 use Rattle.transactions.proofs.Mounted.{view-sixteen}
-use Rattle.refinement.proofs.Stepping.{durable-fits, behind-ext}
+use Rattle.refinement.proofs.Stepping.{behind-ext}
 use Rattle.refinement.proofs.StepLast.{step-last}
 use Rattle.refinement.proofs.Valid.{good}
 

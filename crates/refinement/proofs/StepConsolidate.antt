@@ -14,25 +14,27 @@ use Rattle.layout.specs.Layout.{headWord, imageLength}
 use Rattle.image.specs.Lines.{lineBytes}
 use Rattle.words.specs.Words.{word, store}
 use Rattle.journal.specs.declared.Slot.{Slot}
-use Rattle.journal.specs.Records.{position}
-use Rattle.journal.specs.Table.{slotIn}
-use Rattle.journal.proofs.Tables.{Sixteen}
+use Rattle.journal.specs.Records.{position, liveRecord}
+use Rattle.journal.specs.Table.{slotIn, tableFrom}
+use Rattle.journal.proofs.Latest.{sixteen-replay}
+use Rattle.journal.proofs.Tables.{Sixteen, sixteen-from}
+use Rattle.journal.proofs.View.{View, Shows, live, table-shown}
 use Rattle.masks.specs.Lines.{inMask}
 use Rattle.state.specs.declared.State.{State}
 use Rattle.state.specs.declared.Op.{Op}
 use Rattle.state.specs.declared.Op.the-variants.{Consolidate}
 use Rattle.state.specs.Held.{heldAt}
-use Rattle.state.specs.Operations.{slotFor, slotted, isIdle, opRows, needs}
+use Rattle.state.specs.Operations.{slotFor, slotted, opRows, needs}
 use Rattle.state.proofs.Taken.{ConsolidateTaken, consolidate-taken}
 use Rattle.stores.specs.Consolidate.{pageSlot, copyFrom, copyStoreCount, freeingRecord, consolidateAt, consolidateValue, consolidateTable}
 use Rattle.stores.specs.Frames.{otherFrame}
 use Rattle.stores.specs.Stores.{stepped, completed, storeAt, storeValue, storeMade}
+use Rattle.stores.proofs.Pending.{Pends, pends}
 use Rattle.stores.proofs.ConsolidateValid.{consolidate-valid}
 use Rattle.transactions.specs.Calls.{worldOf}
-use Rattle.transactions.proofs.Mounted.{view-sixteen}
 use Rattle.refinement.specs.Reference.{Reference, idle, under, nothing, withWork, advances}
 use Rattle.refinement.proofs.Invariant.{holds, Writing, Never, Changing, Doing, Quiet, Busy, Related}
-use Rattle.refinement.proofs.Copies.{image-fits}
+use Rattle.refinement.proofs.Copies.{durable-fits}
 use Rattle.refinement.proofs.ConsolidateStores.{Part, part-of, at-head, value-head}
 use Rattle.refinement.proofs.ConsolidateSlot.{Freed, freed}
 use Rattle.refinement.proofs.ConsolidateMid.{held-other, consolidate-mid}
@@ -41,7 +43,12 @@ use Rattle.refinement.proofs.FreeNames.{Frees, slot-gone, slot-kept, sl
 use Rattle.refinement.proofs.HeaderStore.{header-line}
 use Rattle.refinement.proofs.Stepping.{needs-made, step-mid}
 use Rattle.refinement.proofs.StepLast.{step-last}
-use Rattle.stores.proofs.Pending.{Pends, pends}
+
+-- a mount finds a table of 16 slots
+pub mounted-sixteen : (img : List ℕ) (v : View) → Shows img v → Sixteen (v .table)
+mounted-sixteen img v shows =
+    subst Sixteen (sym (table-shown img v shows))
+    (sixteen-replay (v .sizes) (v .tail) (live v) (liveRecord (word img) (v .sizes) (v .tail)) (tableFrom (word img) (v .sizes)) (sixteen-from (word img) (v .sizes)))
 
 -- ---- the writers, when it is complete
 
@@ -108,11 +115,11 @@ module _ (past : List ℕ) (st : State) (img : List ℕ) (b : Reference) (B : Bu
   abbrev m : ℕ
   m = st .pending .made
 
-  under-way : Pends st (st .pending .op)
-  under-way = pends st (st .pending .op) (B .valid) refl (ap isIdle is)
+  under-way : Pends st (Consolidate p)
+  under-way = pends st (Consolidate p) (B .valid) is refl
 
   no-row : refusal (opRows st (Consolidate p) (st .pending .frame)) ≡ 0
-  no-row = subst (λ (o : Op). refusal (opRows st o (st .pending .frame)) ≡ 0) is (under-way .taken)
+  no-row = under-way .taken
 
   taken : ConsolidateTaken st p
   taken = consolidate-taken st p no-row
@@ -125,7 +132,7 @@ module _ (past : List ℕ) (st : State) (img : List ℕ) (b : Reference) (B : Bu
   needed = refl
 
   some-left : m < copyStoreCount t + 6
-  some-left = subst (λ (n : ℕ). m < n) needed (subst (λ (o : Op). m < needs st o) is (under-way .made-low))
+  some-left = subst (λ (n : ℕ). m < n) needed (under-way .made-low)
 
   working : b .work ≡ under nothing (needs st (Consolidate p) - m)
   working = subst (Doing st img b) is (B .doing)
@@ -150,9 +157,9 @@ module _ (past : List ℕ) (st : State) (img : List ℕ) (b : Reference) (B : Bu
       record {
         valid = consolidate-valid st p (B .valid) full no-row;
         pending = refl;
-        durable = consolidated-durable past st img b (B .valid) (B .durable) p F landed (view-sixteen img (B .durable .view) (B .durable .shows));
+        durable = consolidated-durable past st img b (B .valid) (B .durable) p F landed (mounted-sixteen img (B .durable .view) (B .durable .shows));
         writers =
-            consolidated-writing st img b p (position (st .sizes) (st .head) 1) F (frees-state st p (B .valid) full F) (image-fits st img (B .valid) (B .durable))
+            consolidated-writing st img b p (position (st .sizes) (st .head) 1) F (frees-state st p (B .valid) full F) (durable-fits past st img b (B .durable))
             (λ w q l c. c) (subst (λ (o : Op). Writing st img b (Changing o)) is (B .writers));
         work = refl;
       }

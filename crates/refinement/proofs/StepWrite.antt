@@ -32,8 +32,9 @@ use Rattle.stores.specs.Stores.{stepped, completed, storeAt, storeValue, storeM
 use Rattle.stores.proofs.Pending.{pends}
 use Rattle.stores.proofs.WriteValid.{write-valid}
 use Rattle.refinement.specs.Reference.{Reference, idle, writing, withWork, advances, written, readLine}
+use Rattle.refinement.proofs.Copies.{durable-legal, durable-fits}
 use Rattle.refinement.proofs.Invariant.{Durable, holds, Writing, Never, Changing, Busy, Related}
-use Rattle.refinement.proofs.Stepping.{Mid, unslotted-durable, durable-legal, durable-fits, mid-durable, mid-writing, mid-landed}
+use Rattle.refinement.proofs.Stepping.{Mid, unslotted-durable, mid-durable, mid-writing, mid-landed}
 use Rattle.refinement.proofs.StepLast.{step-last}
 use Rattle.refinement.proofs.Valid.{good}
 use Rattle.refinement.proofs.WriteTable.{Own, Takes, own-or-takes, page-slot, slot-whole, other-kept, frame-kept, write-behind}

@@ -38,6 +38,7 @@ use Rattle.stores.proofs.Pending.{made-valid}
 pub use Rattle.stores.proofs.Pending.{needs-made}
 use Rattle.transactions.specs.Recall.{frameOf}
 use Rattle.refinement.specs.Reference.{Reference, Task, idle, under, withWork, does, continues, advances}
+use Rattle.refinement.proofs.Copies.{durable-legal, durable-fits}
 use Rattle.refinement.proofs.Invariant.{TakenOnly, Behind, Durable, holds, Writing, Doing, Changing, Busy, Related}
 use Rattle.stores.proofs.PageSlots.{slotted-of, unslotted-of}
 
@@ -97,12 +98,6 @@ module _ (r r′ : ℕ → ℕ) (z : Sizes) (d t : Table) (g : Legal z) (h : Beh
 -- ---- the image after a store to a dead word
 
 module _ (past : List ℕ) (st : State) (img : List ℕ) (b : Reference) (D : Durable past st img b) where
-  pub durable-legal : Legal (st .sizes)
-  durable-legal = subst Legal (D .sizes-same) (D .mounts .legal)
-
-  pub durable-fits : imageLength (st .sizes) ≤ length img
-  durable-fits = subst (λ (z : Sizes). imageLength z ≤ length img) (D .sizes-same) (D .mounts .fits)
-
   -- mount reads the page word of a page without a slot
   pub page-read : (p : ℕ) → p < st .sizes .pages → slotOf (st .sizes) (D .view .table) p ≡ st .sizes .slots → Read (D .view) (pageWord p)
   page-read p low none = page p (rw (D .sizes-same) low) (rw (D .sizes-same) none) refl
@@ -113,7 +108,7 @@ module _ (past : List ℕ) (st : State) (img : List ℕ) (b : Reference) (D : Du
 
   module _ (a w : ℕ) (inside : 8 * a + 8 ≤ imageLength (st .sizes)) where
     pub store-fits : 8 * a + 8 ≤ length img
-    store-fits = omega (arith, durable-fits)
+    store-fits = omega (arith, durable-fits past st img b D)
 
     -- page words of pages without a slot, committed frames and committed lines, where mount does not read a
     pub page-kept : Dead (D .view) a → (p : ℕ) → p < st .sizes .pages → slotOf (st .sizes) (D .view .table) p ≡ st .sizes .slots
@@ -134,11 +129,11 @@ module _ (past : List ℕ) (st : State) (img : List ℕ) (b : Reference) (D : Du
           sizes-same = D .sizes-same;
           head-same = D .head-same;
           tail-same = D .tail-same;
-          behind = behind-ext (word img) (word (store img a w)) z (D .view .table) (st .table) durable-legal (D .behind) same;
+          behind = behind-ext (word img) (word (store img a w)) z (D .view .table) (st .table) (durable-legal past st img b D) (D .behind) same;
           committed =
               λ p l low line.
               ap (λ (f : ℕ). lineBytes (store img a w) z f l)
-              (frame-ext (word img) (word (store img a w)) z (D .view .table) (st .table) durable-legal (D .behind) same p l low)
+              (frame-ext (word img) (word (store img a w)) z (D .view .table) (st .table) (durable-legal past st img b D) (D .behind) same p l low)
               ∙ line-kept img a w z (frameOf (word img) z (st .table) p l) l store-fits (λ k m. free p l k low line m)
               ∙ D .committed p l low line;
         }

@@ -36,8 +36,8 @@ use Rattle.stores.proofs.Pending.{pends}
 use Rattle.transactions.specs.Recall.{frameOf}
 use Rattle.refinement.specs.Reference.{Reference, Cell, byte, laidOver, writing, under, advances, written, readLine}
 use Rattle.refinement.proofs.Invariant.{Durable, holds, Doing, Busy, Related}
-use Rattle.refinement.proofs.Copies.{other-low, slot-spare-low, copy-apart, others-apart, free-apart, free-other-apart}
-use Rattle.refinement.proofs.Stepping.{Aside, Mid, step-mid, durable-fits}
+use Rattle.refinement.proofs.Copies.{other-low, slot-spare-low, copy-apart, others-apart, free-apart, free-other-apart, durable-fits}
+use Rattle.refinement.proofs.Stepping.{Aside, Mid, step-mid}
 use Rattle.refinement.proofs.WriteTable.{Own, Takes, own-or-takes, other-none}
 
 -- no row turns back a write that is pending

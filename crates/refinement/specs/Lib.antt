@@ -1,2 +1,3 @@
 pub mod Reference
 pub mod Statement
+pub mod Beside

@@ -2,8 +2,8 @@
 -- operation under way with its stores left. It is fed each call's arguments and, from its answer, whether it was taken and how
 -- many stores it needs.
 use Prim.Native.Nat.{ℕ, zero, suc, _+_, _-_, min}
-use mathlib.Core.Bool.{Bool, _&&_, cond}
-use mathlib.Core.List.{List, []}
+use mathlib.Core.Bool.{_&&_, cond}
+use mathlib.Core.List.{List}
 use lib.Dec.{ltb, leb, eqb}
 use lib.ListN.{getD}
 use Rattle.bounded.specs.Tab.{tab}

@@ -1,0 +1,66 @@
+-- No call is answered 1 to 8 or 16: the image mounts and fits, the state is valid, and a page's frame is no slot's.
+use Prim.Native.Nat.{ℕ, _<_}
+use mathlib.Core.Bool.{false, not}
+use mathlib.Core.List.{List}
+use mathlib.Core.Logic.{⊎-elim}
+use mathlib.Core.Path.{_≡_, refl, ap}
+use lib.Dec.{ltb}
+use lib.ListN.{length}
+use borrow.Author.Tests.{le-ltb}
+use Rattle.layout.specs.Layout.{imageLength}
+use Rattle.state.specs.declared.State.{State}
+use Rattle.state.specs.Operations.{slotFor, frameBad}
+use Rattle.state.specs.Validity.{stateOk}
+use Rattle.state.proofs.Taken.{args-good}
+use Rattle.stores.specs.Frames.{pageFrame}
+use Rattle.stores.specs.Stores.{World}
+use Rattle.transactions.specs.Calls.{beginRows, beginOf, abortRows, abortOf, writeCallRows, writeOf, commitCallRows, commitOf, consolidateCallRows, consolidateOf, checkpointCallRows, checkpointOf, readRows, readRow, stepRows, stepOf, runOf}
+use Rattle.transactions.specs.Run.{Call, mount, checkpoint, step, begin, abort, commit, consolidate, run, write, read, recall, exec}
+use Rattle.refinement.specs.Beside.{broken, NeverRefused}
+use Rattle.refinement.specs.Reference.{Reference}
+use Rattle.refinement.proofs.Copies.{durable-fits, names-once}
+use Rattle.refinement.proofs.Invariant.{Related}
+use Rattle.refinement.proofs.Lacks.{lacks}
+use Rattle.refinement.proofs.MountReadsBack.{mount-taken}
+use Rattle.refinement.proofs.PageFrame.{frame-good}
+use Rattle.refinement.proofs.Reached.{always}
+use Rattle.refinement.proofs.ReadCall.{read-args}
+use Rattle.refinement.proofs.RecallCall.{recall-sound}
+use Rattle.refinement.proofs.Sound.{related-valid, related-durable}
+
+module _ {past : List ℕ} (v : World) (b : Reference) (h : Related past v b) where
+  abbrev st : State
+  st = v .st
+
+  abbrev img : List ℕ
+  img = v .image
+
+  -- 8 and 4
+  valid : not (stateOk st) ≡ false
+  valid = ap not (related-valid st img b h)
+
+  fits : ltb (length img) (imageLength (st .sizes)) ≡ false
+  fits = le-ltb (length img) (imageLength (st .sizes)) (durable-fits past st img b (related-durable st img b h))
+
+  -- 16
+  frame : (p : ℕ) → p < st .sizes .pages → frameBad (st .sizes) (st .table .page) (st .table .original) (st .table .spare) (slotFor st p) (pageFrame st img p) ≡ false
+  frame = frame-good st img (related-valid st img b h) (names-once st img (related-valid st img b h) (related-durable st img b h))
+
+  pub call-kept : (c : Call) → broken (exec c v .number) ≡ false
+  unfolding exec beginOf abortOf writeOf commitOf consolidateOf checkpointOf readRow stepOf runOf
+  call-kept mount = ap broken (mount-taken v b h)
+  call-kept checkpoint = lacks broken (checkpointCallRows st img) (valid, λ a. (fits, λ c. (refl, λ d. refl)))
+  call-kept step = lacks broken (stepRows st img) (valid, λ a. (fits, λ c. (refl, λ d. refl)))
+  call-kept (begin w) = lacks broken (beginRows st w) (valid, λ a. (refl, λ c. (refl, λ d. (refl, λ e. refl))))
+  call-kept (abort w) = lacks broken (abortRows st w) (valid, λ a. (refl, λ c. (refl, λ d. (refl, λ e. refl))))
+  call-kept (commit w) = lacks broken (commitCallRows st img w) (valid, λ a. (fits, λ c. (refl, λ d. (refl, λ e. (refl, λ f. (refl, λ g. refl))))))
+  call-kept (consolidate p) = lacks broken (consolidateCallRows st img p) (valid, λ a. (fits, λ c. (refl, λ d. (refl, λ e. (refl, λ f. (refl, λ g. (refl, λ i. refl)))))))
+  call-kept (run k) = lacks broken (stepRows st img) (valid, λ a. (fits, λ c. (refl, λ d. refl)))
+  call-kept (write w p l o n bytes) =
+      lacks broken (writeCallRows st img w p l o n bytes)
+      (valid, λ a. (fits, λ c. (refl, λ d. (refl, λ e. (refl, λ f. (refl, λ g. (refl, λ i. (refl, λ j. (frame p (args-good (st .sizes) w p l o n f .page-low), λ k. refl)))))))))
+  call-kept (read w p l target) = lacks broken (readRows st img w p l target) (valid, λ a. (fits, λ c. (refl, λ d. (refl, λ e. (frame p (read-args st w p l target e .1), λ f. refl)))))
+  call-kept (recall p l target) = ⊎-elim (λ e. ap broken e) (λ e. ap broken e) (recall-sound p l target v b h .right .0)
+
+pub never-refused : NeverRefused
+never-refused = always _ (λ z buffer v b h. call-kept v b (h .related))

@@ -1,0 +1,116 @@
+-- What stands beside demand 3, over the same lists: sentences on the world that a list of calls reaches on a freshly formatted buffer,
+-- and on the reference machine fed the same calls. A list may end anywhere, so each holds before and after every call of a list.
+use Prim.Native.Nat.{ℕ, _+_, _*_, _<_, _≤_}
+use mathlib.Core.Bool.{Bool, true, false, _&&_, _||_}
+use mathlib.Core.List.{List, [], _∷_}
+use mathlib.Core.Logic.{_⊎_}
+use mathlib.Core.Path.{_≡_}
+use lib.Dec.{leb, eqb}
+use lib.ListN.{length, drop}
+use Rattle.words.specs.Words.{Bytes, word}
+use Rattle.layout.specs.declared.Sizes.{Sizes}
+use Rattle.layout.specs.Layout.{sizesOk, imageLength, pageWord}
+use Rattle.image.specs.Lines.{lineBytes}
+use Rattle.journal.specs.Slots.{freeSlot}
+use Rattle.journal.specs.Table.{slotIn, lastIn}
+use Rattle.state.specs.declared.State.{State}
+use Rattle.state.specs.declared.Op.the-variants.{Checkpoint}
+use Rattle.state.specs.Operations.{needs}
+use Rattle.stores.specs.Stores.{World, storeAt, left}
+use Rattle.transactions.specs.Recall.{frameOf}
+use Rattle.transactions.specs.Run.{Call, mount, checkpoint, step, commit, run, exec, formattedWorld, after}
+use Rattle.refinement.specs.Reference.{Reference, blank, turn, readLine, recallLine}
+use Rattle.refinement.specs.Statement.{AllLent}
+
+-- the reference machine after a list of calls, fed as in demand 3
+unfoldable pub follows : List Call → World → Reference → Reference
+follows [] v b = b
+follows (c ∷ cs) v b = let d = exec c v in follows cs (d .world) (turn c (d .number) (d .stores) b)
+
+-- after every list of calls, the sentence P holds of the sizes and the buffer formatted, the world reached and the reference machine
+abbrev pub Always : (Sizes → List ℕ → World → Reference → Type 0) → Type 0
+Always P =
+    (z : Sizes) → sizesOk z ≡ true → (buffer : List ℕ) → Bytes buffer → imageLength z ≤ length buffer
+    → (calls : List Call) → AllLent calls
+    → P z buffer (after calls (formattedWorld z buffer)) (follows calls (formattedWorld z buffer) blank)
+
+-- ---- demand 2: a mount reads back what is committed
+
+-- line l of page p in the image, where a state says that its committed copy lies
+abbrev pub lineOf : List ℕ → State → ℕ → ℕ → List ℕ
+lineOf img st p l = lineBytes img (st .sizes) (frameOf (word img) (st .sizes) (st .table) p l) l
+
+-- a mount (which stands for a power cut) is taken and finds these lines, by page and line
+pub record Finds (z : Sizes) (v : World) (lines : ℕ → ℕ → List ℕ) : Type 0 where
+  pub taken : exec mount v .number ≡ 0
+  pub found : (p l : ℕ) → p < z .pages → l < 64 → lineOf (v .image) (exec mount v .world .st) p l ≡ lines p l
+
+-- a write took slot s for a page and nothing of it is committed: the page's frame is still the one in the page table, no line is in the
+-- spare, and the mounted state m has the slot free with the same spare
+pub record Uncommitted (img : List ℕ) (st m : State) (s : ℕ) : Type 0 where
+  pub page-low : slotIn (st .table) s .page < st .sizes .pages
+  pub original : slotIn (st .table) s .original ≡ word img (pageWord (slotIn (st .table) s .page))
+  pub bitmap : slotIn (st .table) s .bitmap ≡ 0
+  pub free : slotIn (m .table) s ≡ freeSlot (slotIn (st .table) s .spare)
+
+-- the mounted state m has the sizes, head, tail, last positions and committed slots of the state st, and finds its committed lines
+pub record ReadsBack (img : List ℕ) (st m : State) : Type 0 where
+  pub sizes : m .sizes ≡ st .sizes
+  pub head : m .head ≡ st .head
+  pub tail : m .tail ≡ st .tail
+  pub last : (s : ℕ) → s < st .sizes .slots → lastIn (m .table) s ≡ lastIn (st .table) s
+  pub slot : (s : ℕ) → s < st .sizes .slots → (slotIn (m .table) s ≡ slotIn (st .table) s) ⊎ Uncommitted img st m s
+  pub line : (p l : ℕ) → p < st .sizes .pages → l < 64 → lineOf img m p l ≡ lineOf img st p l
+
+-- after any list a mount is taken, finds the reference machine's pages, and reads the state back
+abbrev pub MountReadsBack : Type 0
+MountReadsBack = Always (λ z buffer v b. Finds z v (recallLine b) × ReadsBack (v .image) (v .st) (exec mount v .world .st))
+
+-- ---- no call is turned back for a broken image, buffer or state
+
+-- the numbers 1 to 8 and 16
+abbrev pub broken : ℕ → Bool
+broken n = (leb 1 n && leb n 8) || eqb n 16
+
+-- whatever call comes next, it is not answered one of these
+abbrev pub NeverRefused : Type 0
+NeverRefused = Always (λ z buffer v b. (c : Call) → broken (exec c v .number) ≡ false)
+
+-- ---- stores stay inside the image
+
+-- the eight bytes of each store of the operation that is pending lie inside the image
+abbrev pub StoresInside : Type 0
+StoresInside =
+    Always (λ z buffer v b. (i : ℕ) → i < needs (v .st) (v .st .pending .op) → 8 * storeAt (v .st) (v .st .pending .op) i + 8 ≤ imageLength z)
+
+-- the bytes past the image are those of the buffer
+abbrev pub PastKept : Type 0
+PastKept = Always (λ z buffer v b. drop (imageLength z) (v .image) ≡ drop (imageLength z) buffer)
+
+-- ---- a commit is whole or absent
+
+-- a commit by writer w is asked for, a run of k follows, and power goes: with fewer stores made than it needs (the last is that of head) a
+-- mount finds every page as it was before the commit; with all of them, as the writer read it
+pub record Whole (z : Sizes) (v : World) (b : Reference) (w k : ℕ) : Type 0 where
+  pub absent : k < exec (commit w) v .stores → Finds z (exec (run k) (exec (commit w) v .world) .world) (recallLine b)
+  pub landed : exec (commit w) v .stores ≤ k → Finds z (exec (run k) (exec (commit w) v .world) .world) (readLine b w)
+
+-- every commit that is taken
+abbrev pub CommitWhole : Type 0
+CommitWhole = Always (λ z buffer v b. (w k : ℕ) → exec (commit w) v .number ≡ 0 → Whole z v b w k)
+
+-- ---- a checkpoint makes room
+
+-- no commit is answered 19
+abbrev pub HasRoom : World → Type 0
+HasRoom v = (w : ℕ) → exec (commit w) v .number ≡ 19 → ⊥
+
+-- right after a checkpoint is completed: by the call that asks for one that needs no store, and, where one is under way, by the step or the
+-- run that makes the last of its stores
+pub record MakesRoom (v : World) : Type 0 where
+  pub at-once : exec checkpoint v .number ≡ 0 → exec checkpoint v .stores ≡ 0 → HasRoom (exec checkpoint v .world)
+  pub by-step : v .st .pending .op ≡ Checkpoint → left (v .st) ≡ 1 → HasRoom (exec step v .world)
+  pub by-run : v .st .pending .op ≡ Checkpoint → (k : ℕ) → left (v .st) ≤ k → HasRoom (exec (run k) v .world)
+
+abbrev pub CheckpointMakesRoom : Type 0
+CheckpointMakesRoom = Always (λ z buffer v b. MakesRoom v)
