@@ -1,6 +1,6 @@
 -- Abort closes a writer: its held lines and its unfinished writes are gone together, and the committed copies stay.
 use Prim.Native.Nat.{ℕ, _<_}
-use mathlib.Core.Bool.{false}
+use mathlib.Core.Bool.{true, not, false}
 use mathlib.Core.List.{List}
 use mathlib.Core.Logic.{inl}
 use mathlib.Core.Path.{_≡_, refl, sym, ap, _∙_}
@@ -8,26 +8,26 @@ use native.Mathlib.Omega.{arith}
 use lib.Dec.{eqb}
 use borrow.Author.Tests.{eqb-true, eqb-false, ltb-true}
 use Rattle.bounded.specs.Rows.{refusal}
-use Rattle.bounded.proofs.Rows.{none-apply}
 use Rattle.bounded.proofs.Tests.{caseOn, contradicts}
 use Rattle.layout.specs.Layout.{Legal}
-use Rattle.journal.specs.Table.{slotIn}
 use Rattle.masks.proofs.Members.{in-none}
 use Rattle.state.specs.declared.State.{State}
 use Rattle.state.specs.Held.{heldAt}
 use Rattle.state.specs.Operations.{slotFor, slotted}
+use Rattle.state.specs.Validity.{stateOk}
 use Rattle.stores.specs.Commit.{closedWriter}
 use Rattle.stores.specs.Stores.{World}
-use Rattle.stores.proofs.Closed.{closed-opened-length, closed-held-length, closed-holds, others-hold, closed-fine}
+use Rattle.stores.proofs.Closed.{closed-opened-length, closed-held-length, closed-holds, others-hold}
 use Rattle.stores.proofs.Valid.{valid}
 use Rattle.transactions.specs.Calls.{abortRows, abortOf, withWriters}
+use Rattle.transactions.proofs.Begun.{abort-taken, abort-valid}
 use Rattle.transactions.specs.Run.{abort, exec}
 use Rattle.refinement.specs.Reference.{Reference, emptied}
 use Rattle.refinement.proofs.Invariant.{holds, Writing, Never, Quiet, Related}
-use Rattle.refinement.proofs.Sound.{Sound, answered-kept, is-quiet, quiet-idle}
-use Rattle.refinement.proofs.Keeps.{durable-kept, writers-valid}
+use Rattle.refinement.proofs.Sound.{Sound, answered-kept, is-quiet}
+use Rattle.refinement.proofs.Keeps.{durable-kept}
 
-abbrev closed : State → ℕ → State
+abbrev pub closed : State → ℕ → State
 closed st w = withWriters st (closedWriter (st .sizes) (st .writers) w)
 
 module _ (st : State) (w : ℕ) (legal : Legal (st .sizes)) where
@@ -67,15 +67,13 @@ aborted-writers st img b w legal ws =
           (λ e. rw e (ws .no-writes v p l i k h m j (sym (holds-other st w legal v p l (eqb-false v w e)) ∙ t)));
     }
 
-pub aborted : {past : List ℕ} (st : State) (img : List ℕ) (b : Reference) (w : ℕ) → Quiet past st img b → Quiet past (closed st w) img (emptied w b)
-aborted st img b w q =
-    let legal = valid st (q .valid) .legal in
+pub aborted : {past : List ℕ} (st : State) (img : List ℕ) (b : Reference) (w : ℕ) → stateOk (closed st w) ≡ true → Quiet past st img b → Quiet past (closed st w) img (emptied w b)
+aborted st img b w e q =
     record {
-      valid = writers-valid st (closedWriter (st .sizes) (st .writers) w) (q .valid) (quiet-idle st img b q)
-          (closed-fine (st .sizes) legal (st .writers) w (slotIn (st .table)) (valid st (q .valid) .held));
+      valid = e;
       pending = q .pending;
       durable = durable-kept st img b (emptied w b) (st .next) (closedWriter (st .sizes) (st .writers) w) (st .pending) (λ p l h k. refl) (q .durable);
-      writers = aborted-writers st img b w legal (q .writers);
+      writers = aborted-writers st img b w (valid st (q .valid) .legal) (q .writers);
       work = q .work;
     }
 
@@ -86,6 +84,6 @@ abort-sound w v b h =
     let a =
     answered-kept (abort w) v b (refusal (abortRows st w)) 0 (closed st w) h
     (λ e.
-    let rows = none-apply (abortRows st w) (omega arith) e in
-    record { sizes = refl; related = inl (aborted st (v .image) b w (is-quiet st (v .image) b h (rows .1 .0))) }) in
+    let q = is-quiet st (v .image) b h (ap not (abort-taken st w e .quiet)) in
+    record { sizes = refl; related = inl (aborted st (v .image) b w (abort-valid st w e) q) }) in
     record { right = tt; sizes = a .sizes; related = a .related }

@@ -1,6 +1,6 @@
 -- A commit asked for. With no lines held it needs no store: it closes the writer, whose unfinished writes are none.
 use Prim.Native.Nat.{ℕ, _<_}
-use mathlib.Core.Bool.{Bool, false, not}
+use mathlib.Core.Bool.{true, Bool, false, not}
 use mathlib.Core.List.{List}
 use mathlib.Core.Logic.{inl, inr}
 use mathlib.Core.Path.{_≡_, refl, sym, ap, _∙_, subst}
@@ -23,15 +23,17 @@ use Rattle.state.specs.declared.State.{State}
 use Rattle.state.specs.declared.Op.the-variants.{Commit}
 use Rattle.state.specs.Held.{heldAt, heldSlots}
 use Rattle.state.specs.Operations.{slotFor, slotted, needs, commitRows}
+use Rattle.state.specs.Validity.{stateOk}
 use Rattle.state.proofs.Taken.{commit-taken}
 use Rattle.stores.specs.Commit.{commitSlots, commitHead, commitTable, commitRecord, closedWriter}
 use Rattle.stores.specs.Stores.{World, completed}
+use Rattle.stores.proofs.CommitValid.{commit-valid}
 use Rattle.stores.proofs.Valid.{valid}
-use Rattle.transactions.specs.Calls.{commitCallRows, commitOf, withWriters}
+use Rattle.transactions.specs.Calls.{commitCallRows, commitOf}
 use Rattle.transactions.specs.Run.{commit, exec}
 use Rattle.refinement.specs.Reference.{Reference, Cell, laidOver, committing, laid, emptied}
 use Rattle.refinement.proofs.Invariant.{Quiet, Related, holds}
-use Rattle.refinement.proofs.Abort.{aborted}
+use Rattle.refinement.proofs.Abort.{closed, aborted}
 use Rattle.refinement.proofs.Asked.{all-left, asked-busy, asked-after}
 use Rattle.refinement.proofs.Keeps.{quiet-pages}
 use Rattle.refinement.proofs.Sound.{Sound, is-quiet}
@@ -51,7 +53,7 @@ none-needed st w e =
     let n : ℕ = length (commitSlots st w) in
     caseOn (eqb n 0) (λ t. eqb-true n 0 t) (λ t. absurd (omega (arith, rw t at e)))
 
-module _ {past : List ℕ} (st : State) (img : List ℕ) (b : Reference) (w : ℕ) (low : w < 4) (q : Quiet past st img b) (empty : length (commitSlots st w) ≡ 0) where
+module _ {past : List ℕ} (st : State) (img : List ℕ) (b : Reference) (w : ℕ) (row : refusal (commitRows st w) ≡ 0) (q : Quiet past st img b) (empty : length (commitSlots st w) ≡ 0) where
   none-holds : (p l : ℕ) → holds st w p l ≡ false
   none-holds p l =
       caseOn (slotted st p)
@@ -66,7 +68,7 @@ module _ {past : List ℕ} (st : State) (img : List ℕ) (b : Reference) (w : �
   same-head : commitHead st w ≡ st .head
   same-head = ap (position (st .sizes) (st .head)) empty ∙ pos-none (st .sizes) (st .head) (valid st (q .valid) .positions .head-low)
 
-  as-aborted : withWriters st (closedWriter (st .sizes) (st .writers) w) ≡ completed st (Commit w)
+  as-aborted : closed st w ≡ completed st (Commit w)
   as-aborted =
       let e₁ = same-head in
       let e₂ = same-table in
@@ -77,9 +79,9 @@ module _ {past : List ℕ} (st : State) (img : List ℕ) (b : Reference) (w : �
   empty-commit : Quiet past (completed st (Commit w)) img (emptied w (laid w b))
   empty-commit =
       subst (λ (s : State). Quiet past s img (emptied w (laid w b))) as-aborted
-      (quiet-pages (withWriters st (closedWriter (st .sizes) (st .writers) w)) img (emptied w b) (laid w b .pages)
-      (λ p l i h k m. ap (λ (c : Cell). laidOver c (b .pages p l i)) (sym (q .writers .no-writes w p l i low h k m (none-holds p l))))
-      (aborted st img b w q))
+      (quiet-pages (closed st w) img (emptied w b) (laid w b .pages)
+      (λ p l i h k m. ap (λ (c : Cell). laidOver c (b .pages p l i)) (sym (q .writers .no-writes w p l i (commit-taken st w row .writer-low) h k m (none-holds p l))))
+      (aborted st img b w (subst (λ (s : State). stateOk s ≡ true) (sym as-aborted) (commit-valid st w (q .valid) (q .durable .behind .sixteen) row)) q))
 
 op-row : (st : State) (img : List ℕ) (w : ℕ) → refusal (commitCallRows st img w) ≡ 0 → refusal (commitRows st w) ≡ 0
 op-row st img w e = let rows = none-apply (commitCallRows st img w) (omega arith) e in sym (row-none (commitRows st w) (rows .1 .1 .1))
@@ -94,7 +96,7 @@ commit-sound w v b h =
     asked-after (commit w) v b (refusal (commitCallRows st img w)) (Commit w) (replicate 8 0) 0 (committing w) (λ k. refl) h
     (λ e z.
     let q = is-quiet st img b h (rows e .1 .1 .0) in
-    record { sizes = refl; related = inl (empty-commit st img b w (commit-taken st w (op-row st img w e) .writer-low) q (none-needed st w z)) })
+    record { sizes = refl; related = inl (empty-commit st img b w (op-row st img w e) q (none-needed st w z)) })
     (λ e z.
     let q = is-quiet st img b h (rows e .1 .1 .0) in
     record { sizes = refl; related = inr (asked-busy st img b (Commit w) (replicate 8 0) 0 (committing w) q z (op-row st img w e) (all-left st (Commit w) (replicate 8 0) 0 (committing w))) }) in

@@ -1,30 +1,28 @@
 -- Begin opens a writer that holds nothing: nothing else changes.
 use Prim.Native.Nat.{ℕ}
-use mathlib.Core.Bool.{true}
+use mathlib.Core.Bool.{true, not}
 use mathlib.Core.List.{List}
 use mathlib.Core.Logic.{inl}
-use mathlib.Core.Path.{_≡_, refl, _∙_}
-use native.Mathlib.Omega.{arith}
-use lib.ListN.{set, length-set}
+use mathlib.Core.Path.{_≡_, refl, ap, _∙_}
+use lib.ListN.{length-set}
 use Rattle.bounded.specs.Rows.{refusal}
-use Rattle.bounded.proofs.Rows.{none-apply}
 use Rattle.state.specs.declared.State.{State}
 use Rattle.stores.specs.Stores.{World}
 use Rattle.stores.proofs.Valid.{valid}
 use Rattle.transactions.specs.Calls.{beginRows, beginOf, withWriters}
+use Rattle.transactions.proofs.Begun.{opening, begin-taken, begin-valid}
 use Rattle.transactions.specs.Run.{begin, exec}
-use Rattle.transactions.proofs.Begun.{begin-valid}
 use Rattle.refinement.specs.Reference.{Reference}
 use Rattle.refinement.proofs.Invariant.{Quiet, Related}
 use Rattle.refinement.proofs.Sound.{Sound, answered-kept, is-quiet}
 use Rattle.refinement.proofs.Keeps.{durable-kept}
 
 begun : {past : List ℕ} (st : State) (img : List ℕ) (b : Reference) (w : ℕ) → refusal (beginRows st w) ≡ 0 → Quiet past st img b
-    → Quiet past (withWriters st (record { opened = set (st .writers .opened) w true; held = st .writers .held })) img b
-begun st img b w r q =
+    → Quiet past (withWriters st (opening st w)) img b
+begun st img b w row q =
     let ws = q .writers in
     record {
-      valid = begin-valid st w r;
+      valid = begin-valid st w row;
       pending = q .pending;
       durable = durable-kept st img b b (st .next) _ (st .pending) (λ p l h k. refl) (q .durable);
       writers = record { four = length-set (st .writers .opened) w true ∙ ws .four; sixty-four = ws .sixty-four; held-low = ws .held-low; own-copy = ws .own-copy; no-writes = ws .no-writes };
@@ -36,8 +34,8 @@ unfolding exec beginOf
 begin-sound w v b h =
     let st = v .st in
     let a =
-    answered-kept (begin w) v b (refusal (beginRows st w)) 0 (withWriters st (record { opened = set (st .writers .opened) w true; held = st .writers .held })) h
+    answered-kept (begin w) v b (refusal (beginRows st w)) 0 (withWriters st (opening st w)) h
     (λ e.
-    let rows = none-apply (beginRows st w) (omega arith) e in
-    record { sizes = refl; related = inl (begun st (v .image) b w e (is-quiet st (v .image) b h (rows .1 .0))) }) in
+    let q = is-quiet st (v .image) b h (ap not (begin-taken st w e .quiet)) in
+    record { sizes = refl; related = inl (begun st (v .image) b w e q) }) in
     record { right = tt; sizes = a .sizes; related = a .related }

@@ -1,18 +1,12 @@
--- What a change of the state keeps where the image, the slots, head and tail stay: the durable part, and validity.
+-- What a change of the state, or of the reference machine, keeps where the image, the slots, head and tail stay.
 use Prim.Native.Nat.{ℕ, _<_}
-use mathlib.Core.Bool.{true}
 use mathlib.Core.List.{List}
 use mathlib.Core.Path.{_≡_, ap, _∙_}
 use Rattle.bounded.proofs.Tab.{tab-ext}
-use Rattle.journal.specs.Table.{slotIn}
 use Rattle.state.specs.declared.State.{State}
 use Rattle.state.specs.declared.Writers.{Writers}
 use Rattle.state.specs.declared.Pending.{Pending}
-use Rattle.state.specs.Operations.{isIdle}
-use Rattle.state.specs.Validity.{stateOk}
-use Rattle.stores.proofs.Pending.{idle-ok}
-use Rattle.stores.proofs.Valid.{HeldFine, valid, valid-ok}
-use Rattle.transactions.specs.Calls.{withWriters}
+use Rattle.stores.proofs.Valid.{valid}
 use Rattle.refinement.specs.Reference.{Reference, laidOver, recallLine}
 use Rattle.refinement.proofs.Invariant.{Durable, Quiet}
 
@@ -35,14 +29,6 @@ durable-kept st img b b′ next ws q e d =
       behind = d .behind;
       committed = λ p l h k. d .committed p l h k ∙ e p l h k;
     }
-
--- other writers, nothing pending
-pub writers-valid : (st : State) (ws : Writers) → stateOk st ≡ true → isIdle (st .pending .op) ≡ true → HeldFine (st .sizes) (slotIn (st .table)) (ws .opened) (ws .held)
-    → stateOk (withWriters st ws) ≡ true
-writers-valid st ws e i h =
-    let v = valid st e in
-    valid-ok (withWriters st ws)
-    (record { legal = v .legal; positions = v .positions; slots = v .slots; held = h; next-low = v .next-low; lasts = v .lasts; pending = idle-ok (withWriters st ws) i })
 
 -- the reference machine's pages told otherwise, the same where there are lines
 pub quiet-pages : {past : List ℕ} (st : State) (img : List ℕ) (b : Reference) (pages : ℕ → ℕ → ℕ → ℕ)

@@ -14,11 +14,9 @@ use Rattle.layout.specs.Layout.{headWord, imageLength}
 use Rattle.image.specs.Lines.{lineBytes}
 use Rattle.words.specs.Words.{word, store}
 use Rattle.journal.specs.declared.Slot.{Slot}
-use Rattle.journal.specs.Records.{position, liveRecord}
-use Rattle.journal.specs.Table.{slotIn, tableFrom}
-use Rattle.journal.proofs.Latest.{sixteen-replay}
-use Rattle.journal.proofs.Tables.{Sixteen, sixteen-from}
-use Rattle.journal.proofs.View.{View, Shows, live, table-shown}
+use Rattle.journal.specs.Records.{position}
+use Rattle.journal.specs.Table.{slotIn}
+use Rattle.journal.proofs.Tables.{Sixteen}
 use Rattle.masks.specs.Lines.{inMask}
 use Rattle.state.specs.declared.State.{State}
 use Rattle.state.specs.declared.Op.{Op}
@@ -32,6 +30,7 @@ use Rattle.stores.specs.Stores.{stepped, completed, storeAt, storeValue, storeM
 use Rattle.stores.proofs.Pending.{Pends, pends}
 use Rattle.stores.proofs.ConsolidateValid.{consolidate-valid}
 use Rattle.transactions.specs.Calls.{worldOf}
+use Rattle.transactions.proofs.Mounted.{view-sixteen}
 use Rattle.refinement.specs.Reference.{Reference, idle, under, nothing, withWork, advances}
 use Rattle.refinement.proofs.Invariant.{holds, Writing, Never, Changing, Doing, Quiet, Busy, Related}
 use Rattle.refinement.proofs.Copies.{durable-fits}
@@ -43,12 +42,6 @@ use Rattle.refinement.proofs.FreeNames.{Frees, slot-gone, slot-kept, sl
 use Rattle.refinement.proofs.HeaderStore.{header-line}
 use Rattle.refinement.proofs.Stepping.{needs-made, step-mid}
 use Rattle.refinement.proofs.StepLast.{step-last}
-
--- a mount finds a table of 16 slots
-pub mounted-sixteen : (img : List ℕ) (v : View) → Shows img v → Sixteen (v .table)
-mounted-sixteen img v shows =
-    subst Sixteen (sym (table-shown img v shows))
-    (sixteen-replay (v .sizes) (v .tail) (live v) (liveRecord (word img) (v .sizes) (v .tail)) (tableFrom (word img) (v .sizes)) (sixteen-from (word img) (v .sizes)))
 
 -- ---- the writers, when it is complete
 
@@ -157,7 +150,7 @@ module _ (past : List ℕ) (st : State) (img : List ℕ) (b : Reference) (B : Bu
       record {
         valid = consolidate-valid st p (B .valid) full no-row;
         pending = refl;
-        durable = consolidated-durable past st img b (B .valid) (B .durable) p F landed (mounted-sixteen img (B .durable .view) (B .durable .shows));
+        durable = consolidated-durable past st img b (B .valid) (B .durable) p F landed (view-sixteen img (B .durable .view) (B .durable .shows));
         writers =
             consolidated-writing st img b p (position (st .sizes) (st .head) 1) F (frees-state st p (B .valid) full F) (durable-fits past st img b (B .durable))
             (λ w q l c. c) (subst (λ (o : Op). Writing st img b (Changing o)) is (B .writers));

@@ -105,12 +105,13 @@ CommitWhole = Always (λ z buffer v b. (w k : ℕ) → exec (commit w) v .number
 abbrev pub HasRoom : World → Type 0
 HasRoom v = (w : ℕ) → exec (commit w) v .number ≡ 19 → ⊥
 
--- right after a checkpoint is completed: by the call that asks for one that needs no store, and, where one is under way, by the step or the
--- run that makes the last of its stores
+-- none is, right after a checkpoint is completed: by the call that asks for one that needs no store, and, where one is under way, by the
+-- step or the run that makes the last of its stores
 pub record MakesRoom (v : World) : Type 0 where
   pub at-once : exec checkpoint v .number ≡ 0 → exec checkpoint v .stores ≡ 0 → HasRoom (exec checkpoint v .world)
   pub by-step : v .st .pending .op ≡ Checkpoint → left (v .st) ≡ 1 → HasRoom (exec step v .world)
   pub by-run : v .st .pending .op ≡ Checkpoint → (k : ℕ) → left (v .st) ≤ k → HasRoom (exec (run k) v .world)
 
+-- after any list
 abbrev pub CheckpointMakesRoom : Type 0
 CheckpointMakesRoom = Always (λ z buffer v b. MakesRoom v)

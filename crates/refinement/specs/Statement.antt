@@ -45,6 +45,7 @@ Lent (run k) = Unit
 Lent (read w p l target) = Unit
 Lent (recall p l target) = Unit
 
+-- in every call of a list
 abbrev pub AllLent : List Call → Type 0
 AllLent [] = Unit
 AllLent (c ∷ cs) = Lent c × AllLent cs
@@ -56,7 +57,7 @@ Agrees n past (c ∷ cs) v b =
     let d = exec c v in
     Right c d b × (drop n (d .world .image) ≡ past) × Agrees n past cs (d .world) (turn c (d .number) (d .stores) b)
 
--- the theorem: legal sizes, a buffer of bytes that is long enough, and written data that are bytes are all that it assumes
+-- the theorem: sizes are legal, the buffer is bytes and long enough, and written data are bytes
 abbrev pub Demand3 : Type 0
 Demand3 =
     (z : Sizes) → sizesOk z ≡ true → (buffer : List ℕ) → Bytes buffer → imageLength z ≤ length buffer

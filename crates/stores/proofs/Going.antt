@@ -14,6 +14,14 @@ use Rattle.state.proofs.Taken.{WriteTaken, write-taken, CommitTaken, commit-tak
 use Rattle.stores.proofs.Valid.{parts}
 use Rattle.stores.proofs.Pending.{pends}
 
+-- its numbers are in their ranges and its slots have shapes
+module _ (st : State) (e : stateOk st ≡ true) where
+  pub ranges-of : Ranged st
+  ranges-of = let h = parts st e in ranged st (h .slots) (ltb-true (st .next) (st .sizes .slots) (h .next))
+
+  pub shapes-of : slotsShaped (st .sizes) (st .table) ≡ true
+  shapes-of = slots-good (st .sizes) (st .head) (st .tail) (st .table) (parts st e .slots) .shapes
+
 pub record Going (st : State) : Type 0 where
   pub ranges : Ranged st
   pub shapes : slotsShaped (st .sizes) (st .table) ≡ true
@@ -22,14 +30,8 @@ pub record Going (st : State) : Type 0 where
 
 pub going : (st : State) → stateOk st ≡ true → isIdle (st .pending .op) ≡ false → Going st
 going st e i =
-    let h = parts st e in
     let p = pends st (st .pending .op) e refl i in
-    record {
-      ranges = ranged st (h .slots) (ltb-true (st .next) (st .sizes .slots) (h .next));
-      shapes = slots-good (st .sizes) (st .head) (st .tail) (st .table) (h .slots) .shapes;
-      made-low = p .made-low;
-      taken = p .taken;
-    }
+    record { ranges = ranges-of st e; shapes = shapes-of st e; made-low = p .made-low; taken = p .taken }
 
 -- ---- what no row tells, by the operation
 

@@ -1,7 +1,7 @@
 -- The numbers that the stores are made of are in their ranges: slots below S, frames below F, lines below 64, and a
 -- record's parts fit its words. In a law about code, r, t or e is what the code found.
 use Prim.Native.Nat.{ℕ, zero, suc, _+_, _-_, _*_, _%_, _^_, _<_}
-use mathlib.Core.Bool.{true}
+use mathlib.Core.Bool.{true, false}
 use mathlib.Core.List.{List, [], _∷_}
 use mathlib.Core.Logic.{⊎-elim}
 use mathlib.Core.Path.{_≡_, refl, sym, ap, _∙_}
@@ -9,10 +9,10 @@ use native.Mathlib.Nat.{mod-lt, mod-eq-of-lt, not-suc-le-zero, le-of-suc-le-suc}
 use native.Mathlib.Omega.{arith}
 use lib.Dec.{leb, eqb}
 use lib.ListN.{length, getD}
-use borrow.Author.Tests.{ltb-true, eqb-true}
+use borrow.Author.Tests.{ltb-true, leb-false, eqb-true}
 use Rattle.bounded.specs.Below.{upTo}
 use Rattle.bounded.proofs.Below.{all-at, first-holds}
-use Rattle.bounded.proofs.Tests.{caseOn, row-keeps}
+use Rattle.bounded.proofs.Tests.{caseOn, or-left, row-keeps}
 use Rattle.masks.specs.Lines.{inMask, countLines}
 use Rattle.masks.proofs.Counts.{line-chosen, line-chosen-not, count-lines-not}
 use Rattle.masks.proofs.Members.{in-none}
@@ -26,12 +26,12 @@ use Rattle.journal.specs.Slots.{shaped}
 use Rattle.journal.specs.Table.{slotIn, slotsShaped, replaced, replay}
 use Rattle.journal.proofs.SlotWords.{Owning, Free, shape, shaped-fits}
 use Rattle.state.specs.declared.State.{State}
-use Rattle.state.specs.Held.{heldSlots}
-use Rattle.state.specs.Operations.{Ranged, slotFor, slotted, copyCount, recordedSlots}
-use Rattle.state.specs.Slots.{freeAfter}
+use Rattle.state.specs.Held.{heldAt, heldSlots}
+use Rattle.state.specs.Operations.{Ranged, slotFor, slotted, frameBad, copyCount, recordedSlots}
+use Rattle.state.specs.Slots.{freeAfter, frameOfSlot}
 use Rattle.stores.specs.Commit.{commitRecord}
 use Rattle.stores.specs.Consolidate.{pageSlot, copyTo, copyFrom, copyLines, freeingRecord, consolidateTable}
-use Rattle.stores.specs.Frames.{otherFrame}
+use Rattle.stores.specs.Frames.{committedFrame, otherFrame, seenFrame}
 use Rattle.stores.specs.Write.{writeSlot}
 use Rattle.stores.proofs.Nth.{nth-low}
 
@@ -77,6 +77,23 @@ page-slot-owning st p h l s e =
     (λ (o : Owning (st .sizes) (pageSlot st p)). o)
     (λ (f : Free (st .sizes) (pageSlot st p)). absurd (omega (arith, f .page-none)))
     (shape (st .sizes) (pageSlot st p) (slot-shaped (st .sizes) (st .table) k e low))
+
+-- the frame that a writer reads a line from, f being the page's frame, is a frame
+pub seen-low : (st : State) (w p l f : ℕ) → Legal (st .sizes) → p < st .sizes .pages → slotsShaped (st .sizes) (st .table) ≡ true
+    → frameBad (st .sizes) (st .table .page) (st .table .original) (st .table .spare) (slotFor st p) f ≡ false
+    → seenFrame st w p l f < frames (st .sizes)
+unfolding seenFrame
+seen-low st w p l f h m e b =
+    let low : ℕ → Type 0 = λ (x : ℕ). x < frames (st .sizes) in
+    let t = pageSlot st p in
+    caseOn (slotted st p)
+    (λ u.
+    let o = page-slot-owning st p h m u e in
+    rw u
+    (row-keeps low (inMask (heldAt (st .writers .held) w (slotFor st p)) l) (otherFrame t l) (committedFrame t l)
+    (row-keeps low (inMask (t .bitmap) l) (t .original) (t .spare) (o .original-low) (o .spare-low))
+    (row-keeps low (inMask (t .bitmap) l) (t .spare) (t .original) (o .spare-low) (o .original-low))))
+    (λ u. rw u (leb-false (frames (st .sizes)) f (or-left (leb (frames (st .sizes)) f) (frameOfSlot (st .sizes) (st .table .page) (st .table .original) (st .table .spare) f) (rw u at b))))
 
 pub copy-to-low : (z : Sizes) (t : Slot) → Owning z t → copyTo t < frames z
 copy-to-low z t o = row-keeps (λ (f : ℕ). f < frames z) (leb (countLines (t .bitmap)) 32) (t .original) (t .spare) (o .original-low) (o .spare-low)

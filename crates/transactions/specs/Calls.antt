@@ -37,6 +37,10 @@ rowNotPending st = (isIdle (st .pending .op), 10)
 abbrev pub quietRows : State → ℕ → List Row
 quietRows st n = rowState st ∷ rowShort st n ∷ rowPending st ∷ []
 
+-- and those where something must be
+abbrev pub busyRows : State → ℕ → List Row
+busyRows st n = rowState st ∷ rowShort st n ∷ rowNotPending st ∷ []
+
 -- the state with writers ws
 abbrev pub withWriters : State → Writers → State
 withWriters st ws =
@@ -117,7 +121,7 @@ readBytes st img w p l target =
 -- ---- step, run: the outcome, and the image after it
 
 abbrev pub stepRows : State → List ℕ → List Row
-stepRows st img = rowState st ∷ rowShort st (length img) ∷ rowNotPending st ∷ []
+stepRows st img = busyRows st (length img)
 
 abbrev pub stepRow : State → List ℕ → ℕ
 stepRow st img = refusal (stepRows st img)

@@ -1,4 +1,11 @@
 // The calls of the store. None relies on its caller having checked anything; a refused call changes no state and no byte.
+pub mod answers;
+pub mod mounting;
+pub mod operations;
+pub mod reading;
+pub mod recalling;
+pub mod stepping;
+pub mod writers;
 
 use state::State;
 

@@ -50,14 +50,15 @@ loop-less c = search needs
 
 loop-again : tie.Need-loop-again Inv-loop μ-loop
 unfolding one
-loop-again c = (
-  search needs,
-  nth-turn (recorded (c .before .before .before .before .before .args .last .now)) (c .before .before .before .before .before .args .z .slots) _ (c .before .before .before .before .loop .s) (c .before .before .before .before .loop .left) (c .before .before .before .before .loop .inv .1) (c .if2 .left)
-      (⊎-elim
-      (λ w. let e : one (recorded (c .before .before .before .before .before .args .last .now) (c .before .before .before .before .loop .s)) ≡ 1 = ap (λ (b : Bool). one (not b)) (ne-eqb _ _ (w .0 .taken)) in omega arith)
-      (λ w. let e : one (recorded (c .before .before .before .before .before .args .last .now) (c .before .before .before .before .loop .s)) ≡ 0 = ap (λ (b : Bool). one (not b)) (eq-eqb _ _ (w .0 .left)) in omega arith)
-      (c .if2 .came)),
-)
+loop-again c =
+    let s = c .before .before .before .before .before in (
+      search needs,
+      nth-turn (recorded (s .args .last .now)) (s .args .z .slots) _ (c .before .before .before .before .loop .s) (c .before .before .before .before .loop .left) (c .before .before .before .before .loop .inv .1) (c .if2 .left)
+          (⊎-elim
+          (λ w. let e : one (recorded (s .args .last .now) (c .before .before .before .before .loop .s)) ≡ 1 = ap (λ (b : Bool). one (not b)) (ne-eqb _ _ (w .0 .taken)) in omega arith)
+          (λ w. let e : one (recorded (s .args .last .now) (c .before .before .before .before .loop .s)) ≡ 0 = ap (λ (b : Bool). one (not b)) (eq-eqb _ _ (w .0 .left)) in omega arith)
+          (c .if2 .came)),
+    )
 
 returns-2 : tie.Need-returns-2 Inv-loop μ-loop
 unfolding recordedSlots

@@ -49,7 +49,9 @@ element-write-out c = search needs
 
 returns : tie.Need-returns Inv-loop μ-loop
 unfolding closedWriter
-returns c = ap (closedWith (c .before .before .before .before .args .ws) (c .before .before .before .before .args .w)) (up-ends _ _ _ _ _ (c .before .before .loop .inv .0) (c .if1 .left) (c .before .before .loop .inv .1))
+returns c =
+    let s = c .before .before .before .before in
+    ap (closedWith (s .args .ws) (s .args .w)) (up-ends _ _ _ _ _ (c .before .before .loop .inv .0) (c .if1 .left) (c .before .before .loop .inv .1))
 
 pub closed-writer-spec : {M : Type 1} → statement M
 closed-writer-spec =

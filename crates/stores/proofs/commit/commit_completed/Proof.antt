@@ -9,7 +9,9 @@ held-count-requires : tie.Need-held-count-requires
 held-count-requires c κs = search needs
 
 position-requires : tie.Need-position-requires
-position-requires c κs = (c .before .before .before .before .before .pre .0 .legal, c .before .before .before .before .before .pre .0 .head-low, omega (arith, held-le _ _ _ _ (c .before .held-count .ensures), c .before .before .before .before .before .pre .0 .legal))
+position-requires c κs =
+    let s = c .before .before .before .before .before in
+    (s .pre .0 .legal, s .pre .0 .head-low, omega (arith, held-le _ _ _ _ (c .before .held-count .ensures), s .pre .0 .legal))
 
 commit-table-requires : tie.Need-commit-table-requires
 commit-table-requires c κs = search needs
@@ -21,7 +23,9 @@ settle-requires : tie.Need-settle-requires
 settle-requires c κs = search needs
 
 returns : tie.Need-returns
-returns c = commit-settled (c .before .before .before .before .before .before .before .before .before .before .before .args .t1) _ (c .before .before .before .before .before .before .before .before .before .before .before .args .writer) _ _ _ _ (c .before .before .before .before .before .before .before .held-count .ensures) (c .before .before .before .before .before .position .ensures) (c .before .before .before .before .commit-table .ensures) (c .before .closed-writer .ensures) (c .settle .ensures)
+returns c =
+    let s = c .before .before .before .before .before .before .before .before .before .before .before in
+    commit-settled (s .args .t1) _ (s .args .writer) _ _ _ _ (c .before .before .before .before .before .before .before .held-count .ensures) (c .before .before .before .before .before .position .ensures) (c .before .before .before .before .commit-table .ensures) (c .before .closed-writer .ensures) (c .settle .ensures)
 
 pub commit-completed-spec : {M : Type 1} → statement M
 commit-completed-spec =

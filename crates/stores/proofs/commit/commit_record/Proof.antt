@@ -9,10 +9,14 @@ held-slot-requires : tie.Need-held-slot-requires
 held-slot-requires c κs = search needs
 
 committed-slot-requires : tie.Need-committed-slot-requires
-committed-slot-requires c κs = (c .before .before .before .before .pre .1, omega (arith, held-slot-low _ _ _ _ _ (c .before .before .before .before .pre .0 .legal) (c .held-slot .ensures), c .before .before .before .before .pre .0 .legal))
+committed-slot-requires c κs =
+    let s = c .before .before .before .before in
+    (s .pre .1, omega (arith, held-slot-low _ _ _ _ _ (s .pre .0 .legal) (c .held-slot .ensures), s .pre .0 .legal))
 
 returns : tie.Need-returns
-returns c = commit-made (c .before .before .before .before .before .args .t1) (c .before .before .before .before .before .args .w) (c .before .before .before .before .before .args .j) _ _ (c .before .held-slot .ensures) (c .committed-slot .ensures)
+returns c =
+    let s = c .before .before .before .before .before in
+    commit-made (s .args .t1) (s .args .w) (s .args .j) _ _ (c .before .held-slot .ensures) (c .committed-slot .ensures)
 
 pub commit-record-spec : {M : Type 1} → statement M
 commit-record-spec =

@@ -25,10 +25,14 @@ commit-record-requires : tie.Need-commit-record-requires Inv-loop μ-loop
 commit-record-requires c κs = search needs
 
 position-requires : tie.Need-position-requires Inv-loop μ-loop
-position-requires c κs = (c .before .before .before .before .pre .0 .legal, c .before .before .before .before .pre .0 .head-low, omega (arith, held-le _ _ _ _ (c .before .before .before .before .pre .2), c .before .before .before .before .pre .0 .legal))
+position-requires c κs =
+    let s = c .before .before .before .before in
+    (s .pre .0 .legal, s .pre .0 .head-low, omega (arith, held-le _ _ _ _ (s .pre .2), s .pre .0 .legal))
 
 replaced-requires : tie.Need-replaced-requires Inv-loop μ-loop
-replaced-requires c κs = commit-record-low (c .before .before .before .before .before .args .st) (c .before .before .before .before .before .args .w) (c .before .before .before .loop .j) _ (c .before .before .before .before .before .pre .0 .legal) (c .before .commit-record .ensures)
+replaced-requires c κs =
+    let s = c .before .before .before .before .before in
+    commit-record-low (s .args .st) (s .args .w) (c .before .before .before .loop .j) _ (s .pre .0 .legal) (c .before .commit-record .ensures)
 
 add-j : tie.Need-add-j Inv-loop μ-loop
 add-j c = search needs

@@ -22,7 +22,9 @@ exclusive-or-requires : tie.Need-exclusive-or-requires
 exclusive-or-requires c κs = search needs
 
 returns : tie.Need-returns
-returns c = committed-made (c .before .before .before .before .args .st) (c .before .before .before .before .args .w) (c .before .before .before .before .args .s) _ _ (c .before .before .before .slot-in .ensures) (c .exclusive-or .ensures)
+returns c =
+    let s = c .before .before .before .before in
+    committed-made (s .args .st) (s .args .w) (s .args .s) _ _ (c .before .before .before .slot-in .ensures) (c .exclusive-or .ensures)
 
 pub committed-slot-spec : {M : Type 1} → statement M
 committed-slot-spec =

@@ -54,14 +54,15 @@ loop-less c = search needs
 
 loop-again : tie.Need-loop-again Inv-loop μ-loop
 unfolding one
-loop-again c = (
-  search needs,
-  nth-turn (holds (c .before .before .before .before .before .args .held .now) (c .before .before .before .before .before .args .w)) (c .before .before .before .before .before .args .z .slots) _ (c .before .before .before .before .loop .s) (c .before .before .before .before .loop .left) (c .before .before .before .before .loop .inv .1) (c .if2 .left)
-      (⊎-elim
-      (λ q. let e : one (holds (c .before .before .before .before .before .args .held .now) (c .before .before .before .before .before .args .w) (c .before .before .before .before .loop .s)) ≡ 1 = ap (λ (b : Bool). one (not b)) (ne-eqb _ _ (q .0 .taken)) in omega arith)
-      (λ q. let e : one (holds (c .before .before .before .before .before .args .held .now) (c .before .before .before .before .before .args .w) (c .before .before .before .before .loop .s)) ≡ 0 = ap (λ (b : Bool). one (not b)) (eq-eqb _ _ (q .0 .left)) in omega arith)
-      (c .if2 .came)),
-)
+loop-again c =
+    let s = c .before .before .before .before .before in (
+      search needs,
+      nth-turn (holds (s .args .held .now) (s .args .w)) (s .args .z .slots) _ (c .before .before .before .before .loop .s) (c .before .before .before .before .loop .left) (c .before .before .before .before .loop .inv .1) (c .if2 .left)
+          (⊎-elim
+          (λ q. let e : one (holds (s .args .held .now) (s .args .w) (c .before .before .before .before .loop .s)) ≡ 1 = ap (λ (b : Bool). one (not b)) (ne-eqb _ _ (q .0 .taken)) in omega arith)
+          (λ q. let e : one (holds (s .args .held .now) (s .args .w) (c .before .before .before .before .loop .s)) ≡ 0 = ap (λ (b : Bool). one (not b)) (eq-eqb _ _ (q .0 .left)) in omega arith)
+          (c .if2 .came)),
+    )
 
 returns-2 : tie.Need-returns-2 Inv-loop μ-loop
 unfolding heldSlots

@@ -11,13 +11,17 @@ position-requires : tie.Need-position-requires
 position-requires c κs = search needs
 
 replaced-requires : tie.Need-replaced-requires
-replaced-requires c κs = freeing-record-low (c .before .before .args .st) (c .before .before .args .page) _ (c .before .before .pre .0 .legal) (c .before .before .pre .1) (c .before .freeing-record .ensures)
+replaced-requires c κs =
+    let s = c .before .before in
+    freeing-record-low (s .args .st) (s .args .page) _ (s .pre .0 .legal) (s .pre .1) (c .before .freeing-record .ensures)
 
 settle-requires : tie.Need-settle-requires
 settle-requires c κs = search needs
 
 returns : tie.Need-returns
-returns c = consolidate-settled (c .before .before .before .before .before .args .st) _ (c .before .before .before .before .before .args .page) _ _ _ (c .before .before .before .before .before .pre .0) (c .before .before .before .before .freeing-record .ensures) (c .before .before .before .position .ensures) (c .before .before .replaced .ensures) (c .settle .ensures)
+returns c =
+    let s = c .before .before .before .before .before in
+    consolidate-settled (s .args .st) _ (s .args .page) _ _ _ (s .pre .0) (c .before .before .before .before .freeing-record .ensures) (c .before .before .before .position .ensures) (c .before .before .replaced .ensures) (c .settle .ensures)
 
 pub consolidate-completed-spec : {M : Type 1} → statement M
 consolidate-completed-spec =

@@ -18,7 +18,9 @@ free-slot-requires c κs = search needs
 
 returns : tie.Need-returns
 unfolding freeingRecord
-returns c = freeing-made (c .before .before .before .before .before .before .before .args .t1) (c .before .before .before .before .before .before .before .args .page) _ _ _ _ (c .before .before .before .slot-of .ensures) (c .before .before .page-slot .ensures) (c .before .copy-from .ensures) (c .free-slot .ensures)
+returns c =
+    let s = c .before .before .before .before .before .before .before in
+    freeing-made (s .args .t1) (s .args .page) _ _ _ _ (c .before .before .before .slot-of .ensures) (c .before .before .page-slot .ensures) (c .before .copy-from .ensures) (c .free-slot .ensures)
 
 pub freeing-record-spec : {M : Type 1} → statement M
 freeing-record-spec =

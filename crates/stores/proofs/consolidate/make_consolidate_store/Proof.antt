@@ -26,14 +26,16 @@ copy-to-requires : tie.Need-copy-to-requires
 copy-to-requires c κs = search needs
 
 copy-line-word-requires : tie.Need-copy-line-word-requires
-copy-line-word-requires c κs = let o = page-slot-owning (c .before .before .before .before .before .before .before .before .before .args .st) (c .before .before .before .before .before .before .before .before .before .args .page) (c .before .before .before .before .before .before .before .before .before .pre .0 .legal) (c .before .before .before .before .before .before .before .before .before .pre .2) (c .before .before .before .before .before .before .before .before .before .pre .3) (c .before .before .before .before .before .before .before .before .before .pre .1) in (
-  c .before .before .before .before .before .before .before .before .before .pre .0 .legal,
-  rw (c .before .copy-from .ensures, c .before .before .before .before .before .before .page-slot .ensures) (copy-from-low _ _ o),
-  rw (c .copy-to .ensures, c .before .before .before .before .before .before .page-slot .ensures) (copy-to-low _ _ o),
-  rw (c .before .before .before .copied-line .ensures) (copy-line (c .before .before .before .before .before .before .page-slot .result) _ (omega (arith, c .before .before .before .before .before .copy-count .ensures, c .before .before .before .before .if1 .taken))),
-  omega arith,
-  c .before .before .before .before .before .before .before .before .before .pre .4,
-)
+copy-line-word-requires c κs =
+    let s = c .before .before .before .before .before .before .before .before .before in
+    let o = page-slot-owning (s .args .st) (s .args .page) (s .pre .0 .legal) (s .pre .2) (s .pre .3) (s .pre .1) in (
+      s .pre .0 .legal,
+      rw (c .before .copy-from .ensures, c .before .before .before .before .before .before .page-slot .ensures) (copy-from-low _ _ o),
+      rw (c .copy-to .ensures, c .before .before .before .before .before .before .page-slot .ensures) (copy-to-low _ _ o),
+      rw (c .before .before .before .copied-line .ensures) (copy-line (c .before .before .before .before .before .before .page-slot .result) _ (omega (arith, c .before .before .before .before .before .copy-count .ensures, c .before .before .before .before .if1 .taken))),
+      omega arith,
+      s .pre .4,
+    )
 
 page-word-requires : tie.Need-page-word-requires
 page-word-requires c κs = search needs
@@ -57,16 +59,22 @@ freeing-record-requires : tie.Need-freeing-record-requires
 freeing-record-requires c κs = search needs
 
 word-of-record-requires : tie.Need-word-of-record-requires
-word-of-record-requires c κs = rw (c .freeing-record .ensures) (freeing-record-fits (c .before .before .before .before .before .before .before .before .args .st) (c .before .before .before .before .before .before .before .before .args .page) (c .before .before .before .before .before .before .before .before .pre .0) (c .before .before .before .before .before .before .before .before .pre .3) (page-slot-owning (c .before .before .before .before .before .before .before .before .args .st) (c .before .before .before .before .before .before .before .before .args .page) (c .before .before .before .before .before .before .before .before .pre .0 .legal) (c .before .before .before .before .before .before .before .before .pre .2) (c .before .before .before .before .before .before .before .before .pre .3) (c .before .before .before .before .before .before .before .before .pre .1)))
+word-of-record-requires c κs =
+    let s = c .before .before .before .before .before .before .before .before in
+    rw (c .freeing-record .ensures) (freeing-record-fits (s .args .st) (s .args .page) (s .pre .0) (s .pre .3) (page-slot-owning (s .args .st) (s .args .page) (s .pre .0 .legal) (s .pre .2) (s .pre .3) (s .pre .1)))
 
 record-word-requires : tie.Need-record-word-requires
 record-word-requires c κs = search needs
 
 add-store-word : tie.Need-add-store-word
-add-store-word c = omega (arith, c .record-word .ensures, record-end (c .before .before .before .before .before .before .before .before .before .before .before .args .st .sizes) (c .before .before .before .before .before .before .before .before .before .before .before .pre .0 .legal) (c .before .before .before .before .before .before .before .before .before .before .before .args .st .head), c .before .before .before .before .before .before .before .before .before .before .before .pre .0 .legal, c .before .before .before .before .if3 .taken)
+add-store-word c =
+    let s = c .before .before .before .before .before .before .before .before .before .before .before in
+    omega (arith, c .record-word .ensures, record-end (s .args .st .sizes) (s .pre .0 .legal) (s .args .st .head), s .pre .0 .legal, c .before .before .before .before .if3 .taken)
 
 store-word-requires-2 : tie.Need-store-word-requires-2
-store-word-requires-2 c κs = omega (arith, c .record-word .ensures, record-end (c .before .before .before .before .before .before .before .before .before .before .before .args .st .sizes) (c .before .before .before .before .before .before .before .before .before .before .before .pre .0 .legal) (c .before .before .before .before .before .before .before .before .before .before .before .args .st .head), c .before .before .before .before .before .before .before .before .before .before .before .pre .4, c .before .before .before .before .if3 .taken, c .before .before .before .before .before .if2 .left, c .before .before .before .before .before .before .if1 .left)
+store-word-requires-2 c κs =
+    let s = c .before .before .before .before .before .before .before .before .before .before .before in
+    omega (arith, c .record-word .ensures, record-end (s .args .st .sizes) (s .pre .0 .legal) (s .args .st .head), s .pre .4, c .before .before .before .before .if3 .taken, c .before .before .before .before .before .if2 .left, c .before .before .before .before .before .before .if1 .left)
 
 position-requires : tie.Need-position-requires
 position-requires c κs = search needs
@@ -78,25 +86,33 @@ same-length : tie.Need-same-length
 same-length c = search needs
 
 returns : tie.Need-returns
-returns c = consolidate-line-made (c .before .before .before .before .before .before .before .before .before .before .before .before .args .st) _ _ (c .before .before .before .before .before .before .before .before .before .before .before .before .args .page) (c .before .before .before .before .before .before .before .before .before .before .before .before .args .i) _ _ _ _ _ (c .before .before .before .before .before .before .before .before .before .page-slot .ensures) (c .before .before .before .before .before .before .before .before .copy-count .ensures) (c .before .before .before .before .before .before .before .if1 .taken) (c .before .before .before .before .copy-from .ensures) (c .before .before .before .copy-to .ensures) (c .before .before .before .before .before .before .copied-line .ensures) (c .before .before .copy-line-word .ensures)
+returns c =
+    let s = c .before .before .before .before .before .before .before .before .before .before .before .before in
+    consolidate-line-made (s .args .st) _ _ (s .args .page) (s .args .i) _ _ _ _ _ (c .before .before .before .before .before .before .before .before .before .page-slot .ensures) (c .before .before .before .before .before .before .before .before .copy-count .ensures) (c .before .before .before .before .before .before .before .if1 .taken) (c .before .before .before .before .copy-from .ensures) (c .before .before .before .copy-to .ensures) (c .before .before .before .before .before .before .copied-line .ensures) (c .before .before .copy-line-word .ensures)
 
 same-length-2 : tie.Need-same-length-2
 same-length-2 c = search needs
 
 returns-2 : tie.Need-returns-2
-returns-2 c = consolidate-page-made (c .before .before .before .before .before .before .before .before .before .before .before .before .args .st) _ _ (c .before .before .before .before .before .before .before .before .before .before .before .before .args .page) (c .before .before .before .before .before .before .before .before .before .before .before .before .args .i) _ _ _ (c .before .before .before .before .before .before .before .before .before .page-slot .ensures) (c .before .before .before .before .before .before .before .before .copy-count .ensures) (c .before .before .before .before .before .before .if2 .taken) (c .before .before .before .copy-to2 .ensures) (rw (c .before .before .before .before .page-word .ensures) at (c .before .before .store-word .ensures))
+returns-2 c =
+    let s = c .before .before .before .before .before .before .before .before .before .before .before .before in
+    consolidate-page-made (s .args .st) _ _ (s .args .page) (s .args .i) _ _ _ (c .before .before .before .before .before .before .before .before .before .page-slot .ensures) (c .before .before .before .before .before .before .before .before .copy-count .ensures) (c .before .before .before .before .before .before .if2 .taken) (c .before .before .before .copy-to2 .ensures) (rw (c .before .before .before .before .page-word .ensures) at (c .before .before .store-word .ensures))
 
 same-length-3 : tie.Need-same-length-3
 same-length-3 c = search needs
 
 returns-3 : tie.Need-returns-3
-returns-3 c = consolidate-record-made (c .before .before .before .before .before .before .before .before .before .before .before .before .before .before .args .st) _ _ (c .before .before .before .before .before .before .before .before .before .before .before .before .before .before .args .page) (c .before .before .before .before .before .before .before .before .before .before .before .before .before .before .args .i) _ _ _ _ _ (c .before .before .before .before .before .before .before .before .before .before .before .page-slot .ensures) (c .before .before .before .before .before .before .before .before .before .before .copy-count .ensures) (omega (arith, c .before .before .before .before .before .before .before .before .before .if1 .left, c .before .before .before .before .before .before .before .before .if2 .left)) (c .before .before .before .before .before .before .before .if3 .taken) (c .before .before .before .before .before .before .freeing-record .ensures) (c .before .before .before .before .before .word-of-record .ensures) (c .before .before .before .record-word .ensures) (c .before .before .store-word2 .ensures)
+returns-3 c =
+    let s = c .before .before .before .before .before .before .before .before .before .before .before .before .before .before in
+    consolidate-record-made (s .args .st) _ _ (s .args .page) (s .args .i) _ _ _ _ _ (c .before .before .before .before .before .before .before .before .before .before .before .page-slot .ensures) (c .before .before .before .before .before .before .before .before .before .before .copy-count .ensures) (omega (arith, c .before .before .before .before .before .before .before .before .before .if1 .left, c .before .before .before .before .before .before .before .before .if2 .left)) (c .before .before .before .before .before .before .before .if3 .taken) (c .before .before .before .before .before .before .freeing-record .ensures) (c .before .before .before .before .before .word-of-record .ensures) (c .before .before .before .record-word .ensures) (c .before .before .store-word2 .ensures)
 
 same-length-4 : tie.Need-same-length-4
 same-length-4 c = search needs
 
 returns-4 : tie.Need-returns-4
-returns-4 c = consolidate-head-made (c .before .before .before .before .before .before .before .before .before .before .before .before .args .st) _ _ (c .before .before .before .before .before .before .before .before .before .before .before .before .args .page) (c .before .before .before .before .before .before .before .before .before .before .before .before .args .i) _ _ _ (c .before .before .before .before .before .before .before .before .before .page-slot .ensures) (c .before .before .before .before .before .before .before .before .copy-count .ensures) (c .before .before .before .before .before .if3 .left) (c .before .before .before .before .position .ensures) (c .before .before .store-word3 .ensures)
+returns-4 c =
+    let s = c .before .before .before .before .before .before .before .before .before .before .before .before in
+    consolidate-head-made (s .args .st) _ _ (s .args .page) (s .args .i) _ _ _ (c .before .before .before .before .before .before .before .before .before .page-slot .ensures) (c .before .before .before .before .before .before .before .before .copy-count .ensures) (c .before .before .before .before .before .if3 .left) (c .before .before .before .before .position .ensures) (c .before .before .store-word3 .ensures)
 
 pub make-consolidate-store-spec : {M : Type 1} → statement M
 make-consolidate-store-spec =

@@ -10,7 +10,9 @@ slot-of-requires : tie.Need-slot-of-requires
 slot-of-requires c κs = search needs
 
 slot-in-requires : tie.Need-slot-in-requires
-slot-in-requires c κs = omega (arith, slot-low (c .before .before .before .before .before .args .t1) (c .before .before .before .before .before .args .page) _ (c .before .before .before .before .before .pre .1) (c .before .slot-of .ensures))
+slot-in-requires c κs =
+    let s = c .before .before .before .before .before in
+    omega (arith, slot-low (s .args .t1) (s .args .page) _ (s .pre .1) (c .before .slot-of .ensures))
 
 returns : tie.Need-returns
 returns c = c .slot-in .ensures ∙ ap (slotIn (c .before .before .before .before .before .before .args .t1 .table)) (c .before .before .slot-of .ensures)

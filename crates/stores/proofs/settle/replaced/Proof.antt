@@ -12,7 +12,9 @@ with-last-requires : tie.Need-with-last-requires
 with-last-requires c κs = search needs
 
 returns : tie.Need-returns
-returns c = c .with-last .ensures ∙ ap (λ (u : Table). withLast u (c .before .before .before .args .e .slot) (c .before .before .before .args .q)) (c .before .with-slot .ensures)
+returns c =
+    let s = c .before .before .before in
+    c .with-last .ensures ∙ ap (λ (u : Table). withLast u (s .args .e .slot) (s .args .q)) (c .before .with-slot .ensures)
 
 pub replaced-spec : {M : Type 1} → statement M
 replaced-spec = tie.close (tie.spec with-slot-requires with-last-requires returns)

@@ -12,19 +12,25 @@ enum-known-op : tie.Need-enum-known-op
 enum-known-op c = search needs
 
 write-completed-requires : tie.Need-write-completed-requires
-write-completed-requires c κs = let t = write-of (c .before .before .before .before .args .st) (c .before .before .before .before .pre .1) (c .before .op .given .1) in (c .before .before .before .before .pre .0, t .args .writer-low, t .args .line-low)
+write-completed-requires c κs =
+    let s = c .before .before .before .before in
+    let t = write-of (s .args .st) (s .pre .1) (c .before .op .given .1) in (s .pre .0, t .args .writer-low, t .args .line-low)
 
 enum-known-op-2 : tie.Need-enum-known-op-2
 enum-known-op-2 c = search needs
 
 commit-completed-requires : tie.Need-commit-completed-requires
-commit-completed-requires c κs = (c .before .before .before .before .pre .0, commit-of (c .before .before .before .before .args .st) (c .before .before .before .before .pre .1) (c .before .op2 .given .1) .writer-low)
+commit-completed-requires c κs =
+    let s = c .before .before .before .before in
+    (s .pre .0, commit-of (s .args .st) (s .pre .1) (c .before .op2 .given .1) .writer-low)
 
 enum-known-op-3 : tie.Need-enum-known-op-3
 enum-known-op-3 c = search needs
 
 consolidate-completed-requires : tie.Need-consolidate-completed-requires
-consolidate-completed-requires c κs = (c .before .before .before .before .pre .0, consolidate-of (c .before .before .before .before .args .st) (c .before .before .before .before .pre .1) (c .before .op3 .given .1) .has-slot)
+consolidate-completed-requires c κs =
+    let s = c .before .before .before .before in
+    (s .pre .0, consolidate-of (s .args .st) (s .pre .1) (c .before .op3 .given .1) .has-slot)
 
 enum-told-2 : tie.Need-enum-told-2
 enum-told-2 c = search needs

@@ -10,13 +10,19 @@ make-store-requires : tie.Need-make-store-requires
 make-store-requires c κs = search needs
 
 pending-needs-requires : tie.Need-pending-needs-requires
-pending-needs-requires c κs = let g = going (c .before .before .before .before .before .args .st) (c .before .before .before .before .before .pre .0) (c .before .before .before .before .before .pre .1) in (g .ranges, g .taken)
+pending-needs-requires c κs =
+    let s = c .before .before .before .before .before in
+    let g = going (s .args .st) (s .pre .0) (s .pre .1) in (g .ranges, g .taken)
 
 add-made : tie.Need-add-made
-add-made c = omega (arith, going (c .before .before .before .before .before .before .before .before .args .st) (c .before .before .before .before .before .before .before .before .pre .0) (c .before .before .before .before .before .before .before .before .pre .1) .made-low, c .before .before .pending-needs .ensures)
+add-made c =
+    let s = c .before .before .before .before .before .before .before .before in
+    omega (arith, going (s .args .st) (s .pre .0) (s .pre .1) .made-low, c .before .before .pending-needs .ensures)
 
 complete-requires : tie.Need-complete-requires
-complete-requires c κs = let g = going (c .before .before .before .before .before .before .before .before .before .args .st) (c .before .before .before .before .before .before .before .before .before .pre .0) (c .before .before .before .before .before .before .before .before .before .pre .1) in (g .ranges, g .taken)
+complete-requires c κs =
+    let s = c .before .before .before .before .before .before .before .before .before in
+    let g = going (s .args .st) (s .pre .0) (s .pre .1) in (g .ranges, g .taken)
 
 same-length : tie.Need-same-length
 same-length c = search needs

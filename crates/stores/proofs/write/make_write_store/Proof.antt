@@ -9,7 +9,9 @@ write-slot-requires : tie.Need-write-slot-requires
 write-slot-requires c κs = search needs
 
 slot-in-requires : tie.Need-slot-in-requires
-slot-in-requires c κs = omega (arith, write-slot-low (c .before .before .args .st) (c .before .before .args .page) _ (c .before .before .pre .0) (c .write-slot .ensures), c .before .before .pre .0 .legal)
+slot-in-requires c κs =
+    let s = c .before .before in
+    omega (arith, write-slot-low (s .args .st) (s .args .page) _ (s .pre .0) (c .write-slot .ensures), s .pre .0 .legal)
 
 other-frame-requires : tie.Need-other-frame-requires
 other-frame-requires c κs = search needs
@@ -21,19 +23,22 @@ element-copy-out-store-line-word : tie.Need-element-copy-out-store-line-word
 element-copy-out-store-line-word c = search needs
 
 store-line-word-requires : tie.Need-store-line-word-requires
-store-line-word-requires c κs = (
-  c .before .before .before .before .before .before .before .pre .0 .legal,
-  rw (c .before .before .before .other-frame .ensures, c .before .before .before .before .slot-in .ensures) (other-low (c .before .before .before .before .before .before .before .args .st .sizes) _ (c .before .before .before .before .before .before .before .args .line) (slot-shaped (c .before .before .before .before .before .before .before .args .st .sizes) (c .before .before .before .before .before .before .before .args .st .table) _ (c .before .before .before .before .before .before .before .pre .1) (write-slot-low (c .before .before .before .before .before .before .before .args .st) (c .before .before .before .before .before .before .before .args .page) _ (c .before .before .before .before .before .before .before .pre .0) (c .before .before .before .before .before .write-slot .ensures)))),
-  c .before .before .before .before .before .before .before .pre .2,
-  c .before .before .before .before .before .before .before .pre .3,
-  c .before .before .before .before .before .before .before .pre .4,
-)
+store-line-word-requires c κs =
+    let s = c .before .before .before .before .before .before .before in (
+      s .pre .0 .legal,
+      rw (c .before .before .before .other-frame .ensures, c .before .before .before .before .slot-in .ensures) (other-low (s .args .st .sizes) _ (s .args .line) (slot-shaped (s .args .st .sizes) (s .args .st .table) _ (s .pre .1) (write-slot-low (s .args .st) (s .args .page) _ (s .pre .0) (c .before .before .before .before .before .write-slot .ensures)))),
+      s .pre .2,
+      s .pre .3,
+      s .pre .4,
+    )
 
 same-length : tie.Need-same-length
 same-length c = search needs
 
 returns : tie.Need-returns
-returns c = write-made (c .before .before .before .before .before .before .before .before .before .before .args .st) _ _ (c .before .before .before .before .before .before .before .before .before .before .args .page) (c .before .before .before .before .before .before .before .before .before .before .args .line) (c .before .before .before .before .before .before .before .before .before .before .args .i) _ _ _ (c .before .before .before .before .before .before .before .before .write-slot .ensures) (c .before .before .before .before .before .before .before .slot-in .ensures) (c .before .before .before .before .before .before .other-frame .ensures) (c .before .before .store-line-word .ensures)
+returns c =
+    let s = c .before .before .before .before .before .before .before .before .before .before in
+    write-made (s .args .st) _ _ (s .args .page) (s .args .line) (s .args .i) _ _ _ (c .before .before .before .before .before .before .before .before .write-slot .ensures) (c .before .before .before .before .before .before .before .slot-in .ensures) (c .before .before .before .before .before .before .other-frame .ensures) (c .before .before .store-line-word .ensures)
 
 pub make-write-store-spec : {M : Type 1} → statement M
 make-write-store-spec =

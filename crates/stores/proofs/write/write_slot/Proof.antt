@@ -18,7 +18,9 @@ free-after-requires c κs = search needs
 
 round-slot-requires : tie.Need-round-slot-requires
 unfolding freeAfter
-round-slot-requires c κs = (c .before .before .before .before .before .before .before .before .before .before .pre .legal, c .before .before .before .before .before .before .before .before .before .before .pre .next-low, rw (c .before .free-after .ensures) (first-le _ _))
+round-slot-requires c κs =
+    let s = c .before .before .before .before .before .before .before .before .before .before in
+    (s .pre .legal, s .pre .next-low, rw (c .before .free-after .ensures) (first-le _ _))
 
 returns-2 : tie.Need-returns-2
 unfolding writeSlot
