@@ -1,4 +1,4 @@
-/* Badgerdross for C hosts: one call, which shows what an image holds. Link libtransactions.a. */
+/* Badgerdross for C hosts: one call, which shows what an image holds. Link librecalling.a. */
 #ifndef BADGERDROSS_H
 #define BADGERDROSS_H
 

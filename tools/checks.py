@@ -1,10 +1,11 @@
 #!/usr/bin/env python3
-"""Prints the table of docs/CHECKS.md from the tree and from the last run of rt (target/log): run it from the root after rt ci."""
+"""Prints the table of docs/CHECKS.md: python3 tools/checks.py LOG, from the root, LOG being what .ci/run printed."""
 import os
 import re
+import sys
 
-print("| Crate | Functions | Code lines | Definition lines | Proof lines | Must-fail edits |")
-print("|---|---|---|---|---|---|")
+print("| Crate | Functions | Code lines | Definition lines | Proof lines | Must-fail edits | Check, seconds |")
+print("|---|---|---|---|---|---|---|")
 
 
 def lines(folder, ending):
@@ -26,14 +27,23 @@ def functions(folder):
     return total
 
 
-sums = [0] * 5
+LOG = open(sys.argv[1], encoding="utf-8").read() if len(sys.argv) > 1 else ""
+
+
+def seconds(crate):
+    """What the log says of the crate's check, 0 where it says nothing."""
+    found = re.search(rf"rt: {crate} proved \((\d+) s\)", LOG)
+    return int(found.group(1)) if found else 0
+
+
+sums = [0] * 6
 for line in open("crates.txt", encoding="utf-8"):
     crate = line.split("#")[0].split(":")[0].strip()
     if not crate:
         continue
     base = f"crates/{crate}"
     edits = len(os.listdir(f"{base}/must-fail")) if os.path.isdir(f"{base}/must-fail") else 0
-    row = [functions(f"{base}/src"), lines(f"{base}/src", ".rt"), lines(f"{base}/specs", ".antt"), lines(f"{base}/proofs", ".antt"), edits]
+    row = [functions(f"{base}/src"), lines(f"{base}/src", ".rt"), lines(f"{base}/specs", ".antt"), lines(f"{base}/proofs", ".antt"), edits, seconds(crate)]
     sums = [a + b for a, b in zip(sums, row)]
     print(f"| {crate} | " + " | ".join(str(n) for n in row) + " |")
 print("| all | " + " | ".join(str(n) for n in sums) + " |")

@@ -235,3 +235,11 @@ pub up-ext : {A : Type 0} (f g : ℕ → A → A) (n : ℕ) (x : A) → ((i : �
 unfolding upTo
 up-ext f g zero x h = refl
 up-ext f g (suc n) x h = h n (upTo n f x) (omega arith) ∙ ap (g n) (up-ext f g n x (λ i y l. h i y (omega arith)))
+
+-- the turns from a on, after the first a
+pub up-more : {A : Type 0} (f : ℕ → A → A) (a b : ℕ) (x : A) → upTo (a + b) f x ≡ upTo b (λ i. f (a + i)) (upTo a f x)
+unfolding upTo
+up-more f a zero x = let e : a + 0 ≡ a = omega arith in ap (λ (n : ℕ). upTo n f x) e
+up-more f a (suc b) x =
+    let e : a + suc b ≡ suc (a + b) = omega arith in
+    ap (λ (n : ℕ). upTo n f x) e ∙ ap (f (a + b)) (up-more f a b x)

@@ -93,3 +93,6 @@ pub every-fails : (l : List Bool) (k : ℕ) → getD l k true ≡ false → fals
 every-fails [] k e = contradicts refl e
 every-fails (a ∷ bs) zero e = sym (chain-no a bs e)
 every-fails (a ∷ bs) (suc k) e = sym (chain-fails a bs k e)
+
+pub or-goes : (a b r : Bool) → a ≡ false → r ≡ b → r ≡ a || b
+or-goes a b r e h = h ∙ ap (λ (x : Bool). x || b) (sym e)

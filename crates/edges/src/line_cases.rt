@@ -49,7 +49,7 @@ fn read(image: &[u8; 12480], f: usize, l: usize, target: &mut [u8; 64])
 
 fn show(f: usize, l: usize, target: &[u8; 64]) {
     out::name(b"line");
-    eight(f, l, words::words_of(target));
+    eight(f, l, runs::words_of(target));
 }
 
 fn line(image: &[u8; 12480], f: usize, l: usize)
@@ -63,7 +63,7 @@ fn line(image: &[u8; 12480], f: usize, l: usize)
 
 // 17 to 24, over and over.
 fn pattern(s: &mut [u8; 64]) {
-    words::fill_words(s, 0, 8, 1735880461161533969);
+    runs::fill_words(s, 0, 8, 1735880461161533969);
 }
 
 // Line 5 of frame 0 with the first n bytes of s laid over it.

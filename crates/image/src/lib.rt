@@ -76,7 +76,7 @@ pub fn read_line(image: &[u8], z: Sizes, f: usize, l: usize, target: &mut [u8])
     requires { ⌜ Legal z × (f < frames z) × (l < 64) × (imageLength z ≤ length (now image)) × (64 ≤ length (now target)) ⌝ }
     ensures { λ _. ⌜ now (target .exit) ≡ over (now (target .entry)) 0 (lineBytes (now (image .entry)) z f l) ⌝ }
 {
-    words::copy_words(frame(image, z, f), 64 * l, target, 0, 8);
+    runs::copy_words(frame(image, z, f), 64 * l, target, 0, 8);
 }
 
 // The words of line l of frame f with the first n bytes of data laid over it from offset on.
@@ -95,5 +95,5 @@ pub fn merged_line(
     let mut line = [0u8; 64];
     read_line(image, z, f, l, &mut line);
     bytes::copy(&data[0..n], &mut line[offset..offset + n]);
-    words::words_of(&line)
+    runs::words_of(&line)
 }

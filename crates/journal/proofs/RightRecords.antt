@@ -1,6 +1,6 @@
 -- Right records (row 6) as facts: of one list, of a list with more behind it, and of one transaction's.
 use Prim.Native.Nat.{ℕ, zero, suc, _+_, _-_, _*_, _<_}
-use mathlib.Core.Path.{_≡_, sym, ap, _∙_, subst}
+use mathlib.Core.Path.{_≡_, sym, ap, _∙_, subst, ap₂}
 use mathlib.Core.Bool.{Bool, true, not, _&&_, or-true}
 use mathlib.Core.Logic.{_⊎_, ⊎-elim, inl, inr}
 use native.Mathlib.Omega.{arith}
@@ -12,7 +12,7 @@ use Rattle.layout.specs.declared.Sizes.{Sizes}
 use Rattle.layout.specs.Layout.{Legal}
 use Rattle.journal.specs.declared.Record.{Record}
 use Rattle.journal.specs.Slots.{shaped}
-use Rattle.journal.specs.Records.{position, firstOk, recordOk, recordsOk}
+use Rattle.journal.specs.Records.{recordRight, position, firstOk, recordOk, recordsOk}
 use Rattle.journal.proofs.Ring.{pos-lt, pos-more, pos-none}
 use Rattle.journal.proofs.SlotWords.{or-cases}
 
@@ -128,3 +128,10 @@ one-transaction z head n e l h rise = right-all z head e n each
               });
           shape = h (suc i) m .2;
         }
+
+-- ---- one record of row 6, as it was read
+
+pub right-read : (z : Sizes) (tail : ℕ) (e : ℕ → Record) (i : ℕ) {own : ℕ} {before x : Record} {r : Bool} → r ≡ recordRight z own i before x
+    → own ≡ position z tail i → before ≡ e (i - 1) → x ≡ e i → r ≡ recordOk z tail e i
+right-read z tail e i {own} {before} {x} h a b c =
+    h ∙ ap (λ (q : ℕ). recordRight z q i before x) a ∙ ap₂ (recordRight z (position z tail i) i) b c

@@ -160,3 +160,7 @@ pub record-word-lt : (e : Record) (k : ℕ) → e .first < 2 ^ 32 → e .slot < 
 record-word-lt e k p s f b =
     row-keeps (λ (x : ℕ). x < 2 ^ 64) (eqb k 0) (e .first + 2 ^ 32 * e .slot) (wordOfSlot (e .now) (k - 1)) (omega arith)
     (slot-word-lt (e .now) (k - 1) f b)
+
+-- a record's parts fit its words
+abbrev pub RecordFits : Record → Type 0
+RecordFits e = (e .first < 2 ^ 32) × (e .slot < 2 ^ 32) × (e .now .original < 2 ^ 32) × (e .now .spare < 2 ^ 32)

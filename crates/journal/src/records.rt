@@ -21,12 +21,15 @@ pub fn position(z: Sizes, from: usize, i: usize) -> usize
     q - 2 * z.places
 }
 
-// How many records are live.
+// How many records are live, without a division: head and tail are below 2J.
 pub fn live_count(z: Sizes, head: usize, tail: usize) -> usize
     requires { ⌜ Legal z × (head < 2 * z .places) × (tail < 2 * z .places) ⌝ }
     ensures { λ r. ⌜ r ≡ liveCount z head tail ⌝ }
 {
-    (head + 2 * z.places - tail) % (2 * z.places)
+    if head < tail {
+        return head + 2 * z.places - tail;
+    }
+    head - tail
 }
 
 // Whether head and tail are positions with at most J live ones between them (row 5).

@@ -13,15 +13,15 @@ use Rattle.layout.specs.Layout.{Legal}
 use Rattle.masks.proofs.Members.{in-none}
 use Rattle.state.specs.declared.State.{State}
 use Rattle.state.specs.Held.{heldAt}
-use Rattle.state.specs.Operations.{slotFor, slotted}
-use Rattle.state.specs.Validity.{stateOk}
-use Rattle.stores.specs.Commit.{closedWriter}
-use Rattle.stores.specs.Stores.{World}
-use Rattle.stores.proofs.Closed.{closed-opened-length, closed-held-length, closed-holds, others-hold}
-use Rattle.stores.proofs.Valid.{valid}
-use Rattle.transactions.specs.Calls.{abortRows, abortOf, withWriters}
-use Rattle.transactions.proofs.Begun.{abort-taken, abort-valid}
-use Rattle.transactions.specs.Run.{abort, exec}
+use Rattle.operations.specs.Operations.{slotFor, slotted}
+use Rattle.validity.specs.Validity.{stateOk}
+use Rattle.refinement.specs.Commit.{closedWriter}
+use Rattle.refinement.specs.Stores.{World}
+use Rattle.refinement.proofs.Closed.{closed-opened-length, closed-held-length, closed-holds, others-hold}
+use Rattle.refinement.proofs.StateValid.{valid}
+use Rattle.refinement.specs.Calls.{abortRows, abortOf, withWriters}
+use Rattle.refinement.proofs.Begun.{abort-taken, abort-valid}
+use Rattle.refinement.specs.Run.{abort, exec}
 use Rattle.refinement.specs.Reference.{Reference, emptied}
 use Rattle.refinement.proofs.Invariant.{holds, Writing, Never, Quiet, Related}
 use Rattle.refinement.proofs.Sound.{Sound, answered-kept, is-quiet}

@@ -14,16 +14,16 @@ use Rattle.bounded.proofs.Rows.{none-apply}
 use Rattle.bounded.proofs.Tab.{length-filled, getD-filled, getD-filled-past}
 use Rattle.bounded.proofs.Tests.{caseOn}
 use Rattle.journal.specs.Records.{liveCount}
-use Rattle.journal.specs.Table.{noPosition, lastIn}
+use Rattle.replay.specs.Table.{noPosition, lastIn}
 use Rattle.journal.proofs.Ring.{live-none}
 use Rattle.state.specs.declared.State.{State}
 use Rattle.state.specs.declared.Op.the-variants.{Checkpoint}
-use Rattle.state.specs.Operations.{needs}
-use Rattle.stores.specs.Stores.{World, completed}
-use Rattle.stores.proofs.Appended.{last-at}
-use Rattle.stores.proofs.Valid.{lastAt, valid}
-use Rattle.transactions.specs.Calls.{checkpointCallRows, checkpointOf}
-use Rattle.transactions.specs.Run.{checkpoint, exec}
+use Rattle.operations.specs.Operations.{needs}
+use Rattle.refinement.specs.Stores.{World, completed}
+use Rattle.refinement.proofs.Appended.{last-at}
+use Rattle.refinement.proofs.StateValid.{lastAt, valid}
+use Rattle.refinement.specs.Calls.{checkpointCallRows, checkpointOf}
+use Rattle.refinement.specs.Run.{checkpoint, exec}
 use Rattle.refinement.specs.Reference.{Reference, nothing}
 use Rattle.refinement.proofs.Invariant.{Quiet, Related}
 use Rattle.refinement.proofs.Asked.{all-left, asked-busy, asked-after}

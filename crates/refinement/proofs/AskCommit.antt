@@ -16,21 +16,21 @@ use Rattle.bounded.proofs.Tests.{caseOn}
 use Rattle.bounded.proofs.Those.{length-those}
 use Rattle.layout.specs.declared.Sizes.{Sizes}
 use Rattle.journal.specs.Records.{position}
-use Rattle.journal.specs.Table.{replay}
+use Rattle.replay.specs.Table.{replay}
 use Rattle.journal.proofs.Ring.{pos-none}
 use Rattle.masks.proofs.Members.{in-none}
 use Rattle.state.specs.declared.State.{State}
 use Rattle.state.specs.declared.Op.the-variants.{Commit}
 use Rattle.state.specs.Held.{heldAt, heldSlots}
-use Rattle.state.specs.Operations.{slotFor, slotted, needs, commitRows}
-use Rattle.state.specs.Validity.{stateOk}
-use Rattle.state.proofs.Taken.{commit-taken}
-use Rattle.stores.specs.Commit.{commitSlots, commitHead, commitTable, commitRecord, closedWriter}
-use Rattle.stores.specs.Stores.{World, completed}
-use Rattle.stores.proofs.CommitValid.{commit-valid}
-use Rattle.stores.proofs.Valid.{valid}
-use Rattle.transactions.specs.Calls.{commitCallRows, commitOf}
-use Rattle.transactions.specs.Run.{commit, exec}
+use Rattle.operations.specs.Operations.{slotFor, slotted, needs, commitRows}
+use Rattle.validity.specs.Validity.{stateOk}
+use Rattle.operations.proofs.Taken.{commit-taken}
+use Rattle.refinement.specs.Commit.{commitSlots, commitHead, commitTable, commitRecord, closedWriter}
+use Rattle.refinement.specs.Stores.{World, completed}
+use Rattle.refinement.proofs.CommitValid.{commit-valid}
+use Rattle.refinement.proofs.StateValid.{valid}
+use Rattle.refinement.specs.Calls.{commitCallRows, commitOf}
+use Rattle.refinement.specs.Run.{commit, exec}
 use Rattle.refinement.specs.Reference.{Reference, Cell, laidOver, committing, laid, emptied}
 use Rattle.refinement.proofs.Invariant.{Quiet, Related, holds}
 use Rattle.refinement.proofs.Abort.{closed, aborted}

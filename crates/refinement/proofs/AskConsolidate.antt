@@ -9,10 +9,10 @@ use Rattle.bounded.specs.Rows.{refusal}
 use Rattle.bounded.proofs.Rows.{none-apply, row-none}
 use Rattle.state.specs.declared.State.{State}
 use Rattle.state.specs.declared.Op.the-variants.{Consolidate}
-use Rattle.state.specs.Operations.{needs, consolidateRows}
-use Rattle.stores.specs.Stores.{World}
-use Rattle.transactions.specs.Calls.{consolidateCallRows, consolidateOf}
-use Rattle.transactions.specs.Run.{consolidate, exec}
+use Rattle.operations.specs.Operations.{needs, consolidateRows}
+use Rattle.refinement.specs.Stores.{World}
+use Rattle.refinement.specs.Calls.{consolidateCallRows, consolidateOf}
+use Rattle.refinement.specs.Run.{consolidate, exec}
 use Rattle.refinement.specs.Reference.{Reference, nothing}
 use Rattle.refinement.proofs.Invariant.{Related}
 use Rattle.refinement.proofs.Asked.{all-left, asked-busy, asked-after}

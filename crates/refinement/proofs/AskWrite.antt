@@ -20,12 +20,12 @@ use Rattle.image.proofs.LineLaws.{length-merged, getD-merged, getD-merged-other
 use Rattle.words.proofs.Parts.{bytes-part}
 use Rattle.state.specs.declared.State.{State}
 use Rattle.state.specs.declared.Op.the-variants.{Write}
-use Rattle.state.specs.Operations.{needs, writeRows}
-use Rattle.state.proofs.Taken.{ArgsGood, write-taken}
-use Rattle.stores.specs.Frames.{pageFrame, seenFrame}
-use Rattle.stores.specs.Stores.{World}
-use Rattle.transactions.specs.Calls.{writeCallRows, writeOf, finishedLine, withPending}
-use Rattle.transactions.specs.Run.{write, exec}
+use Rattle.operations.specs.Operations.{needs, writeRows}
+use Rattle.operations.proofs.Taken.{ArgsGood, write-taken}
+use Rattle.refinement.specs.Frames.{pageFrame, seenFrame}
+use Rattle.refinement.specs.Stores.{World}
+use Rattle.refinement.specs.Calls.{writeCallRows, writeOf, finishedLine, withPending}
+use Rattle.refinement.specs.Run.{write, exec}
 use Rattle.refinement.specs.Reference.{Reference, byte, laidOver, writing, under, withWork, written, readLine}
 use Rattle.refinement.proofs.Invariant.{Never, Quiet, Busy, Related}
 use Rattle.refinement.proofs.Asked.{all-left, asked-busy, asked-after}

@@ -8,12 +8,12 @@ use lib.Dec.{eqb, eqb·suc-zero}
 use Rattle.bounded.specs.Rows.{refusal}
 use Rattle.state.specs.declared.State.{State}
 use Rattle.state.specs.declared.Op.{Op}
-use Rattle.state.specs.Operations.{needs, opRows}
-use Rattle.stores.specs.Stores.{World, completed}
-use Rattle.stores.proofs.Valid.{valid}
-use Rattle.transactions.specs.Calls.{withPending, worldOf, asked}
-use Rattle.transactions.specs.Run.{Call}
-use Rattle.transactions.proofs.Asked.{needs-asked, pending-valid}
+use Rattle.operations.specs.Operations.{needs, opRows}
+use Rattle.refinement.specs.Stores.{World, completed}
+use Rattle.refinement.proofs.StateValid.{valid}
+use Rattle.refinement.specs.Calls.{withPending, worldOf, asked}
+use Rattle.refinement.specs.Run.{Call}
+use Rattle.refinement.proofs.CallAsked.{needs-asked, pending-valid}
 use Rattle.refinement.specs.Reference.{Reference, Task, under, withWork, does, starts, taken, turn}
 use Rattle.refinement.proofs.Invariant.{Doing, Quiet, Busy, Related}
 use Rattle.refinement.proofs.Keeps.{durable-kept}

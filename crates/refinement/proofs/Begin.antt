@@ -7,11 +7,11 @@ use mathlib.Core.Path.{_≡_, refl, ap, _∙_}
 use lib.ListN.{length-set}
 use Rattle.bounded.specs.Rows.{refusal}
 use Rattle.state.specs.declared.State.{State}
-use Rattle.stores.specs.Stores.{World}
-use Rattle.stores.proofs.Valid.{valid}
-use Rattle.transactions.specs.Calls.{beginRows, beginOf, withWriters}
-use Rattle.transactions.proofs.Begun.{opening, begin-taken, begin-valid}
-use Rattle.transactions.specs.Run.{begin, exec}
+use Rattle.refinement.specs.Stores.{World}
+use Rattle.refinement.proofs.StateValid.{valid}
+use Rattle.refinement.specs.Calls.{beginRows, beginOf, withWriters}
+use Rattle.refinement.proofs.Begun.{opening, begin-taken, begin-valid}
+use Rattle.refinement.specs.Run.{begin, exec}
 use Rattle.refinement.specs.Reference.{Reference}
 use Rattle.refinement.proofs.Invariant.{Quiet, Related}
 use Rattle.refinement.proofs.Sound.{Sound, answered-kept, is-quiet}

@@ -1,8 +1,8 @@
 -- Every call keeps what holds between two calls: one clause a call.
 use Prim.Native.Nat.{ℕ}
 use mathlib.Core.List.{List}
-use Rattle.stores.specs.Stores.{World}
-use Rattle.transactions.specs.Run.{Call, mount, checkpoint, step, begin, abort, commit, consolidate, run, write, read, recall}
+use Rattle.refinement.specs.Stores.{World}
+use Rattle.refinement.specs.Run.{Call, mount, checkpoint, step, begin, abort, commit, consolidate, run, write, read, recall}
 use Rattle.refinement.specs.Reference.{Reference}
 use Rattle.refinement.specs.Statement.{Lent}
 use Rattle.refinement.proofs.Invariant.{Related}

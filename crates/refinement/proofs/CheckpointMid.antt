@@ -17,14 +17,14 @@ use Rattle.layout.specs.Layout.{Legal, tailWord, slotWord, recordWord, imageLen
 use Rattle.words.specs.Words.{word, store}
 use Rattle.layout.proofs.LayoutLaws.{slot-apart}
 use Rattle.words.proofs.WordLaws.{word-lt, word-store-other}
-use Rattle.journal.specs.Table.{lastIn, noPosition}
-use Rattle.journal.proofs.Dead.{Dead, dead-slot}
-use Rattle.journal.proofs.Tables.{Sixteen}
+use Rattle.replay.specs.Table.{lastIn, noPosition}
+use Rattle.mount.proofs.Dead.{Dead, dead-slot}
+use Rattle.replay.proofs.Tables.{Sixteen}
 use Rattle.state.specs.declared.State.{State}
 use Rattle.state.specs.declared.Op.the-variants.{Checkpoint}
-use Rattle.state.specs.Operations.{recordedSlots}
-use Rattle.stores.proofs.Appended.{last-at}
-use Rattle.stores.specs.Checkpoint.{checkpointSlot, checkpointAt, checkpointValue}
+use Rattle.operations.specs.Operations.{recordedSlots}
+use Rattle.refinement.proofs.Appended.{last-at}
+use Rattle.refinement.specs.Checkpoint.{checkpointSlot, checkpointAt, checkpointValue}
 use Rattle.refinement.specs.Reference.{Reference}
 use Rattle.refinement.proofs.Copies.{durable-legal}
 use Rattle.refinement.proofs.Invariant.{Durable}

@@ -18,13 +18,13 @@ use Rattle.journal.proofs.Ring.{live-none}
 use Rattle.state.specs.declared.State.{State}
 use Rattle.state.specs.declared.Op.the-variants.{Checkpoint}
 use Rattle.state.specs.Held.{heldAt, heldSlots}
-use Rattle.state.specs.Operations.{live, isIdle, journalFull, needs}
-use Rattle.state.specs.Validity.{stateOk}
-use Rattle.stores.specs.Stores.{World, completed, left}
-use Rattle.stores.proofs.Pending.{pends}
-use Rattle.stores.proofs.Steps.{stepped-last, run-all}
-use Rattle.transactions.specs.Calls.{commitCallRows, commitOf, checkpointCallRows, checkpointOf, stepRow, stepRows, stepOf, runOf}
-use Rattle.transactions.specs.Run.{Call, checkpoint, commit, step, run, exec}
+use Rattle.operations.specs.Operations.{live, isIdle, journalFull, needs}
+use Rattle.validity.specs.Validity.{stateOk}
+use Rattle.refinement.specs.Stores.{World, completed, left}
+use Rattle.refinement.proofs.Pending.{pends}
+use Rattle.refinement.proofs.Steps.{stepped-last, run-all}
+use Rattle.refinement.specs.Calls.{commitCallRows, commitOf, checkpointCallRows, checkpointOf, stepRow, stepRows, stepOf, runOf}
+use Rattle.refinement.specs.Run.{Call, checkpoint, commit, step, run, exec}
 use Rattle.refinement.specs.Beside.{HasRoom, MakesRoom, CheckpointMakesRoom}
 use Rattle.refinement.specs.Reference.{Reference, turn}
 use Rattle.refinement.specs.Statement.{Lent}

@@ -14,27 +14,27 @@ use Rattle.bounded.proofs.Those.{length-those, those-at}
 use Rattle.layout.specs.declared.Sizes.{Sizes}
 use Rattle.layout.specs.Layout.{Legal}
 use Rattle.journal.specs.declared.Slot.{Slot}
-use Rattle.journal.specs.declared.Table.{Table}
-use Rattle.journal.specs.Table.{slotIn}
-use Rattle.journal.proofs.Latest.{Latest, NoRecord, latest, replay-latest, replay-kept}
-use Rattle.journal.proofs.Tables.{Sixteen}
-use Rattle.journal.proofs.View.{slot-none}
+use Rattle.replay.specs.declared.Table.{Table}
+use Rattle.replay.specs.Table.{slotIn}
+use Rattle.replay.proofs.Latest.{Latest, NoRecord, latest, replay-latest, replay-kept}
+use Rattle.replay.proofs.Tables.{Sixteen}
+use Rattle.mount.proofs.View.{slot-none}
 use Rattle.masks.specs.Lines.{inMask, exclusiveOr}
 use Rattle.masks.proofs.Disjoint.{disjoint-at}
 use Rattle.masks.proofs.Members.{in-none, flipped, kept}
 use Rattle.state.specs.declared.State.{State}
 use Rattle.state.specs.Held.{heldAt, heldSlots}
-use Rattle.state.specs.Operations.{slotFor, slotted}
-use Rattle.state.specs.Validity.{stateOk}
-use Rattle.state.proofs.Taken.{CommitTaken}
-use Rattle.stores.specs.Commit.{commitSlots, committedSlot, commitRecord, commitTable}
-use Rattle.stores.specs.Frames.{committedFrame, otherFrame}
-use Rattle.stores.specs.Stores.{completed}
-use Rattle.stores.proofs.Closed.{closed-holds, others-hold}
-use Rattle.stores.proofs.CommitValid.{SameNames, commit-slot, after}
-use Rattle.stores.proofs.Valid.{valid}
+use Rattle.operations.specs.Operations.{slotFor, slotted}
+use Rattle.validity.specs.Validity.{stateOk}
+use Rattle.operations.proofs.Taken.{CommitTaken}
+use Rattle.refinement.specs.Commit.{commitSlots, committedSlot, commitRecord, commitTable}
+use Rattle.refinement.specs.Frames.{committedFrame, otherFrame}
+use Rattle.refinement.specs.Stores.{completed}
+use Rattle.refinement.proofs.Closed.{closed-holds, others-hold}
+use Rattle.refinement.proofs.CommitValid.{SameNames, commit-slot, after}
+use Rattle.refinement.proofs.StateValid.{valid}
 use Rattle.state.specs.declared.Op.the-variants.{Commit}
-use Rattle.transactions.specs.Recall.{frameOf}
+use Rattle.refinement.specs.Recall.{frameOf}
 use Rattle.refinement.proofs.Invariant.{holds}
 use Rattle.refinement.proofs.CommitNames.{same-slot}
 use Rattle.refinement.proofs.WriteTable.{frame-slotted, frame-unslotted}

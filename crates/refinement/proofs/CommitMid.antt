@@ -21,26 +21,26 @@ use Rattle.words.proofs.WordLaws.{word-lt}
 use Rattle.journal.specs.declared.Slot.{Slot}
 use Rattle.journal.specs.Slots.{shaped}
 use Rattle.journal.specs.Records.{position, wordOfRecord, recordsOk}
-use Rattle.journal.specs.Table.{slotIn, lastIn, noPosition}
-use Rattle.journal.proofs.Dead.{Dead, dead-new}
-use Rattle.journal.proofs.LastRecords.{last-record, table-slot}
+use Rattle.replay.specs.Table.{slotIn, lastIn, noPosition}
+use Rattle.mount.proofs.Dead.{Dead, dead-new}
+use Rattle.mount.proofs.LastRecords.{last-record, table-slot}
 use Rattle.journal.proofs.RightRecords.{one-transaction}
 use Rattle.journal.proofs.Ring.{words-apart}
 use Rattle.journal.proofs.SlotWords.{Owning, Free, shape, owning-shaped, shaped-fits, record-word-lt}
-use Rattle.journal.proofs.View.{View, Shows}
-use Rattle.journal.proofs.Verdict.{Taken}
+use Rattle.mount.proofs.View.{View, Shows}
+use Rattle.mount.proofs.Verdict.{Taken}
 use Rattle.masks.proofs.Members.{exclusive-or-lt}
 use Rattle.state.specs.declared.State.{State}
 use Rattle.state.specs.declared.Op.the-variants.{Commit}
 use Rattle.state.specs.Held.{heldAt, heldSlots}
-use Rattle.state.specs.Operations.{needs}
-use Rattle.state.specs.Validity.{stateOk}
-use Rattle.state.proofs.Taken.{CommitTaken, commit-taken}
-use Rattle.stores.specs.Commit.{commitSlots, commitRecord, commitAt, commitValue}
-use Rattle.stores.specs.Stores.{stepped}
-use Rattle.stores.proofs.CommitValid.{SameNames, owning-renamed, commit-slot}
-use Rattle.stores.proofs.Pending.{pends}
-use Rattle.stores.proofs.Valid.{valid}
+use Rattle.operations.specs.Operations.{needs}
+use Rattle.validity.specs.Validity.{stateOk}
+use Rattle.operations.proofs.Taken.{CommitTaken, commit-taken}
+use Rattle.refinement.specs.Commit.{commitSlots, commitRecord, commitAt, commitValue}
+use Rattle.refinement.specs.Stores.{stepped}
+use Rattle.refinement.proofs.CommitValid.{SameNames, owning-renamed, commit-slot}
+use Rattle.refinement.proofs.Pending.{pends}
+use Rattle.refinement.proofs.StateValid.{valid}
 use Rattle.refinement.specs.Reference.{Reference, committing, under, advances}
 use Rattle.refinement.proofs.Invariant.{TakenOnly, Durable, Doing, Busy, Related}
 use Rattle.refinement.proofs.Stepping.{Mid, aside-before, step-mid}

@@ -17,17 +17,17 @@ use Rattle.layout.specs.declared.Sizes.{Sizes}
 use Rattle.layout.specs.Layout.{Legal, frames}
 use Rattle.journal.specs.declared.Slot.{Slot}
 use Rattle.journal.specs.declared.Record.{Record}
-use Rattle.journal.specs.declared.Table.{Table}
+use Rattle.replay.specs.declared.Table.{Table}
 use Rattle.journal.specs.Slots.{noPage, freeSlot, shaped}
-use Rattle.journal.specs.Table.{slotIn, slotOf, homeOf, frameNames, slotsShaped, pagesApart, replay}
-use Rattle.journal.proofs.Latest.{Latest, NoRecord, latest, sixteen-replay, replay-latest, replay-kept}
+use Rattle.replay.specs.Table.{slotIn, slotOf, homeOf, frameNames, slotsShaped, pagesApart, replay}
+use Rattle.replay.proofs.Latest.{Latest, NoRecord, latest, sixteen-replay, replay-latest, replay-kept}
 use Rattle.journal.proofs.SlotWords.{Owning, Free, shape, free-shaped}
-use Rattle.journal.proofs.Tables.{Sixteen}
-use Rattle.journal.proofs.View.{slot-none}
-use Rattle.stores.proofs.CommitValid.{SameNames}
+use Rattle.replay.proofs.Tables.{Sixteen}
+use Rattle.mount.proofs.View.{slot-none}
+use Rattle.refinement.proofs.CommitValid.{SameNames}
 use Rattle.refinement.proofs.PagesApart.{apart-made}
 use Rattle.refinement.proofs.Invariant.{TakenOnly, Behind}
-use Rattle.stores.proofs.PageSlots.{slot-le, slot-page, slot-first, slotted-of, unslotted-of, apart-at, slot-is}
+use Rattle.refinement.proofs.PageSlots.{slot-le, slot-page, slot-first, slotted-of, unslotted-of, apart-at, slot-is}
 use Rattle.refinement.proofs.Copies.{table-names}
 use Rattle.refinement.proofs.WriteTable.{taken-only-kept}
 

@@ -12,9 +12,9 @@ use Rattle.bounded.specs.Rows.{refusal}
 use Rattle.bounded.proofs.Rows.{row-none, none-apply}
 use Rattle.layout.specs.declared.Sizes.{Sizes}
 use Rattle.layout.specs.Layout.{imageLength}
-use Rattle.stores.specs.Stores.{World}
-use Rattle.transactions.specs.Calls.{commitCallRows, commitOf, stepRows, runOf}
-use Rattle.transactions.specs.Run.{commit, run, exec}
+use Rattle.refinement.specs.Stores.{World}
+use Rattle.refinement.specs.Calls.{commitCallRows, commitOf, stepRows, runOf}
+use Rattle.refinement.specs.Run.{commit, run, exec}
 use Rattle.refinement.specs.Beside.{Finds, Whole, CommitWhole}
 use Rattle.refinement.specs.Reference.{Reference, Work, idle, under, committing, withWork, does, starts, continues, advances, turn, readLine, recallLine}
 use Rattle.refinement.proofs.Copies.{durable-fits}

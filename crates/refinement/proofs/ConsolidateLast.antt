@@ -19,34 +19,34 @@ use Rattle.image.proofs.LineLaws.{line-ext}
 use Rattle.words.proofs.WordLaws.{length-store, bytes-store, drop-store}
 use Rattle.journal.specs.declared.Slot.{Slot}
 use Rattle.journal.specs.declared.Record.{Record}
-use Rattle.journal.specs.declared.Table.{Table}
+use Rattle.replay.specs.declared.Table.{Table}
 use Rattle.journal.specs.Slots.{noPage, freeSlot}
 use Rattle.journal.specs.Records.{position, wordOfRecord}
-use Rattle.journal.specs.Table.{slotIn, lastIn, replay, slotOf, homeOf, frameNames}
-use Rattle.journal.proofs.Append.{Appendable, Landed, appended, append-view, append-taken}
+use Rattle.replay.specs.Table.{slotIn, lastIn, replay, slotOf, homeOf, frameNames}
+use Rattle.mount.proofs.Append.{Appendable, Landed, appended, append-view, append-taken}
 use Rattle.journal.proofs.Ring.{pos-none}
 use Rattle.journal.proofs.RightRecords.{right-all}
 use Rattle.journal.proofs.SlotWords.{free-shaped}
-use Rattle.journal.proofs.Tables.{Sixteen}
-use Rattle.journal.proofs.Verdict.{Taken}
-use Rattle.journal.proofs.View.{Shows}
+use Rattle.replay.proofs.Tables.{Sixteen}
+use Rattle.mount.proofs.Verdict.{Taken}
+use Rattle.mount.proofs.View.{Shows}
 use Rattle.state.specs.declared.State.{State}
 use Rattle.state.specs.declared.Op.the-variants.{Consolidate}
-use Rattle.state.specs.Operations.{slotFor, copyCount}
-use Rattle.state.specs.Validity.{stateOk}
-use Rattle.stores.specs.Consolidate.{pageSlot, isFew, copyTo, copyFrom, copyStoreCount, freeingRecord, consolidateAt, consolidateValue, consolidateTable}
-use Rattle.stores.specs.Frames.{committedFrame}
-use Rattle.stores.specs.Stores.{completed}
-use Rattle.transactions.specs.Recall.{frameOf}
+use Rattle.operations.specs.Operations.{slotFor, copyCount}
+use Rattle.validity.specs.Validity.{stateOk}
+use Rattle.refinement.specs.Frames.{pageSlot, committedFrame}
+use Rattle.refinement.specs.Consolidate.{isFew, copyTo, copyFrom, copyStoreCount, freeingRecord, consolidateAt, consolidateValue, consolidateTable}
+use Rattle.refinement.specs.Stores.{completed}
+use Rattle.refinement.specs.Recall.{frameOf}
 use Rattle.refinement.specs.Reference.{Reference, idle, withWork, recallLine}
 use Rattle.refinement.proofs.Invariant.{TakenOnly, Durable}
 use Rattle.refinement.proofs.Copies.{mount-apart, mount-once, durable-fits, names-same}
-use Rattle.stores.proofs.NamesOnce.{name-spare, name-home}
+use Rattle.refinement.proofs.NamesOnce.{name-spare, name-home}
 use Rattle.refinement.proofs.ConsolidateStores.{lineOf, copied-line, line-goes, freeing-slot, freeing-now, freeing-first, at-line, at-page, at-freeing, value-line, value-page, value-freeing}
 use Rattle.refinement.proofs.ConsolidateSlot.{Freed}
 use Rattle.refinement.proofs.FreeNames.{Frees, freed-sixteen, freed-slot, kept-slot, slot-kept, frame-gone, frame-other, freed-once, freed-shapes, freed-apart}
 use Rattle.refinement.proofs.HeaderStore.{header-fits, header-page, header-copy}
-use Rattle.stores.proofs.PageSlots.{slot-is, slot-first}
+use Rattle.refinement.proofs.PageSlots.{slot-is, slot-first}
 use Rattle.refinement.proofs.Valid.{good}
 
 -- ---- the freed slot, in the state's table and in the one that a mount finds

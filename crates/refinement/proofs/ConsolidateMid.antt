@@ -14,27 +14,27 @@ use Rattle.layout.specs.Layout.{pageWord, recordWord, lineWord}
 use Rattle.words.specs.Words.{word}
 use Rattle.layout.proofs.LayoutLaws.{line-apart, place-lt}
 use Rattle.journal.specs.declared.Slot.{Slot}
-use Rattle.journal.specs.declared.Table.{Table}
+use Rattle.replay.specs.declared.Table.{Table}
 use Rattle.journal.specs.Records.{position, liveCount}
-use Rattle.journal.specs.Table.{slotIn, slotOf}
-use Rattle.journal.proofs.Dead.{Dead, dead-line, dead-new, dead-page}
+use Rattle.replay.specs.Table.{slotIn, slotOf}
+use Rattle.mount.proofs.Dead.{Dead, dead-line, dead-new, dead-page}
 use Rattle.journal.proofs.Ring.{pos-none}
-use Rattle.journal.proofs.View.{View}
+use Rattle.mount.proofs.View.{View}
 use Rattle.masks.specs.Lines.{inMask}
 use Rattle.masks.proofs.Members.{in-none}
 use Rattle.masks.proofs.Counts.{count-lines-none}
 use Rattle.state.specs.declared.State.{State}
 use Rattle.state.specs.declared.Op.the-variants.{Consolidate}
 use Rattle.state.specs.Held.{heldAt}
-use Rattle.state.specs.Operations.{slotFor, slotted, copyCount}
-use Rattle.state.specs.Validity.{stateOk}
-use Rattle.stores.specs.Consolidate.{pageSlot, copyTo, copyStoreCount, consolidateAt, consolidateValue}
-use Rattle.stores.specs.Frames.{otherFrame}
-use Rattle.transactions.specs.Recall.{frameOf}
+use Rattle.operations.specs.Operations.{slotFor, slotted, copyCount}
+use Rattle.validity.specs.Validity.{stateOk}
+use Rattle.refinement.specs.Frames.{pageSlot, otherFrame}
+use Rattle.refinement.specs.Consolidate.{copyTo, copyStoreCount, consolidateAt, consolidateValue}
+use Rattle.refinement.specs.Recall.{frameOf}
 use Rattle.refinement.specs.Reference.{Reference}
 use Rattle.refinement.proofs.Invariant.{TakenOnly, Durable, holds}
 use Rattle.refinement.proofs.Copies.{copy-apart, others-apart}
-use Rattle.stores.proofs.PageSlots.{slotted-of}
+use Rattle.refinement.proofs.PageSlots.{slotted-of}
 use Rattle.refinement.proofs.ConsolidateStores.{lineOf, copied-line, Part, line, page, freeing, value-page}
 use Rattle.refinement.proofs.ConsolidateSlot.{Freed, at-line′, at-page′, at-freeing′, in-image, words-differ, value-kept, value-low}
 use Rattle.refinement.proofs.Stepping.{Aside, Mid, aside-before, store-fits}

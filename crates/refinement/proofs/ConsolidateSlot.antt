@@ -13,17 +13,18 @@ use Rattle.layout.proofs.LayoutLaws.{place-lt, line-apart}
 use Rattle.words.proofs.WordLaws.{word-lt, word-store-other}
 use Rattle.journal.specs.declared.Slot.{Slot}
 use Rattle.journal.specs.Records.{wordOfRecord}
-use Rattle.journal.proofs.Tables.{Sixteen}
+use Rattle.replay.proofs.Tables.{Sixteen}
 use Rattle.journal.proofs.SlotWords.{Owning, record-word-lt}
 use Rattle.state.specs.declared.State.{State}
 use Rattle.state.specs.Held.{heldAt}
-use Rattle.state.specs.Operations.{Ranged, live, slotFor, copyCount}
-use Rattle.state.specs.Validity.{stateOk}
-use Rattle.state.proofs.Ranged.{ranged}
-use Rattle.state.proofs.Taken.{ConsolidateTaken}
-use Rattle.stores.specs.Consolidate.{pageSlot, isFew, copyTo, copyFrom, copyStoreCount, freeingRecord, consolidateAt, consolidateValue}
-use Rattle.stores.proofs.ConsolidateValid.{slot-low, slot-page, slot-owns, unheld}
-use Rattle.stores.proofs.Valid.{parts, valid}
+use Rattle.operations.specs.Operations.{Ranged, live, slotFor, copyCount}
+use Rattle.validity.specs.Validity.{stateOk}
+use Rattle.validity.proofs.Ranged.{ranged}
+use Rattle.operations.proofs.Taken.{ConsolidateTaken}
+use Rattle.refinement.specs.Frames.{pageSlot}
+use Rattle.refinement.specs.Consolidate.{isFew, copyTo, copyFrom, copyStoreCount, freeingRecord, consolidateAt, consolidateValue}
+use Rattle.refinement.proofs.ConsolidateValid.{slot-low, slot-page, slot-owns, unheld}
+use Rattle.refinement.proofs.StateValid.{parts, valid}
 use Rattle.refinement.proofs.ConsolidateStores.{lineOf, copied-line, copied-apart, Part, line, page, freeing, at-line, at-page, at-freeing, value-line, value-page, value-freeing}
 
 module _ (st : State) (p : ℕ) where

@@ -20,9 +20,9 @@ use Rattle.journal.specs.Records.{position, wordOfRecord}
 use Rattle.masks.specs.Lines.{inMask, countLines, linesIn, linesNotIn}
 use Rattle.masks.proofs.Counts.{count-lines-not, line-chosen, line-chosen-not}
 use Rattle.state.specs.declared.State.{State}
-use Rattle.state.specs.Operations.{slotFor, copyCount}
-use Rattle.stores.specs.Consolidate.{pageSlot, isFew, copyTo, copyFrom, copyLines, copyStoreCount, freeingRecord, consolidateAt, consolidateValue}
-use Rattle.stores.specs.Frames.{committedFrame, otherFrame}
+use Rattle.operations.specs.Operations.{slotFor, copyCount}
+use Rattle.refinement.specs.Frames.{pageSlot, committedFrame, otherFrame}
+use Rattle.refinement.specs.Consolidate.{isFew, copyTo, copyFrom, copyLines, copyStoreCount, freeingRecord, consolidateAt, consolidateValue}
 
 -- ---- the lines copied, of slot t
 

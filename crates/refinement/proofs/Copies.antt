@@ -16,22 +16,22 @@ use Rattle.layout.specs.declared.Sizes.{Sizes}
 use Rattle.layout.specs.Layout.{Legal, frames, pageWord, imageLength}
 use Rattle.words.specs.Words.{word}
 use Rattle.journal.specs.declared.Slot.{Slot}
-use Rattle.journal.specs.declared.Table.{Table}
+use Rattle.replay.specs.declared.Table.{Table}
 use Rattle.journal.specs.Slots.{noPage}
-use Rattle.journal.specs.Table.{slotIn, slotOf, homeOf, frameNames, pagesApart}
-use Rattle.journal.proofs.View.{slot-none}
+use Rattle.replay.specs.Table.{slotIn, slotOf, homeOf, frameNames, pagesApart}
+use Rattle.mount.proofs.View.{slot-none}
 use Rattle.masks.proofs.Members.{in-none}
 use Rattle.state.specs.declared.State.{State}
-use Rattle.state.specs.Operations.{slotFor}
-use Rattle.state.specs.Validity.{stateOk}
-use Rattle.stores.specs.Frames.{committedFrame, otherFrame}
-use Rattle.transactions.specs.Recall.{frameOf}
-use Rattle.transactions.proofs.Mounted.{view-names}
+use Rattle.operations.specs.Operations.{slotFor}
+use Rattle.validity.specs.Validity.{stateOk}
+use Rattle.refinement.specs.Frames.{committedFrame, otherFrame}
+use Rattle.refinement.specs.Recall.{frameOf}
+use Rattle.refinement.proofs.CallMounted.{view-names}
 use Rattle.refinement.specs.Reference.{Reference}
 use Rattle.refinement.proofs.Invariant.{TakenOnly, Behind, Durable}
 use Rattle.refinement.proofs.Valid.{good, legal-sizes}
-use Rattle.stores.proofs.NamesOnce.{spare-low}
-use Rattle.stores.proofs.PageSlots.{slot-page, slot-is, slotted-of}
+use Rattle.refinement.proofs.NamesOnce.{spare-low}
+use Rattle.refinement.proofs.PageSlots.{slot-page, slot-is, slotted-of}
 use Rattle.refinement.proofs.Names.{Owned, owned-low, owned-apart, spare-unowned, committed-owned, other-owned, copies-apart}
 
 -- ---- the state's table t and the one d that a mount finds name the same frames

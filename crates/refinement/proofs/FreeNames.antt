@@ -19,18 +19,18 @@ use Rattle.layout.specs.declared.Sizes.{Sizes}
 use Rattle.layout.specs.Layout.{Legal, frames, pageWord}
 use Rattle.journal.specs.declared.Slot.{Slot}
 use Rattle.journal.specs.declared.Record.{Record}
-use Rattle.journal.specs.declared.Table.{Table}
+use Rattle.replay.specs.declared.Table.{Table}
 use Rattle.journal.specs.Slots.{noPage, freeSlot, shaped}
 use Rattle.journal.specs.Records.{position}
-use Rattle.journal.specs.Table.{slotIn, lastIn, replay, slotsShaped, pagesApart, slotOf, homeOf, frameNames}
-use Rattle.journal.proofs.Homes.{length-names}
-use Rattle.journal.proofs.Latest.{Latest, Holds, sixteen-replay, replay-latest, replay-kept}
+use Rattle.replay.specs.Table.{slotIn, lastIn, replay, slotsShaped, pagesApart, slotOf, homeOf, frameNames}
+use Rattle.names.proofs.Homes.{length-names}
+use Rattle.replay.proofs.Latest.{Latest, Holds, sixteen-replay, replay-latest, replay-kept}
 use Rattle.journal.proofs.SlotWords.{free-shaped}
-use Rattle.journal.proofs.Tables.{Sixteen}
-use Rattle.stores.specs.Frames.{committedFrame}
-use Rattle.transactions.specs.Recall.{frameOf}
-use Rattle.stores.proofs.NamesOnce.{name-spare, name-home}
-use Rattle.stores.proofs.PageSlots.{slot-page, unslotted-of, apart-at}
+use Rattle.replay.proofs.Tables.{Sixteen}
+use Rattle.refinement.specs.Frames.{committedFrame}
+use Rattle.refinement.specs.Recall.{frameOf}
+use Rattle.refinement.proofs.NamesOnce.{name-spare, name-home}
+use Rattle.refinement.proofs.PageSlots.{slot-page, unslotted-of, apart-at}
 use Rattle.refinement.proofs.PagesApart.{apart-made}
 
 -- the first that passes is found by the test's values alone

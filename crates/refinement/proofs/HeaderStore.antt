@@ -11,9 +11,9 @@ use Rattle.layout.specs.Layout.{pageWord, imageLength}
 use Rattle.image.specs.Lines.{lineBytes}
 use Rattle.words.specs.Words.{word, store}
 use Rattle.words.proofs.WordLaws.{word-store-other}
-use Rattle.journal.specs.declared.Table.{Table}
-use Rattle.journal.specs.Table.{slotOf}
-use Rattle.transactions.specs.Recall.{frameOf}
+use Rattle.replay.specs.declared.Table.{Table}
+use Rattle.replay.specs.Table.{slotOf}
+use Rattle.refinement.specs.Recall.{frameOf}
 use Rattle.refinement.proofs.Stepping.{line-kept}
 
 module _ (img : List ℕ) (z : Sizes) (a w : ℕ) (low : a < 8) (whole : imageLength z ≤ length img) where

@@ -9,22 +9,23 @@ use Rattle.layout.specs.declared.Sizes.{Sizes}
 use Rattle.layout.specs.Layout.{imageLength, pageWord}
 use Rattle.image.specs.Lines.{lineBytes, lineWords}
 use Rattle.words.specs.Words.{Bytes, word}
-use Rattle.journal.specs.declared.Table.{Table}
+use Rattle.replay.specs.declared.Table.{Table}
 use Rattle.journal.specs.Slots.{freeSlot}
-use Rattle.journal.specs.Table.{slotIn, lastIn, slotOf}
-use Rattle.journal.proofs.View.{View, Shows}
-use Rattle.journal.proofs.Verdict.{Taken}
-use Rattle.journal.proofs.Tables.{Sixteen}
+use Rattle.replay.specs.Table.{slotIn, lastIn, slotOf}
+use Rattle.mount.proofs.View.{View, Shows}
+use Rattle.mount.proofs.Verdict.{Taken}
+use Rattle.replay.proofs.Tables.{Sixteen}
 use Rattle.masks.specs.Lines.{inMask}
 use Rattle.state.specs.declared.State.{State}
 use Rattle.state.specs.declared.Op.{Op}
 use Rattle.state.specs.declared.Op.the-variants.{Idle, Write, Commit, Consolidate, Checkpoint}
 use Rattle.state.specs.Held.{heldAt}
-use Rattle.state.specs.Operations.{slotFor, slotted, needs}
-use Rattle.state.specs.Validity.{stateOk}
-use Rattle.stores.specs.Frames.{otherFrame, pageFrame}
-use Rattle.stores.specs.Stores.{World, noPending, storeAt, storeValue}
-use Rattle.transactions.specs.Recall.{frameOf}
+use Rattle.operations.specs.Operations.{slotFor, slotted, needs}
+use Rattle.validity.specs.Validity.{stateOk}
+use Rattle.refinement.specs.Frames.{otherFrame, pageFrame}
+use Rattle.refinement.specs.Settled.{noPending}
+use Rattle.refinement.specs.Stores.{World, storeAt, storeValue}
+use Rattle.refinement.specs.Recall.{frameOf}
 use Rattle.refinement.specs.Reference.{Reference, none, idle, under, writing, committing, nothing, written, readLine, recallLine}
 
 -- slot s of the state's table t is what a mount finds in d; or a write took it and nothing is committed yet, so that it is still free

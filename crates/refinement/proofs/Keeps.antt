@@ -6,7 +6,7 @@ use Rattle.bounded.proofs.Tab.{tab-ext}
 use Rattle.state.specs.declared.State.{State}
 use Rattle.state.specs.declared.Writers.{Writers}
 use Rattle.state.specs.declared.Pending.{Pending}
-use Rattle.stores.proofs.Valid.{valid}
+use Rattle.refinement.proofs.StateValid.{valid}
 use Rattle.refinement.specs.Reference.{Reference, laidOver, recallLine}
 use Rattle.refinement.proofs.Invariant.{Durable, Quiet}
 

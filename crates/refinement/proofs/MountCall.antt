@@ -10,16 +10,16 @@ use Rattle.layout.specs.declared.Sizes.{Sizes}
 use Rattle.layout.specs.Layout.{imageLength}
 use Rattle.image.specs.Lines.{lineBytes}
 use Rattle.words.specs.Words.{word}
-use Rattle.journal.specs.declared.Mounted.{Mounted}
-use Rattle.journal.specs.Mount.{mountOf}
-use Rattle.journal.proofs.Verdict.{foundIn, taken-mount}
+use Rattle.mount.specs.declared.Mounted.{Mounted}
+use Rattle.mount.specs.Mount.{mountOf}
+use Rattle.mount.proofs.Verdict.{foundIn, taken-mount}
 use Rattle.state.specs.declared.State.{State}
-use Rattle.state.specs.Validity.{stateOk}
-use Rattle.stores.specs.Stores.{World}
-use Rattle.transactions.specs.Answers.{answered}
-use Rattle.transactions.specs.Mount.{noState, mountedState, mountCall}
-use Rattle.transactions.specs.Recall.{frameOf}
-use Rattle.transactions.specs.Run.{Result, mount, exec, replaces}
+use Rattle.validity.specs.Validity.{stateOk}
+use Rattle.refinement.specs.Stores.{World}
+use Rattle.refinement.specs.Outcome.{answered}
+use Rattle.refinement.specs.Mount.{noState, mountedState, mountCall}
+use Rattle.refinement.specs.Recall.{frameOf}
+use Rattle.refinement.specs.Run.{Result, mount, exec, replaces}
 use Rattle.refinement.specs.Reference.{Reference, none, idle, turn, recallLine}
 use Rattle.refinement.proofs.Invariant.{Durable, Related}
 use Rattle.refinement.proofs.Valid.{good, legal-sizes}

@@ -5,8 +5,8 @@ use mathlib.Core.Logic.{inl, inr, ⊎-elim}
 use mathlib.Core.Path.{_≡_, sym, ap, _∙_, subst}
 use Rattle.layout.specs.declared.Sizes.{Sizes}
 use Rattle.state.specs.declared.State.{State}
-use Rattle.stores.specs.Stores.{World}
-use Rattle.transactions.specs.Run.{Result, mount, exec}
+use Rattle.refinement.specs.Stores.{World}
+use Rattle.refinement.specs.Run.{Result, mount, exec}
 use Rattle.refinement.specs.Beside.{lineOf, Finds, ReadsBack, MountReadsBack}
 use Rattle.refinement.specs.Reference.{Reference, recallLine}
 use Rattle.refinement.proofs.Invariant.{Durable, Related}

@@ -10,17 +10,17 @@ use Rattle.bounded.proofs.Tests.{contradicts}
 use Rattle.layout.specs.Layout.{imageLength}
 use Rattle.image.specs.Lines.{lineBytes}
 use Rattle.words.specs.Words.{Bytes, word}
-use Rattle.journal.proofs.Tables.{one-value}
-use Rattle.journal.proofs.Verdict.{Taken}
-use Rattle.journal.proofs.View.{View, Shows}
+use Rattle.replay.proofs.Tables.{one-value}
+use Rattle.mount.proofs.Verdict.{Taken}
+use Rattle.mount.proofs.View.{View, Shows}
 use Rattle.masks.specs.Lines.{inMask}
 use Rattle.masks.proofs.Members.{in-none}
 use Rattle.state.specs.declared.State.{State}
 use Rattle.state.specs.Held.{heldAt}
-use Rattle.state.specs.Operations.{slotFor, slotted}
-use Rattle.transactions.specs.Mount.{allClosed, quietState}
-use Rattle.transactions.specs.Recall.{frameOf}
-use Rattle.transactions.proofs.Mounted.{view-sixteen, mount-valid}
+use Rattle.operations.specs.Operations.{slotFor, slotted}
+use Rattle.refinement.specs.Mount.{allClosed, quietState}
+use Rattle.refinement.specs.Recall.{frameOf}
+use Rattle.refinement.proofs.CallMounted.{view-sixteen, mount-valid}
 use Rattle.refinement.specs.Reference.{Reference, none, idle, recallLine}
 use Rattle.refinement.proofs.Invariant.{Quiet, holds}
 

@@ -11,14 +11,14 @@ use Rattle.bounded.specs.Count.{Once}
 use Rattle.bounded.proofs.Tests.{caseOn}
 use Rattle.layout.specs.declared.Sizes.{Sizes}
 use Rattle.layout.specs.Layout.{Legal, frames}
-use Rattle.journal.specs.declared.Table.{Table}
+use Rattle.replay.specs.declared.Table.{Table}
 use Rattle.journal.specs.Slots.{noPage}
-use Rattle.journal.specs.Table.{slotIn, slotOf, homeOf, frameNames}
+use Rattle.replay.specs.Table.{slotIn, slotOf, homeOf, frameNames}
 use Rattle.masks.specs.Lines.{inMask}
-use Rattle.stores.specs.Frames.{otherFrame}
-use Rattle.transactions.specs.Recall.{frameOf}
-use Rattle.stores.proofs.NamesOnce.{spare-low, home-low, spares-apart, homes-apart, spare-home}
-use Rattle.stores.proofs.PageSlots.{slot-page}
+use Rattle.refinement.specs.Frames.{otherFrame}
+use Rattle.refinement.specs.Recall.{frameOf}
+use Rattle.refinement.proofs.NamesOnce.{spare-low, home-low, spares-apart, homes-apart, spare-home}
+use Rattle.refinement.proofs.PageSlots.{slot-page}
 
 -- the frames that page p owns: its home, and its slot's spare
 abbrev pub Owned : (ℕ → ℕ) → Sizes → Table → ℕ → ℕ → Type 0

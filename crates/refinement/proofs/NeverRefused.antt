@@ -9,13 +9,13 @@ use lib.ListN.{length}
 use borrow.Author.Tests.{le-ltb}
 use Rattle.layout.specs.Layout.{imageLength}
 use Rattle.state.specs.declared.State.{State}
-use Rattle.state.specs.Operations.{slotFor, frameBad}
-use Rattle.state.specs.Validity.{stateOk}
-use Rattle.state.proofs.Taken.{args-good}
-use Rattle.stores.specs.Frames.{pageFrame}
-use Rattle.stores.specs.Stores.{World}
-use Rattle.transactions.specs.Calls.{beginRows, beginOf, abortRows, abortOf, writeCallRows, writeOf, commitCallRows, commitOf, consolidateCallRows, consolidateOf, checkpointCallRows, checkpointOf, readRows, readRow, stepRows, stepOf, runOf}
-use Rattle.transactions.specs.Run.{Call, mount, checkpoint, step, begin, abort, commit, consolidate, run, write, read, recall, exec}
+use Rattle.operations.specs.Operations.{slotFor, frameBad}
+use Rattle.validity.specs.Validity.{stateOk}
+use Rattle.operations.proofs.Taken.{args-good}
+use Rattle.refinement.specs.Frames.{pageFrame}
+use Rattle.refinement.specs.Stores.{World}
+use Rattle.refinement.specs.Calls.{beginRows, beginOf, abortRows, abortOf, writeCallRows, writeOf, commitCallRows, commitOf, consolidateCallRows, consolidateOf, checkpointCallRows, checkpointOf, readRows, readRow, stepRows, stepOf, runOf}
+use Rattle.refinement.specs.Run.{Call, mount, checkpoint, step, begin, abort, commit, consolidate, run, write, read, recall, exec}
 use Rattle.refinement.specs.Beside.{broken, NeverRefused}
 use Rattle.refinement.specs.Reference.{Reference}
 use Rattle.refinement.proofs.Copies.{durable-fits, names-once}

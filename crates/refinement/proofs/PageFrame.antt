@@ -14,16 +14,16 @@ use Rattle.layout.specs.declared.Sizes.{Sizes}
 use Rattle.layout.specs.Layout.{frames}
 use Rattle.words.specs.Words.{word}
 use Rattle.journal.specs.Slots.{noPage}
-use Rattle.journal.specs.Table.{slotIn, homeOf, frameNames}
+use Rattle.replay.specs.Table.{slotIn, homeOf, frameNames}
 use Rattle.journal.proofs.SlotWords.{shape}
 use Rattle.state.specs.declared.State.{State}
 use Rattle.state.specs.Slots.{freeAt, frameOfSlot}
-use Rattle.state.specs.Operations.{slotFor, slotted, frameBad}
-use Rattle.state.specs.Validity.{stateOk}
-use Rattle.stores.specs.Frames.{pageFrame}
-use Rattle.stores.proofs.PageSlots.{slot-is, slotted-of}
-use Rattle.stores.proofs.NamesOnce.{home-low, homes-apart, spare-home}
-use Rattle.stores.proofs.Valid.{valid}
+use Rattle.operations.specs.Operations.{slotFor, slotted, frameBad}
+use Rattle.validity.specs.Validity.{stateOk}
+use Rattle.refinement.specs.Frames.{pageFrame}
+use Rattle.refinement.proofs.PageSlots.{slot-is, slotted-of}
+use Rattle.refinement.proofs.NamesOnce.{home-low, homes-apart, spare-home}
+use Rattle.refinement.proofs.StateValid.{valid}
 use Rattle.refinement.proofs.Valid.{good, legal-sizes}
 
 module _ (st : State) (img : List ℕ) (ok : stateOk st ≡ true) (once : Once (frames (st .sizes)) (frameNames (word img) (st .sizes) (st .table))) (p : ℕ) (low : p < st .sizes .pages) where

@@ -7,9 +7,9 @@ use borrow.Author.Tests.{eqb-false, ne-eqb}
 use Rattle.bounded.proofs.Below.{all-made}
 use Rattle.bounded.proofs.Tests.{caseOn}
 use Rattle.layout.specs.declared.Sizes.{Sizes}
-use Rattle.journal.specs.declared.Table.{Table}
+use Rattle.replay.specs.declared.Table.{Table}
 use Rattle.journal.specs.Slots.{noPage}
-use Rattle.journal.specs.Table.{slotIn, pagesApart, pageApart}
+use Rattle.replay.specs.Table.{slotIn, pagesApart, pageApart}
 
 pub apart-made : (z : Sizes) (t : Table) → ((s k : ℕ) → s < z .slots → k < s → (slotIn t s .page ≡ noPage → ⊥) → slotIn t s .page ≡ slotIn t k .page → ⊥) → pagesApart z (t .page) ≡ true
 apart-made z t h =

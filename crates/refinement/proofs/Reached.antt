@@ -8,8 +8,8 @@ use lib.ListN.{length, drop}
 use Rattle.layout.specs.declared.Sizes.{Sizes}
 use Rattle.layout.specs.Layout.{sizesOk, imageLength}
 use Rattle.words.specs.Words.{Bytes}
-use Rattle.stores.specs.Stores.{World}
-use Rattle.transactions.specs.Run.{Call, Result, exec, formattedWorld, after}
+use Rattle.refinement.specs.Stores.{World}
+use Rattle.refinement.specs.Run.{Call, Result, exec, formattedWorld, after}
 use Rattle.refinement.specs.Beside.{follows, Always}
 use Rattle.refinement.specs.Reference.{Reference, blank, turn}
 use Rattle.refinement.specs.Statement.{Lent, AllLent}

@@ -11,9 +11,9 @@ use Rattle.bounded.proofs.Rows.{none-apply}
 use Rattle.bounded.proofs.Tests.{or-left, or-right}
 use Rattle.words.specs.Words.{over}
 use Rattle.state.specs.declared.State.{State}
-use Rattle.stores.specs.Stores.{World}
-use Rattle.transactions.specs.Calls.{readRows, readRow, readBytes}
-use Rattle.transactions.specs.Run.{Call, read, exec}
+use Rattle.refinement.specs.Stores.{World}
+use Rattle.refinement.specs.Calls.{readRows, readRow, readBytes}
+use Rattle.refinement.specs.Run.{Call, read, exec}
 use Rattle.refinement.specs.Reference.{Reference, taken, turn, readLine}
 use Rattle.refinement.proofs.Invariant.{Never, Related}
 use Rattle.refinement.proofs.Sound.{Sound, is-quiet}

@@ -12,15 +12,15 @@ use Rattle.bounded.specs.Rows.{Row, refusal, Past}
 use Rattle.bounded.proofs.Rows.{none-apply}
 use Rattle.bounded.proofs.Tests.{caseOn, or-left, or-right}
 use Rattle.words.specs.Words.{word, over}
-use Rattle.journal.specs.declared.Mounted.{Mounted}
-use Rattle.journal.specs.Mount.{mountOf, mountRead, mountRows, sizesFrom}
-use Rattle.journal.proofs.Verdict.{taken-mount}
-use Rattle.journal.proofs.View.{View, viewOf}
+use Rattle.mount.specs.declared.Mounted.{Mounted}
+use Rattle.mount.specs.Mount.{mountOf, mountRead, mountRows, sizesFrom}
+use Rattle.mount.proofs.Verdict.{taken-mount}
+use Rattle.mount.proofs.View.{View, viewOf}
 use Rattle.state.specs.declared.State.{State}
-use Rattle.state.specs.Validity.{stateOk}
-use Rattle.stores.specs.Stores.{World}
-use Rattle.transactions.specs.Recall.{recallRow, recallBytes}
-use Rattle.transactions.specs.Run.{recall, exec}
+use Rattle.validity.specs.Validity.{stateOk}
+use Rattle.refinement.specs.Stores.{World}
+use Rattle.refinement.specs.Recall.{recallRow, recallBytes}
+use Rattle.refinement.specs.Run.{recall, exec}
 use Rattle.refinement.specs.Reference.{Reference, recallLine}
 use Rattle.refinement.proofs.Invariant.{Durable, Related}
 use Rattle.refinement.proofs.Mounted.{Committed}

@@ -9,8 +9,8 @@ use Rattle.image.specs.Lines.{lineBytes}
 use Rattle.masks.specs.Lines.{inMask}
 use Rattle.state.specs.declared.State.{State}
 use Rattle.state.specs.Held.{heldAt}
-use Rattle.state.specs.Operations.{slotFor, slotted}
-use Rattle.stores.specs.Frames.{pageFrame, seenFrame}
+use Rattle.operations.specs.Operations.{slotFor, slotted}
+use Rattle.refinement.specs.Frames.{pageFrame, seenFrame}
 use Rattle.refinement.specs.Reference.{Reference, Cell, laidOver, readLine, recallLine}
 use Rattle.refinement.proofs.Invariant.{Durable, Writing, holds}
 

@@ -10,12 +10,12 @@ use Rattle.state.specs.declared.State.{State}
 use Rattle.state.specs.declared.Op.{Op}
 use Rattle.state.specs.declared.Op.the-variants.{Idle, Write, Commit, Consolidate, Checkpoint}
 use Rattle.state.specs.declared.Pending.{Pending}
-use Rattle.state.specs.Operations.{isIdle}
-use Rattle.state.specs.Validity.{stateOk}
-use Rattle.stores.specs.Stores.{World}
-use Rattle.transactions.specs.Answers.{answered}
-use Rattle.transactions.specs.Calls.{worldOf}
-use Rattle.transactions.specs.Run.{Call, exec}
+use Rattle.operations.specs.Operations.{isIdle}
+use Rattle.validity.specs.Validity.{stateOk}
+use Rattle.refinement.specs.Stores.{World}
+use Rattle.refinement.specs.Outcome.{answered}
+use Rattle.refinement.specs.Calls.{worldOf}
+use Rattle.refinement.specs.Run.{Call, exec}
 use Rattle.refinement.specs.Reference.{Reference, taken, turn}
 use Rattle.refinement.specs.Statement.{Right}
 use Rattle.refinement.proofs.Invariant.{Durable, Quiet, Busy, Doing, Related}

@@ -15,14 +15,14 @@ use Rattle.layout.specs.Layout.{Legal, sizesOk, frames, lineWord, imageLength}
 use Rattle.words.specs.Words.{Bytes, word, flat, bytesOf}
 use Rattle.layout.proofs.LayoutLaws.{legal}
 use Rattle.image.proofs.LineLaws.{line-words}
-use Rattle.journal.specs.Fresh.{formatted, formatRow, formatRows}
-use Rattle.journal.proofs.FreshMounts.{freshView, fresh-shows, fresh-taken}
-use Rattle.journal.proofs.FreshWords.{length-formatted, bytes-formatted, drop-formatted, formatted-zero}
-use Rattle.transactions.specs.Calls.{worldOf}
-use Rattle.transactions.specs.Mount.{freshState, formatCall}
-use Rattle.transactions.specs.Recall.{frameOf}
-use Rattle.transactions.specs.Run.{formattedWorld}
-use Rattle.transactions.proofs.Mounted.{view-names}
+use Rattle.fresh.specs.Fresh.{formatted, formatRow, formatRows}
+use Rattle.fresh.proofs.FreshMounts.{freshView, fresh-shows, fresh-taken}
+use Rattle.fresh.proofs.FreshWords.{length-formatted, bytes-formatted, drop-formatted, formatted-zero}
+use Rattle.refinement.specs.Calls.{worldOf}
+use Rattle.refinement.specs.Mount.{freshState, formatCall}
+use Rattle.refinement.specs.Recall.{frameOf}
+use Rattle.refinement.specs.Run.{formattedWorld}
+use Rattle.refinement.proofs.CallMounted.{view-names}
 use Rattle.refinement.specs.Reference.{blank}
 use Rattle.refinement.proofs.Invariant.{Quiet}
 use Rattle.refinement.proofs.Mounted.{Committed, mounted-quiet}

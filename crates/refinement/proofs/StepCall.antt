@@ -12,11 +12,11 @@ use Rattle.bounded.proofs.Tests.{caseOn, contradicts}
 use Rattle.state.specs.declared.State.{State}
 use Rattle.state.specs.declared.Op.{Op}
 use Rattle.state.specs.declared.Op.the-variants.{Idle, Write, Commit, Consolidate, Checkpoint}
-use Rattle.state.specs.Operations.{needs}
-use Rattle.stores.specs.Stores.{World, completed, stepped, steppedBy, left}
-use Rattle.stores.proofs.Pending.{pends}
-use Rattle.transactions.specs.Calls.{stepRows, stepRow, stepOf, stepBytes, runOf, runBytes, worldOf}
-use Rattle.transactions.specs.Run.{step, run, exec}
+use Rattle.operations.specs.Operations.{needs}
+use Rattle.refinement.specs.Stores.{World, completed, stepped, steppedBy, left}
+use Rattle.refinement.proofs.Pending.{pends}
+use Rattle.refinement.specs.Calls.{stepRows, stepRow, stepOf, stepBytes, runOf, runBytes, worldOf}
+use Rattle.refinement.specs.Run.{step, run, exec}
 use Rattle.refinement.specs.Reference.{Reference, Task, Work, idle, under, writing, committing, nothing, withWork, continues, advances}
 use Rattle.refinement.proofs.Invariant.{Doing, Busy, Related}
 use Rattle.refinement.proofs.Sound.{Sound, answered-after, is-busy, busy-pending}

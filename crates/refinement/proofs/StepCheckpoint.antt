@@ -14,22 +14,22 @@ use Rattle.layout.specs.declared.Sizes.{Sizes}
 use Rattle.layout.specs.Layout.{Legal, tailWord, slotWord, recordWord, imageLength}
 use Rattle.words.specs.Words.{word, store}
 use Rattle.words.proofs.WordLaws.{length-store, bytes-store, drop-store}
-use Rattle.journal.specs.declared.Table.{Table}
-use Rattle.journal.specs.Table.{slotIn, lastIn, noPosition}
-use Rattle.journal.proofs.Emptied.{Copied, unrecorded, emptied, emptied-view, emptied-taken}
-use Rattle.journal.proofs.LastRecords.{last-record}
-use Rattle.journal.proofs.Tables.{Sixteen, one-value}
-use Rattle.journal.proofs.Verdict.{Taken}
-use Rattle.journal.proofs.View.{Shows}
+use Rattle.replay.specs.declared.Table.{Table}
+use Rattle.replay.specs.Table.{slotIn, lastIn, noPosition}
+use Rattle.mount.proofs.Emptied.{Copied, unrecorded, emptied, emptied-view, emptied-taken}
+use Rattle.mount.proofs.LastRecords.{last-record}
+use Rattle.replay.proofs.Tables.{Sixteen, one-value}
+use Rattle.mount.proofs.Verdict.{Taken}
+use Rattle.mount.proofs.View.{Shows}
 use Rattle.state.specs.declared.State.{State}
 use Rattle.state.specs.declared.Op.{Op}
 use Rattle.state.specs.declared.Op.the-variants.{Checkpoint}
-use Rattle.state.specs.Operations.{needs}
-use Rattle.stores.specs.Checkpoint.{checkpointAt, checkpointValue, withoutLasts}
-use Rattle.stores.specs.Stores.{stepped, completed, storeAt, storeValue, storeMade}
-use Rattle.stores.proofs.Pending.{pends}
-use Rattle.stores.proofs.CheckpointValid.{checkpoint-valid}
-use Rattle.transactions.specs.Calls.{worldOf}
+use Rattle.operations.specs.Operations.{needs}
+use Rattle.refinement.specs.Checkpoint.{checkpointAt, checkpointValue, withoutLasts}
+use Rattle.refinement.specs.Stores.{stepped, completed, storeAt, storeValue, storeMade}
+use Rattle.refinement.proofs.Pending.{pends}
+use Rattle.refinement.proofs.CheckpointValid.{checkpoint-valid}
+use Rattle.refinement.specs.Calls.{worldOf}
 use Rattle.refinement.specs.Reference.{Reference, idle, under, nothing, withWork, advances}
 use Rattle.refinement.proofs.Copies.{durable-legal, durable-fits}
 use Rattle.refinement.proofs.Invariant.{TakenOnly, Behind, Durable, Writing, Never, Changing, Doing, Quiet, Busy, Related}

@@ -17,29 +17,29 @@ use Rattle.image.specs.Lines.{lineBytes}
 use Rattle.words.specs.Words.{word, store}
 use Rattle.words.proofs.WordLaws.{length-store, bytes-store, drop-store}
 use Rattle.journal.specs.declared.Record.{Record}
-use Rattle.journal.specs.declared.Table.{Table}
+use Rattle.replay.specs.declared.Table.{Table}
 use Rattle.journal.specs.Records.{position, wordOfRecord}
-use Rattle.journal.specs.Table.{slotIn, replay, frameNames}
-use Rattle.journal.proofs.Append.{Appendable, Landed, appended, append-view, append-taken}
-use Rattle.journal.proofs.Tables.{Sixteen}
-use Rattle.journal.proofs.Verdict.{Taken, namesIn}
-use Rattle.journal.proofs.View.{View, Shows}
+use Rattle.replay.specs.Table.{slotIn, replay, frameNames}
+use Rattle.mount.proofs.Append.{Appendable, Landed, appended, append-view, append-taken}
+use Rattle.replay.proofs.Tables.{Sixteen}
+use Rattle.mount.proofs.Verdict.{Taken, namesIn}
+use Rattle.mount.proofs.View.{View, Shows}
 use Rattle.masks.specs.Lines.{inMask}
 use Rattle.state.specs.declared.State.{State}
 use Rattle.state.specs.declared.Op.{Op}
 use Rattle.state.specs.declared.Op.the-variants.{Commit}
 use Rattle.state.specs.Held.{heldAt}
-use Rattle.state.specs.Operations.{slotFor, slotted, needs}
-use Rattle.state.specs.Validity.{stateOk}
-use Rattle.state.proofs.Taken.{CommitTaken}
-use Rattle.stores.specs.Commit.{commitRecord, commitAt, commitValue, commitTable}
-use Rattle.stores.specs.Frames.{otherFrame}
-use Rattle.stores.specs.Stores.{stepped, completed, storeAt, storeValue, storeMade}
-use Rattle.stores.proofs.Closed.{closed-holds, others-hold, closed-opened-length, closed-held-length}
-use Rattle.stores.proofs.CommitValid.{commit-valid}
-use Rattle.stores.proofs.Pending.{pends}
-use Rattle.stores.proofs.Valid.{valid}
-use Rattle.transactions.specs.Recall.{frameOf}
+use Rattle.operations.specs.Operations.{slotFor, slotted, needs}
+use Rattle.validity.specs.Validity.{stateOk}
+use Rattle.operations.proofs.Taken.{CommitTaken}
+use Rattle.refinement.specs.Commit.{commitRecord, commitAt, commitValue, commitTable}
+use Rattle.refinement.specs.Frames.{otherFrame}
+use Rattle.refinement.specs.Stores.{stepped, completed, storeAt, storeValue, storeMade}
+use Rattle.refinement.proofs.Closed.{closed-holds, others-hold, closed-opened-length, closed-held-length}
+use Rattle.refinement.proofs.CommitValid.{commit-valid}
+use Rattle.refinement.proofs.Pending.{pends}
+use Rattle.refinement.proofs.StateValid.{valid}
+use Rattle.refinement.specs.Recall.{frameOf}
 use Rattle.refinement.specs.Reference.{Reference, Cell, laidOver, idle, committing, withWork, laid, emptied, advances, readLine, recallLine}
 use Rattle.refinement.proofs.Invariant.{Behind, Durable, holds, Writing, Never, Changing, Quiet, Busy, Related}
 use Rattle.refinement.proofs.CommitCopies.{names-kept, frame-held, frame-other, other-after, closed-none, others-keep, not-both}
@@ -47,7 +47,7 @@ use Rattle.refinement.proofs.CommitMid.{ownView, own-shows, own-mounts,
 use Rattle.refinement.proofs.CommitNames.{behind-shapes, behind-apart, behind-more, once-more}
 use Rattle.refinement.proofs.Copies.{names-once, durable-fits}
 use Rattle.refinement.proofs.HeaderStore.{header-fits, header-page, header-line, header-copy}
-use Rattle.transactions.proofs.Mounted.{view-sixteen}
+use Rattle.refinement.proofs.CallMounted.{view-sixteen}
 use Rattle.refinement.proofs.Stepping.{behind-ext}
 use Rattle.refinement.proofs.StepLast.{step-last}
 use Rattle.refinement.proofs.Valid.{good}

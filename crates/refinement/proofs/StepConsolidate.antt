@@ -15,22 +15,22 @@ use Rattle.image.specs.Lines.{lineBytes}
 use Rattle.words.specs.Words.{word, store}
 use Rattle.journal.specs.declared.Slot.{Slot}
 use Rattle.journal.specs.Records.{position}
-use Rattle.journal.specs.Table.{slotIn}
-use Rattle.journal.proofs.Tables.{Sixteen}
+use Rattle.replay.specs.Table.{slotIn}
+use Rattle.replay.proofs.Tables.{Sixteen}
 use Rattle.masks.specs.Lines.{inMask}
 use Rattle.state.specs.declared.State.{State}
 use Rattle.state.specs.declared.Op.{Op}
 use Rattle.state.specs.declared.Op.the-variants.{Consolidate}
 use Rattle.state.specs.Held.{heldAt}
-use Rattle.state.specs.Operations.{slotFor, slotted, opRows, needs}
-use Rattle.state.proofs.Taken.{ConsolidateTaken, consolidate-taken}
-use Rattle.stores.specs.Consolidate.{pageSlot, copyFrom, copyStoreCount, freeingRecord, consolidateAt, consolidateValue, consolidateTable}
-use Rattle.stores.specs.Frames.{otherFrame}
-use Rattle.stores.specs.Stores.{stepped, completed, storeAt, storeValue, storeMade}
-use Rattle.stores.proofs.Pending.{Pends, pends}
-use Rattle.stores.proofs.ConsolidateValid.{consolidate-valid}
-use Rattle.transactions.specs.Calls.{worldOf}
-use Rattle.transactions.proofs.Mounted.{view-sixteen}
+use Rattle.operations.specs.Operations.{slotFor, slotted, opRows, needs}
+use Rattle.operations.proofs.Taken.{ConsolidateTaken, consolidate-taken}
+use Rattle.refinement.specs.Frames.{pageSlot, otherFrame}
+use Rattle.refinement.specs.Consolidate.{copyFrom, copyStoreCount, freeingRecord, consolidateAt, consolidateValue, consolidateTable}
+use Rattle.refinement.specs.Stores.{stepped, completed, storeAt, storeValue, storeMade}
+use Rattle.refinement.proofs.Pending.{Pends, pends}
+use Rattle.refinement.proofs.ConsolidateValid.{consolidate-valid}
+use Rattle.refinement.specs.Calls.{worldOf}
+use Rattle.refinement.proofs.CallMounted.{view-sixteen}
 use Rattle.refinement.specs.Reference.{Reference, idle, under, nothing, withWork, advances}
 use Rattle.refinement.proofs.Invariant.{holds, Writing, Never, Changing, Doing, Quiet, Busy, Related}
 use Rattle.refinement.proofs.Copies.{durable-fits}

@@ -5,9 +5,9 @@ use mathlib.Core.Logic.{inl}
 use mathlib.Core.Path.{_≡_, sym, ap, _∙_, subst}
 use Rattle.state.specs.declared.State.{State}
 use Rattle.state.specs.declared.Op.{Op}
-use Rattle.state.specs.Operations.{needs}
-use Rattle.stores.specs.Stores.{World, stepped, completed, storeMade}
-use Rattle.transactions.specs.Calls.{worldOf}
+use Rattle.operations.specs.Operations.{needs}
+use Rattle.refinement.specs.Stores.{World, stepped, completed, storeMade}
+use Rattle.refinement.specs.Calls.{worldOf}
 use Rattle.refinement.specs.Reference.{Reference, Task, idle, under, withWork, does, advances}
 use Rattle.refinement.proofs.Invariant.{Quiet, Related}
 use Rattle.refinement.proofs.Stepping.{step-ends, advance-ends}

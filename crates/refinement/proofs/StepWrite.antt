@@ -17,20 +17,20 @@ use Rattle.words.specs.Words.{word, wordAt, flat}
 use Rattle.image.proofs.LineLaws.{line-words, flat-line}
 use Rattle.words.proofs.Runs.{words-tab}
 use Rattle.journal.specs.declared.Slot.{Slot}
-use Rattle.journal.specs.Table.{slotIn, pagesApart}
+use Rattle.replay.specs.Table.{slotIn, pagesApart}
 use Rattle.masks.specs.Lines.{inMask}
 use Rattle.state.specs.declared.State.{State}
 use Rattle.state.specs.declared.Op.{Op}
 use Rattle.state.specs.declared.Op.the-variants.{Write}
 use Rattle.state.specs.Held.{heldAt}
-use Rattle.state.specs.Operations.{slotFor, slotted, needs}
-use Rattle.state.specs.Validity.{stateOk}
-use Rattle.state.proofs.Taken.{WriteTaken}
-use Rattle.stores.specs.Frames.{otherFrame, pageFrame}
-use Rattle.stores.specs.Write.{writeSlot, writeTable}
-use Rattle.stores.specs.Stores.{stepped, completed, storeAt, storeValue, storeMade}
-use Rattle.stores.proofs.Pending.{pends}
-use Rattle.stores.proofs.WriteValid.{write-valid}
+use Rattle.operations.specs.Operations.{slotFor, slotted, needs}
+use Rattle.validity.specs.Validity.{stateOk}
+use Rattle.operations.proofs.Taken.{WriteTaken}
+use Rattle.refinement.specs.Frames.{otherFrame, pageFrame}
+use Rattle.refinement.specs.Write.{writeSlot, writeTable}
+use Rattle.refinement.specs.Stores.{stepped, completed, storeAt, storeValue, storeMade}
+use Rattle.refinement.proofs.Pending.{pends}
+use Rattle.refinement.proofs.WriteValid.{write-valid}
 use Rattle.refinement.specs.Reference.{Reference, idle, writing, withWork, advances, written, readLine}
 use Rattle.refinement.proofs.Copies.{durable-legal, durable-fits}
 use Rattle.refinement.proofs.Invariant.{Durable, holds, Writing, Never, Changing, Busy, Related}

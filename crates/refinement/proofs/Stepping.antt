@@ -18,29 +18,29 @@ use Rattle.words.specs.Words.{bytesOf, putWord, word, store}
 use Rattle.words.proofs.Bytes.{length-bytes}
 use Rattle.words.proofs.Parts.{part-over-other}
 use Rattle.words.proofs.WordLaws.{word-store, word-store-other, length-store, bytes-store, drop-store}
-use Rattle.journal.specs.declared.Table.{Table}
+use Rattle.replay.specs.declared.Table.{Table}
 use Rattle.journal.specs.Slots.{noPage}
-use Rattle.journal.specs.Table.{slotIn, slotOf}
-use Rattle.journal.proofs.View.{Read, page, slot-none}
-use Rattle.journal.proofs.Verdict.{Taken}
-use Rattle.journal.proofs.Dead.{Dead, dead-view, store-old}
+use Rattle.replay.specs.Table.{slotIn, slotOf}
+use Rattle.mount.proofs.View.{Read, page, slot-none}
+use Rattle.mount.proofs.Verdict.{Taken}
+use Rattle.mount.proofs.Dead.{Dead, dead-view, store-old}
 use Rattle.state.specs.declared.State.{State}
 use Rattle.state.specs.declared.Op.{Op}
 use Rattle.state.specs.declared.Op.the-variants.{Idle, Write, Commit, Consolidate, Checkpoint}
-use Rattle.state.specs.Operations.{slotFor, needs, isIdle}
-use Rattle.stores.specs.Frames.{otherFrame}
-use Rattle.stores.specs.Write.{writeSlot}
-use Rattle.stores.specs.Commit.{commitAt, commitValue, commitRecord}
-use Rattle.stores.specs.Consolidate.{consolidateAt, consolidateValue, freeingRecord}
-use Rattle.stores.specs.Checkpoint.{checkpointAt, checkpointValue}
-use Rattle.stores.specs.Stores.{World, stepped, withMade, completed, storeAt, storeValue, storeMade}
-use Rattle.stores.proofs.Pending.{made-valid}
-pub use Rattle.stores.proofs.Pending.{needs-made}
-use Rattle.transactions.specs.Recall.{frameOf}
+use Rattle.operations.specs.Operations.{slotFor, needs, isIdle}
+use Rattle.refinement.specs.Frames.{otherFrame}
+use Rattle.refinement.specs.Write.{writeSlot}
+use Rattle.refinement.specs.Commit.{commitAt, commitValue, commitRecord}
+use Rattle.refinement.specs.Consolidate.{consolidateAt, consolidateValue, freeingRecord}
+use Rattle.refinement.specs.Checkpoint.{checkpointAt, checkpointValue}
+use Rattle.refinement.specs.Stores.{World, stepped, withMade, completed, storeAt, storeValue, storeMade}
+use Rattle.refinement.proofs.Pending.{made-valid}
+pub use Rattle.refinement.proofs.Pending.{needs-made}
+use Rattle.refinement.specs.Recall.{frameOf}
 use Rattle.refinement.specs.Reference.{Reference, Task, idle, under, withWork, does, continues, advances}
 use Rattle.refinement.proofs.Copies.{durable-legal, durable-fits}
 use Rattle.refinement.proofs.Invariant.{TakenOnly, Behind, Durable, holds, Writing, Doing, Changing, Busy, Related}
-use Rattle.stores.proofs.PageSlots.{slotted-of, unslotted-of}
+use Rattle.refinement.proofs.PageSlots.{slotted-of, unslotted-of}
 
 -- ---- one store of a word
 

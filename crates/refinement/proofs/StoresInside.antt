@@ -9,9 +9,9 @@ use Rattle.layout.specs.Layout.{imageLength}
 use Rattle.state.specs.declared.State.{State}
 use Rattle.state.specs.declared.Op.{Op}
 use Rattle.state.specs.declared.Op.the-variants.{Idle, Write, Commit, Consolidate, Checkpoint}
-use Rattle.state.specs.Operations.{isIdle, needs}
-use Rattle.stores.specs.Stores.{World, storeAt}
-use Rattle.stores.proofs.InRange.{store-in-range}
+use Rattle.operations.specs.Operations.{isIdle, needs}
+use Rattle.refinement.specs.Stores.{World, storeAt}
+use Rattle.refinement.proofs.InRange.{store-in-range}
 use Rattle.refinement.specs.Beside.{StoresInside, PastKept}
 use Rattle.refinement.specs.Reference.{Reference}
 use Rattle.refinement.proofs.Reached.{Reached, past-same, always}

@@ -3,8 +3,8 @@ use Prim.Native.Nat.{ℕ}
 use mathlib.Core.List.{List, [], _∷_}
 use Rattle.layout.specs.declared.Sizes.{Sizes}
 use Rattle.layout.specs.Layout.{imageLength}
-use Rattle.stores.specs.Stores.{World}
-use Rattle.transactions.specs.Run.{Call, Result, exec, formattedWorld}
+use Rattle.refinement.specs.Stores.{World}
+use Rattle.refinement.specs.Run.{Call, Result, exec, formattedWorld}
 use Rattle.refinement.specs.Reference.{Reference, blank, turn}
 use Rattle.refinement.specs.Statement.{Agrees, AllLent, Demand3}
 use Rattle.refinement.proofs.CallSound.{call-sound}

@@ -3,9 +3,9 @@ use mathlib.Core.Bool.{true}
 use mathlib.Core.Path.{_≡_}
 use Rattle.layout.specs.Layout.{Legal}
 use Rattle.state.specs.declared.State.{State}
-use Rattle.state.specs.Validity.{stateOk}
-use Rattle.state.proofs.Ranged.{SlotsGood, slots-good}
-use Rattle.stores.proofs.Valid.{parts, valid}
+use Rattle.validity.specs.Validity.{stateOk}
+use Rattle.validity.proofs.Ranged.{SlotsGood, slots-good}
+use Rattle.refinement.proofs.StateValid.{parts, valid}
 
 module _ (st : State) (e : stateOk st ≡ true) where
   pub good : SlotsGood (st .sizes) (st .head) (st .tail) (st .table)

@@ -13,21 +13,21 @@ use Rattle.bounded.proofs.Tests.{caseOn}
 use Rattle.layout.specs.declared.Sizes.{Sizes}
 use Rattle.layout.specs.Layout.{Legal}
 use Rattle.journal.specs.declared.Slot.{Slot}
-use Rattle.journal.specs.declared.Table.{Table}
-use Rattle.journal.specs.Table.{pagesApart}
-use Rattle.journal.proofs.Tables.{Sixteen}
+use Rattle.replay.specs.declared.Table.{Table}
+use Rattle.replay.specs.Table.{pagesApart}
+use Rattle.replay.proofs.Tables.{Sixteen}
 use Rattle.masks.specs.Lines.{inMask, withLine}
 use Rattle.masks.proofs.Members.{in-none, in-with-same, in-with-other, with-lt}
 use Rattle.state.specs.declared.State.{State}
 use Rattle.state.specs.declared.Op.the-variants.{Write}
 use Rattle.state.specs.Held.{heldAt}
-use Rattle.state.specs.Operations.{slotFor}
-use Rattle.state.specs.Validity.{stateOk}
-use Rattle.state.proofs.Taken.{WriteTaken}
-use Rattle.stores.specs.Write.{writeSlot, writeTable}
-use Rattle.stores.specs.Stores.{completed}
-use Rattle.stores.proofs.LinePut.{held-same, held-slot, held-writer}
-use Rattle.stores.proofs.Valid.{valid}
+use Rattle.operations.specs.Operations.{slotFor}
+use Rattle.validity.specs.Validity.{stateOk}
+use Rattle.operations.proofs.Taken.{WriteTaken}
+use Rattle.refinement.specs.Write.{writeSlot, writeTable}
+use Rattle.refinement.specs.Stores.{completed}
+use Rattle.refinement.proofs.LinePut.{held-same, held-slot, held-writer}
+use Rattle.refinement.proofs.StateValid.{valid}
 use Rattle.refinement.specs.Reference.{Reference, Cell, laidOver, none, written, readLine}
 use Rattle.refinement.proofs.Invariant.{holds}
 use Rattle.refinement.proofs.WriteTable.{Own, Takes, own-or-takes, write-slot-low, page-slot, slot-kept, slot-differs}

@@ -20,20 +20,20 @@ use Rattle.layout.proofs.LayoutLaws.{line-apart}
 use Rattle.words.proofs.Runs.{words-tab}
 use Rattle.words.proofs.WordLaws.{word-lt, word-store-other}
 use Rattle.journal.specs.declared.Slot.{Slot}
-use Rattle.journal.specs.Table.{slotIn}
-use Rattle.journal.proofs.Dead.{Dead, dead-line}
+use Rattle.replay.specs.Table.{slotIn}
+use Rattle.mount.proofs.Dead.{Dead, dead-line}
 use Rattle.masks.specs.Lines.{inMask}
 use Rattle.state.specs.declared.State.{State}
 use Rattle.state.specs.declared.Op.the-variants.{Write}
 use Rattle.state.specs.Held.{heldAt, othersHold}
-use Rattle.state.specs.Operations.{slotFor, slotted, needs}
-use Rattle.state.specs.Validity.{stateOk}
-use Rattle.state.proofs.Taken.{WriteTaken, write-taken}
-use Rattle.stores.specs.Frames.{otherFrame, pageFrame}
-use Rattle.stores.specs.Write.{writeSlot}
-use Rattle.stores.specs.Stores.{stepped}
-use Rattle.stores.proofs.Pending.{pends}
-use Rattle.transactions.specs.Recall.{frameOf}
+use Rattle.operations.specs.Operations.{slotFor, slotted, needs}
+use Rattle.validity.specs.Validity.{stateOk}
+use Rattle.operations.proofs.Taken.{WriteTaken, write-taken}
+use Rattle.refinement.specs.Frames.{otherFrame, pageFrame}
+use Rattle.refinement.specs.Write.{writeSlot}
+use Rattle.refinement.specs.Stores.{stepped}
+use Rattle.refinement.proofs.Pending.{pends}
+use Rattle.refinement.specs.Recall.{frameOf}
 use Rattle.refinement.specs.Reference.{Reference, Cell, byte, laidOver, writing, under, advances, written, readLine}
 use Rattle.refinement.proofs.Invariant.{Durable, holds, Doing, Busy, Related}
 use Rattle.refinement.proofs.Copies.{other-low, slot-spare-low, copy-apart, others-apart, free-apart, free-other-apart, durable-fits}

@@ -13,22 +13,22 @@ use Rattle.bounded.proofs.Tests.{caseOn}
 use Rattle.layout.specs.declared.Sizes.{Sizes}
 use Rattle.layout.specs.Layout.{Legal, pageWord}
 use Rattle.journal.specs.declared.Slot.{Slot}
-use Rattle.journal.specs.declared.Table.{Table}
+use Rattle.replay.specs.declared.Table.{Table}
 use Rattle.journal.specs.Slots.{noPage, freeSlot, shaped}
-use Rattle.journal.specs.Table.{slotIn, withSlot, lastIn, slotOf, pagesApart}
+use Rattle.replay.specs.Table.{slotIn, withSlot, lastIn, slotOf, pagesApart}
 use Rattle.journal.proofs.SlotWords.{Owning, shape, free-is}
-use Rattle.journal.proofs.Tables.{Sixteen, sixteen-slot, slot-same, slot-other}
-use Rattle.journal.proofs.View.{slot-none}
+use Rattle.replay.proofs.Tables.{Sixteen, sixteen-slot, slot-same, slot-other}
+use Rattle.mount.proofs.View.{slot-none}
 use Rattle.masks.proofs.Members.{in-none}
 use Rattle.state.specs.declared.State.{State}
 use Rattle.state.specs.Slots.{freeAt, roundSlot, freeAfter}
-use Rattle.state.specs.Operations.{slotFor, slotted, noneFree}
-use Rattle.state.specs.Validity.{stateOk}
-use Rattle.stores.specs.Frames.{committedFrame, otherFrame}
-use Rattle.stores.specs.Write.{writeSlot, writeTable}
-use Rattle.transactions.specs.Recall.{frameOf}
+use Rattle.operations.specs.Operations.{slotFor, slotted, noneFree}
+use Rattle.validity.specs.Validity.{stateOk}
+use Rattle.refinement.specs.Frames.{committedFrame, otherFrame}
+use Rattle.refinement.specs.Write.{writeSlot, writeTable}
+use Rattle.refinement.specs.Recall.{frameOf}
 use Rattle.refinement.proofs.Invariant.{TakenOnly, Behind}
-use Rattle.stores.proofs.PageSlots.{slot-page, slotted-of, unslotted-of, slot-is}
+use Rattle.refinement.proofs.PageSlots.{slot-page, slotted-of, unslotted-of, slot-is}
 use Rattle.refinement.proofs.Valid.{good, legal-sizes}
 
 -- a slot that was only taken, in other tables that have it as it was

@@ -12,13 +12,13 @@ use Rattle.layout.specs.declared.Sizes.{Sizes}
 use Rattle.layout.specs.Layout.{sizesOk, imageLength, pageWord}
 use Rattle.image.specs.Lines.{lineBytes}
 use Rattle.journal.specs.Slots.{freeSlot}
-use Rattle.journal.specs.Table.{slotIn, lastIn}
+use Rattle.replay.specs.Table.{slotIn, lastIn}
 use Rattle.state.specs.declared.State.{State}
 use Rattle.state.specs.declared.Op.the-variants.{Checkpoint}
-use Rattle.state.specs.Operations.{needs}
-use Rattle.stores.specs.Stores.{World, storeAt, left}
-use Rattle.transactions.specs.Recall.{frameOf}
-use Rattle.transactions.specs.Run.{Call, mount, checkpoint, step, commit, run, exec, formattedWorld, after}
+use Rattle.operations.specs.Operations.{needs}
+use Rattle.refinement.specs.Stores.{World, storeAt, left}
+use Rattle.refinement.specs.Recall.{frameOf}
+use Rattle.refinement.specs.Run.{Call, mount, checkpoint, step, commit, run, exec, formattedWorld, after}
 use Rattle.refinement.specs.Reference.{Reference, blank, turn, readLine, recallLine}
 use Rattle.refinement.specs.Statement.{AllLent}
 

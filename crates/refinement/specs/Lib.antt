@@ -1,3 +1,15 @@
+pub mod Frames
+pub mod Settled
+pub mod Write
+pub mod Commit
+pub mod Consolidate
+pub mod Checkpoint
+pub mod Stores
+pub mod Outcome
+pub mod Calls
+pub mod Mount
+pub mod Recall
+pub mod Run
 pub mod Reference
 pub mod Statement
 pub mod Beside

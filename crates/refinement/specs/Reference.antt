@@ -7,7 +7,7 @@ use mathlib.Core.List.{List}
 use lib.Dec.{ltb, leb, eqb}
 use lib.ListN.{getD}
 use Rattle.bounded.specs.Tab.{tab}
-use Rattle.transactions.specs.Run.{Call, mount, checkpoint, step, begin, abort, commit, consolidate, run, write, read, recall}
+use Rattle.refinement.specs.Run.{Call, mount, checkpoint, step, begin, abort, commit, consolidate, run, write, read, recall}
 
 -- a byte of a set of unfinished writes, if there is one
 pub data Cell : Type 0 where

@@ -9,8 +9,8 @@ use lib.ListN.{length, drop}
 use Rattle.layout.specs.declared.Sizes.{Sizes}
 use Rattle.layout.specs.Layout.{sizesOk, imageLength}
 use Rattle.words.specs.Words.{Bytes, over}
-use Rattle.stores.specs.Stores.{World}
-use Rattle.transactions.specs.Run.{Call, Result, mount, checkpoint, step, begin, abort, commit, consolidate, run, write, read, recall, exec, formattedWorld}
+use Rattle.refinement.specs.Stores.{World}
+use Rattle.refinement.specs.Run.{Call, Result, mount, checkpoint, step, begin, abort, commit, consolidate, run, write, read, recall, exec, formattedWorld}
 use Rattle.refinement.specs.Reference.{Reference, blank, turn, readLine, recallLine}
 
 -- what one call must answer, b being the reference machine before it:

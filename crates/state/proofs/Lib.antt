@@ -1,3 +1,2 @@
 pub mod Numbers
-pub mod Taken
-pub mod Ranged
+pub mod Unheld

@@ -5,20 +5,14 @@ use mathlib.Core.List.{List}
 use mathlib.Core.Path.{_≡_}
 use native.Mathlib.Nat.{mod-lt}
 use native.Mathlib.Omega.{arith}
-use borrow.Author.Tests.{leb-true, leb-false}
-use lib.Dec.{leb}
 use lib.ListN.{length}
 use Rattle.bounded.specs.Below.{one, those}
 use Rattle.bounded.proofs.Below.{one-le, count-le}
-use Rattle.bounded.proofs.Tests.{caseOn}
 use Rattle.bounded.proofs.Those.{length-those}
 use Rattle.layout.specs.declared.Sizes.{Sizes}
 use Rattle.layout.specs.Layout.{Legal}
-use Rattle.masks.specs.Lines.{countLines}
-use Rattle.masks.proofs.Counts.{count-lines-le}
 use Rattle.state.specs.Slots.{roundSlot}
 use Rattle.state.specs.Held.{heldSlots}
-use Rattle.state.specs.Operations.{copyCount, recordedSlots}
 
 -- what is counted for one test
 pub one-small : (b : Bool) (r : ℕ) → r ≡ one b → r ≤ 1
@@ -27,20 +21,9 @@ one-small b r e = omega (arith, one-le b)
 pub round-low : (z : Sizes) (next k r : ℕ) → Legal z → r ≡ roundSlot z next k → r < z .slots
 round-low z next k r h e = rw e (mod-lt (next + k) (omega arith))
 
-those-le : (f : ℕ → Bool) (n : ℕ) → length (those n f) ≤ n
+pub those-le : (f : ℕ → Bool) (n : ℕ) → length (those n f) ≤ n
 those-le f n = omega (arith, length-those f n, count-le f n)
 
 pub held-le : (z : Sizes) (held : List ℕ) (w r : ℕ) → r ≡ length (heldSlots z held w) → r ≤ z .slots
 unfolding heldSlots
 held-le z held w r e = rw e (those-le _ (z .slots))
-
-pub recorded-le : (z : Sizes) (last : List ℕ) (r : ℕ) → r ≡ length (recordedSlots z last) → r ≤ z .slots
-unfolding recordedSlots
-recorded-le z last r e = rw e (those-le _ (z .slots))
-
-pub copy-le : (bitmap r : ℕ) → r ≡ copyCount bitmap → r ≤ 32
-unfolding copyCount
-copy-le bitmap r e =
-    caseOn (leb (countLines bitmap) 32)
-    (λ t. rw (e, t) (leb-true (countLines bitmap) 32 t))
-    (λ t. rw (e, t) (omega (arith, leb-false (countLines bitmap) 32 t)))

@@ -3,8 +3,8 @@ use Prim.Native.Nat.{ℕ, _+_, _*_}
 use mathlib.Core.Bool.{Bool, false, _&&_, _||_, not}
 use mathlib.Core.List.{List}
 use lib.Dec.{eqb}
-use lib.ListN.{getD}
-use Rattle.bounded.specs.Below.{allBelow, someBelow, those}
+use lib.ListN.{getD, set}
+use Rattle.bounded.specs.Below.{allBelow, someBelow, those, upTo}
 use Rattle.layout.specs.declared.Sizes.{Sizes}
 use Rattle.masks.specs.Lines.{inMask, disjoint}
 use Rattle.state.specs.Slots.{freeAt}
@@ -15,6 +15,10 @@ isOpen opened w = getD opened w false
 -- the lines of slot s that writer w holds
 abbrev pub heldAt : List ℕ → ℕ → ℕ → ℕ
 heldAt held w s = getD held (16 * w + s) 0
+
+-- the held lines with writer w's let go
+abbrev pub letGo : Sizes → List ℕ → ℕ → List ℕ
+letGo z held w = upTo (z .slots) (λ s h. set h (16 * w + s) 0) held
 
 -- row 8: what a writer holds of a slot is nothing; or no writer below holds a line of it too, the writer is open and
 -- the slot is not free

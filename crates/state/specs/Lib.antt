@@ -1,4 +1,3 @@
 pub mod Slots
 pub mod Held
-pub mod Operations
-pub mod Validity
+pub mod Parts

@@ -13,6 +13,10 @@ use Rattle.journal.specs.Slots.{noPage}
 abbrev pub freeAt : List ℕ → ℕ → Bool
 freeAt page s = eqb (getD page s 0) noPage
 
+-- the slot of page p, S where it has none
+abbrev pub slotOfPage : Sizes → List ℕ → ℕ → ℕ
+slotOfPage z page p = firstBelow (z .slots) (λ s. eqb (getD page s 0) p)
+
 -- going round from the next slot to try: the slot k places on, and at which k the first free one lies (S: none)
 abbrev pub roundSlot : Sizes → ℕ → ℕ → ℕ
 roundSlot z next k = (next + k) % z .slots

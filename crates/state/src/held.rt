@@ -1,10 +1,10 @@
 // The lines that writers hold.
 ghost use mathlib.Core.Path.{_≡_};
 ghost use Prim.Native.Nat.{_<_};
-ghost use lib.ListN.{length};
+ghost use lib.ListN.{length, set};
 ghost use Rattle.bounded.specs.Below.{allBelow, one};
 ghost use Rattle.layout.specs.Layout.{Legal};
-ghost use Rattle.state.specs.Held.{isOpen, holderOk, heldOk, othersHold, someHold, heldSlots};
+ghost use Rattle.state.specs.Held.{isOpen, holderOk, heldOk, othersHold, someHold, heldSlots, letGo};
 use layout::Sizes;
 
 // Whether writer w, one of the four, is open.
@@ -13,6 +13,21 @@ pub fn is_open(opened: &[bool; 4], w: usize) -> bool
     ensures { λ r. ⌜ r ≡ isOpen (now (opened .entry)) w ⌝ }
 {
     opened[w]
+}
+
+// Whether a writer holds a line of slot s.
+pub fn some_hold(held: &[u64; 64], s: usize) -> bool
+    requires { ⌜ s < 16 ⌝ }
+    ensures { λ r. ⌜ r ≡ someHold (now (held .entry)) s ⌝ }
+{
+    let mut v = 0;
+    while v < 4 {
+        if held[16 * v + s] != 0 {
+            return true;
+        }
+        v += 1;
+    }
+    false
 }
 
 // Whether what writer w holds of slot s keeps the rules.
@@ -34,11 +49,14 @@ fn holder_ok<'a>(opened: &'a [bool; 4], held: &'a [u64; 64], free: bool, s: usiz
     opened[w] & !free
 }
 
-// The same of the four writers.
+// The same of the four writers. Of most slots nothing is held.
 fn slot_held_ok<'a>(opened: &'a [bool; 4], held: &'a [u64; 64], free: bool, s: usize) -> bool
     requires { ⌜ s < 16 ⌝ }
     ensures { λ r. ⌜ r ≡ allBelow 4 (holderOk (now (opened .entry)) (now (held .entry)) free s) ⌝ }
 {
+    if !some_hold(held, s) {
+        return true;
+    }
     let mut w = 0;
     while w < 4 {
         if !holder_ok(opened, held, free, s, w) {
@@ -85,21 +103,6 @@ pub fn others_hold(held: &[u64; 64], w: usize, s: usize, l: usize) -> bool
     false
 }
 
-// Whether a writer holds a line of slot s.
-pub fn some_hold(held: &[u64; 64], s: usize) -> bool
-    requires { ⌜ s < 16 ⌝ }
-    ensures { λ r. ⌜ r ≡ someHold (now (held .entry)) s ⌝ }
-{
-    let mut v = 0;
-    while v < 4 {
-        if held[16 * v + s] != 0 {
-            return true;
-        }
-        v += 1;
-    }
-    false
-}
-
 // 1 where a test holds.
 pub fn one_if(b: bool) -> usize
     ensures { λ r. ⌜ r ≡ one b ⌝ }
@@ -119,4 +122,24 @@ pub fn held_count(z: Sizes, held: &[u64; 64], w: usize) -> usize
         s += 1;
     }
     n
+}
+
+// Opens or closes writer w.
+pub fn set_open(opened: &mut [bool; 4], w: usize, b: bool)
+    requires { ⌜ w < 4 ⌝ }
+    ensures { λ _. ⌜ now (opened .exit) ≡ set (now (opened .entry)) w b ⌝ }
+{
+    opened[w] = b;
+}
+
+// Empties the held lines of writer w.
+pub fn let_go(z: Sizes, held: &mut [u64; 64], w: usize)
+    requires { ⌜ Legal z × (w < 4) ⌝ }
+    ensures { λ _. ⌜ now (held .exit) ≡ letGo z (now (held .entry)) w ⌝ }
+{
+    let mut s = 0;
+    while s < z.slots {
+        held[16 * w + s] = 0;
+        s += 1;
+    }
 }

@@ -1,11 +1,9 @@
-// The state that the host keeps, and whether it keeps the rules (row 8).
+// The state that the host keeps, its held lines and its slots.
 pub mod held;
-pub mod operations;
 pub mod slots;
-pub mod validity;
 
-use journal::Table;
 use layout::Sizes;
+use replay::Table;
 
 // An operation that has been asked for, with its arguments.
 pub enum Op {

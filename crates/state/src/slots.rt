@@ -1,17 +1,14 @@
 // Reading the slots of a state.
 ghost use mathlib.Core.Path.{_≡_};
 ghost use Prim.Native.Nat.{_<_, _≤_};
-ghost use lib.Dec.{eqb};
-ghost use lib.ListN.{getD};
-ghost use Rattle.bounded.specs.Below.{firstBelow, allBelow};
 ghost use Rattle.layout.specs.Layout.{Legal};
-ghost use Rattle.state.specs.Slots.{roundSlot, freeAfter, frameOfSlot, slotsApart, framesApart};
+ghost use Rattle.state.specs.Slots.{slotOfPage, roundSlot, freeAfter, frameOfSlot};
 use layout::Sizes;
 
 // The slot of page p, or S where it has none.
 pub fn slot_of(z: Sizes, page: &[usize; 16], p: usize) -> usize
     requires { ⌜ Legal z ⌝ }
-    ensures { λ r. ⌜ r ≡ firstBelow (z .slots) (λ s. eqb (getD (now (page .entry)) s 0) p) ⌝ }
+    ensures { λ r. ⌜ r ≡ slotOfPage z (now (page .entry)) p ⌝ }
 {
     let mut s = 0;
     while s < z.slots {
@@ -66,47 +63,4 @@ pub fn frame_of_slot<'a>(
         s += 1;
     }
     false
-}
-
-// Whether slot s names no frame that a slot below it names.
-fn slot_apart<'a>(
-    page: &'a [usize; 16],
-    original: &'a [usize; 16],
-    spare: &'a [usize; 16],
-    s: usize,
-) -> bool
-    requires { ⌜ s < 16 ⌝ }
-    ensures { λ r. ⌜ r ≡ allBelow s (slotsApart (now (page .entry)) (now (original .entry)) (now (spare .entry)) s) ⌝ }
-{
-    let free = page[s] == 18446744073709551615;
-    let o = original[s];
-    let e = spare[s];
-    let mut k = 0;
-    while k < s {
-        if !((e != spare[k]) & (o != spare[k]) & (e != original[k]) & (free | (o != original[k]))) {
-            return false;
-        }
-        k += 1;
-    }
-    true
-}
-
-// Whether no two slots name one frame.
-pub fn frames_apart<'a>(
-    z: Sizes,
-    page: &'a [usize; 16],
-    original: &'a [usize; 16],
-    spare: &'a [usize; 16],
-) -> bool
-    requires { ⌜ Legal z ⌝ }
-    ensures { λ r. ⌜ r ≡ framesApart z (now (page .entry)) (now (original .entry)) (now (spare .entry)) ⌝ }
-{
-    let mut s = 0;
-    while s < z.slots {
-        if !slot_apart(page, original, spare, s) {
-            return false;
-        }
-        s += 1;
-    }
-    true
 }

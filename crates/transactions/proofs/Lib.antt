@@ -1,12 +1,2 @@
-pub mod Cases
-pub mod Answered
-pub mod Recalled
-pub mod Begun
-pub mod Asked
 pub mod Taking
-pub mod Running
-pub mod ReadLaws
-pub mod Found
-pub mod Mounted
-pub mod Called
-pub mod Reached
+pub mod Writing

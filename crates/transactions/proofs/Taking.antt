@@ -1,30 +1,30 @@
--- Operations asked for: turned back by a row, complete where they need no store, else pending. next is the state with
--- the operation pending.
-use Prim.Native.Nat.{ℕ, _≤_}
-use mathlib.Core.Bool.{Bool, true, false, cond, _||_}
-use mathlib.Core.List.{List, [], _∷_}
+-- Operations asked for: turned back by a row, complete where they need no store, else pending.
+use Prim.Native.Nat.{ℕ, _<_, _≤_}
+use mathlib.Core.Bool.{Bool, true, false, not, cond}
+use mathlib.Core.List.{List, [], _++_}
 use mathlib.Core.Path.{_≡_, refl, sym, ap, ap₂, subst, _∙_}
 use native.Mathlib.Omega.{arith}
-use lib.Dec.{eqb, ltb, leb}
-use borrow.Author.Tests.{ne-eqb}
+use lib.Dec.{eqb, ltb}
+use borrow.Author.Tests.{ne-eqb, not-false}
 use Rattle.bounded.specs.Rows.{Row, refusal}
-use Rattle.bounded.proofs.Tests.{caseOn, contradicts}
-use Rattle.image.specs.Lines.{lineBytes, merged, lineWords}
+use Rattle.bounded.proofs.Tests.{contradicts, row-keeps}
+use Rattle.layout.specs.Layout.{imageLength}
 use Rattle.state.specs.declared.State.{State}
+use Rattle.state.specs.declared.Pending.{Pending}
 use Rattle.state.specs.declared.Op.{Op}
 use Rattle.state.specs.declared.Op.the-variants.{Idle, Write, Commit, Consolidate, Checkpoint}
-use Rattle.state.specs.Operations.{Ranged, isIdle, writeRows, commitRows, consolidateRows, opRows, needs}
-use Rattle.stores.specs.Commit.{commitRecord}
-use Rattle.stores.specs.Consolidate.{freeingRecord}
-use Rattle.stores.specs.Frames.{pageFrame, seenFrame}
-use Rattle.stores.specs.Stores.{completed}
-use Rattle.transactions.specs.Answers.{outcomeOf, answered}
-use Rattle.transactions.specs.declared.Done.{Done}
-use Rattle.transactions.specs.Calls.{withPending, asked, finishedLine, writeCallRows, writeOf}
-use Rattle.transactions.proofs.Answered.{row-known, refused-by}
-use Rattle.transactions.proofs.Asked.{needs-asked, rows-asked}
+use Rattle.operations.specs.Operations.{Ranged, isIdle, writeRows, commitRows, consolidateRows, opRows, needs}
+use Rattle.validity.specs.Validity.{stateOk}
+use Rattle.refinement.specs.Commit.{commitRecord}
+use Rattle.refinement.specs.Consolidate.{freeingRecord}
+use Rattle.refinement.specs.Stores.{completed}
+use Rattle.refinement.specs.Outcome.{answered}
+use Rattle.answers.specs.Answers.{outcomeOf}
+use Rattle.answers.specs.declared.Done.{Done}
+use Rattle.answers.proofs.Answered.{row-known, refused-by}
+use Rattle.refinement.specs.Calls.{quietRows, withPending, asked}
 
-pub op-known : (st : State) (op : Op) (f : ℕ) → refusal (opRows st op f) ≤ 19
+op-known : (st : State) (op : Op) (f : ℕ) → refusal (opRows st op f) ≤ 19
 op-known st Idle f = row-known [] tt
 op-known st (Write w p l o n) f = row-known (writeRows st w p l o n f) (omega arith)
 op-known st (Commit w) f = row-known (commitRows st w) (omega arith)
@@ -40,83 +40,62 @@ completed-asked st (Commit w) line frame e i = refl
 completed-asked st (Consolidate p) line frame e i = refl
 completed-asked st Checkpoint line frame e i = refl
 
-pub ranged-asked : (st : State) (op : Op) (line : List ℕ) (frame : ℕ) → Ranged st → Ranged (withPending st op line frame)
+ranged-asked : (st : State) (op : Op) (line : List ℕ) (frame : ℕ) → Ranged st → Ranged (withPending st op line frame)
 ranged-asked st op line frame h =
     record { legal = h .legal; head-low = h .head-low; tail-low = h .tail-low; live-high = h .live-high; next-low = h .next-low }
 
--- what `take` requires of next
-abbrev pub Asks : State → State → Type 0
-Asks st next =
-    (next ≡ withPending st (next .pending .op) (next .pending .line) (next .pending .frame))
-    × (isIdle (next .pending .op) ≡ false)
-    × (refusal (opRows st (next .pending .op) (next .pending .frame)) ≡ 0)
+-- an operation with none of its stores made, and the state with it pending
+abbrev pub pendingFrom : Op → List ℕ → ℕ → Pending
+pendingFrom op line frame = record { op = op; made = 0; line = line; frame = frame }
 
-pub asks : (st next : State) (op : Op) (line : List ℕ) (frame : ℕ) → next ≡ withPending st op line frame → isIdle op ≡ false → refusal (opRows st op frame) ≡ 0 → Asks st next
-asks st next op line frame e i r = subst (Asks st) (sym e) (refl, i, r)
+abbrev pub pendingWith : State → Pending → State
+pendingWith st p =
+    record { sizes = st .sizes; head = st .head; tail = st .tail; next = st .next; table = st .table; writers = st .writers; pending = p }
 
-module _ (st next : State) (q : Asks st next) where
-  abbrev op : Op
-  op = next .pending .op
+-- what completing it requires
+pub ask-ready : (st : State) (op : Op) (line : List ℕ) (frame : ℕ) (p : Pending) → p ≡ pendingFrom op line frame → Ranged st → refusal (opRows st op frame) ≡ 0
+    → Ranged (pendingWith st p) × (refusal (opRows (pendingWith st p) (p .op) (p .frame)) ≡ 0)
+ask-ready st op line frame p e h r =
+    subst (λ (q : Pending). Ranged (pendingWith st q) × (refusal (opRows (pendingWith st q) (q .op) (q .frame)) ≡ 0)) (sym e)
+    (ranged-asked st op line frame h, r)
 
-  abbrev line : List ℕ
-  line = next .pending .line
+-- each number of the rows of a commit, a consolidation or a checkpoint is an answer's
+pub ask-known : (st : State) (n : ℕ) (op : Op) → refusal (quietRows st n ++ opRows st op 0) ≤ 19
+ask-known st n op =
+    let low : ℕ → Type 0 = λ (x : ℕ). x ≤ 19 in
+    row-keeps low (not (stateOk st)) 8 _ (omega arith)
+    (row-keeps low (ltb n (imageLength (st .sizes))) 4 _ (omega arith)
+    (row-keeps low (not (isIdle (st .pending .op))) 9 _ (omega arith) (op-known st op 0)))
 
-  abbrev frame : ℕ
-  frame = next .pending .frame
+row-past : (b : Bool) (k m : ℕ) → 0 < k → cond b k m ≡ 0 → (b ≡ false) × (m ≡ 0)
+row-past true k m l e = absurd (omega arith)
+row-past false k m l e = (refl, e)
 
-  pub take-ready : Ranged st → Ranged next × (refusal (opRows next op frame) ≡ 0)
-  take-ready h =
-      subst (λ (s : State). Ranged s × (refusal (opRows s op frame) ≡ 0)) (sym (q .0))
-      (ranged-asked st op line frame h, rows-asked st line frame op op frame ∙ q .2)
-
-  module _ (d : Done) (n : ℕ) (h : n ≡ needs next op) where
-    needed : n ≡ needs st op
-    needed = h ∙ ap (λ (s : State). needs s op) (q .0) ∙ needs-asked st line frame op op
-
-    pub take-done : (after : State) → n ≡ 0 → after ≡ completed next op → outcomeOf d ≡ answered 0 after 0 after → outcomeOf d ≡ asked 0 st op line frame
-    take-done after z a e =
-        let m : needs st op ≡ 0 = sym needed ∙ z in
-        let b : after ≡ completed st op = a ∙ ap (λ (s : State). completed s op) (q .0) ∙ completed-asked st op line frame m (q .1) in
-        rw m (rw b at e)
-
-    pub take-pending : (n ≡ 0 → ⊥) → outcomeOf d ≡ answered 0 next n next → outcomeOf d ≡ asked 0 st op line frame
-    take-pending z e =
-        rw (ne-eqb (needs st op) 0 (λ m. z (needed ∙ m)))
-        (e ∙ ap₂ (λ (k : ℕ) (s : State). answered 0 s k s) needed (q .0))
+-- where none of them applies, the state keeps the rules and the operation's own rows do not apply
+pub ask-none : (st : State) (n : ℕ) (op : Op) → refusal (quietRows st n ++ opRows st op 0) ≡ 0 → (stateOk st ≡ true) × (refusal (opRows st op 0) ≡ 0)
+ask-none st n op e =
+    let own = refusal (opRows st op 0) in
+    let third = cond (not (isIdle (st .pending .op))) 9 own in
+    let second = cond (ltb n (imageLength (st .sizes))) 4 third in
+    let a = row-past (not (stateOk st)) 8 second (omega arith) e in
+    let b = row-past (ltb n (imageLength (st .sizes))) 4 third (omega arith) (a .1) in
+    let c = row-past (not (isIdle (st .pending .op))) 9 own (omega arith) (b .1) in (not-false (stateOk st) (a .0), c .1)
 
 -- a call that asks for an operation, with the rows rs
 module _ (st : State) (op : Op) (line : List ℕ) (frame : ℕ) (d : Done) (rs : List Row) where
   pub ask-refused : (row : ℕ) → row ≡ refusal rs → (row ≡ 0 → ⊥) → outcomeOf d ≡ answered row st 0 st → outcomeOf d ≡ asked (refusal rs) st op line frame
   ask-refused row e n h = refused-by d rs row (needs st op) st (cond (eqb (needs st op) 0) (completed st op) (withPending st op line frame)) e n h
 
-  pub ask-taken : (next : State) → 0 ≡ refusal rs → next ≡ withPending st op line frame
-      → outcomeOf d ≡ asked 0 st (next .pending .op) (next .pending .line) (next .pending .frame)
-      → outcomeOf d ≡ asked (refusal rs) st op line frame
-  ask-taken next z e h =
-      h
-      ∙ ap (λ (s : State). asked 0 st (s .pending .op) (s .pending .line) (s .pending .frame)) e
-      ∙ ap (λ (k : ℕ). asked k st op line frame) z
+  -- p is what is pending, and needed the stores that the code counted
+  module _ (p : Pending) (needed : ℕ) (z : 0 ≡ refusal rs) (e : p ≡ pendingFrom op line frame) (h : needed ≡ needs st op) where
+    pub ask-pending : (needed ≡ 0 → ⊥) → outcomeOf d ≡ answered 0 (pendingWith st p) needed (pendingWith st p) → outcomeOf d ≡ asked (refusal rs) st op line frame
+    ask-pending n r =
+        rw (← z, ne-eqb (needs st op) 0 (λ m. n (h ∙ m)))
+        (r ∙ ap₂ (λ (k : ℕ) (q : Pending). answered 0 (pendingWith st q) k (pendingWith st q)) h e)
 
--- ---- write
-
--- row 11: short data, or a page past the last
-pub write-bad : (short : Bool) (st : State) (w p l o n f : ℕ) → short || leb (st .sizes .pages) p ≡ true
-    → 11 ≡ refusal ((short, 11) ∷ writeRows st w p l o n f)
-write-bad true st w p l o n f e = refl
-write-bad false st w p l o n f e = caseOn (ltb 3 w) (λ t. rw t) (λ t. rw (t, e))
-
-module _ (st : State) (img : List ℕ) (w p l o n : ℕ) (bytes : List ℕ) (d : Done) where
-  pub write-refused : (row : ℕ) → row ≡ refusal (writeCallRows st img w p l o n bytes) → (row ≡ 0 → ⊥) → outcomeOf d ≡ answered row st 0 st
-      → outcomeOf d ≡ writeOf st img w p l o n bytes
-  unfolding writeOf
-  write-refused row e z h =
-      ask-refused st (Write w p l o n) (finishedLine st img w p l o n bytes) (pageFrame st img p) d (writeCallRows st img w p l o n bytes) row e z h
-
-  pub write-asked : (next : State) (words : List ℕ) (frame seen : ℕ) → 0 ≡ refusal (writeCallRows st img w p l o n bytes)
-      → frame ≡ pageFrame st img p → seen ≡ seenFrame st w p l frame → words ≡ lineWords (merged (lineBytes img (st .sizes) seen l) o n bytes)
-      → next ≡ withPending st (Write w p l o n) words frame
-      → outcomeOf d ≡ asked 0 st (next .pending .op) (next .pending .line) (next .pending .frame)
-      → outcomeOf d ≡ writeOf st img w p l o n bytes
-  unfolding writeOf
-  write-asked next words frame seen z f s m e h =
-      ask-taken st (Write w p l o n) (finishedLine st img w p l o n bytes) (pageFrame st img p) d (writeCallRows st img w p l o n bytes) next z (rw (m, s, f) at e) h
+    pub ask-done : (after : State) → isIdle op ≡ false → needed ≡ 0 → after ≡ completed (pendingWith st p) (p .op) → outcomeOf d ≡ answered 0 after 0 after → outcomeOf d ≡ asked (refusal rs) st op line frame
+    ask-done after i n a r =
+        let m : needs st op ≡ 0 = sym h ∙ n in
+        let b : after ≡ completed st op =
+        a ∙ ap (λ (q : Pending). completed (pendingWith st q) (q .op)) e ∙ completed-asked st op line frame m i in
+        rw (← z, m) (rw b at r)

@@ -1,6 +1,1 @@
-pub mod Answers
-pub mod Calls
-pub mod Mount
-pub mod Recall
-pub mod Run
-pub mod Cases
+pub mod Finding

@@ -1,8 +1,8 @@
 // Words of 8 bytes, little-endian.
 ghost use mathlib.Core.Path.{_≡_};
 ghost use Prim.Native.Nat.{_+_, _*_, _≤_};
-ghost use lib.ListN.{length, replicate};
-ghost use Rattle.words.specs.Words.{leOf, bytesOf, wordAt, putWord, word, store, putWords, wordsAt, part, over, Bytes};
+ghost use lib.ListN.{length};
+ghost use Rattle.words.specs.Words.{leOf, bytesOf, wordAt, putWord, word, store, over};
 
 // The number that 8 bytes make, the lowest first.
 fn join(b0: u8, b1: u8, b2: u8, b3: u8, b4: u8, b5: u8, b6: u8, b7: u8) -> u64
@@ -76,46 +76,4 @@ pub fn store_word(image: &mut [u8], i: usize, v: u64)
     ensures { λ _. ⌜ now (image .exit) ≡ store (now (image .entry)) i v ⌝ }
 {
     put_word(image, 8 * i, v);
-}
-
-// Puts v as each of the n words from byte at on.
-pub fn fill_words(s: &mut [u8], at: usize, n: usize, v: u64)
-    requires { ⌜ at + 8 * n ≤ length (now s) ⌝ }
-    ensures { λ _. ⌜ now (s .exit) ≡ putWords (now (s .entry)) at (replicate n v) ⌝ }
-{
-    let mut i = 0;
-    while i < n {
-        put_word(s, at + 8 * i, v);
-        i += 1;
-    }
-}
-
-// Copies n words from byte from of src to byte to of dst.
-pub fn copy_words(src: &[u8], from: usize, dst: &mut [u8], to: usize, n: usize)
-    requires { ⌜ (from + 8 * n ≤ length (now src)) × (to + 8 * n ≤ length (now dst)) ⌝ }
-    ensures { λ _. ⌜ now (dst .exit) ≡ over (now (dst .entry)) to (part (now (src .entry)) from (8 * n)) ⌝ }
-{
-    let mut i = 0;
-    while i < n {
-        let v = word_at(src, from + 8 * i);
-        put_word(dst, to + 8 * i, v);
-        i += 1;
-    }
-}
-
-// The 8 words of a line.
-pub fn words_of(line: &[u8]) -> [u64; 8]
-    requires { ⌜ length (now line) ≡ 64 ⌝ }
-    ensures { λ r. ⌜ r ≡ wordsAt (now (line .entry)) 0 8 ⌝ }
-{
-    [
-        word_at(line, 0),
-        word_at(line, 8),
-        word_at(line, 16),
-        word_at(line, 24),
-        word_at(line, 32),
-        word_at(line, 40),
-        word_at(line, 48),
-        word_at(line, 56),
-    ]
 }

@@ -1,39 +1,32 @@
-//! The cases of the store's program `damage`, answered by the model: format, damage word by word, mount; a line a case,
-//! the damage first (word=value). The list of cases stands here a second time on purpose, with positions named instead
-//! of counted.
+//! A script of probe lines: right and damaged images, mounted. Each image is formatted, damaged word by word and mounted, and the state is
+//! printed; formats that are turned back are followed by the buffer's hash. Its outputs come from model-probe.
 
-use model::image::{put_word, word};
 use model::layout::{Sizes, HEAD_AT, J_AT, LAYOUT_AT, P_AT, S_AT, TAIL_AT};
-use model::mount::{format, mount};
 use model::slots::{FREE_ORIGINAL, FREE_PAGE};
 
 const ALL: u64 = u64::MAX;
 const HALF: u64 = u32::MAX as u64;
 const SMALL: Sizes = Sizes { p: 2, s: 1, j: 2 };
 const LARGE: Sizes = Sizes { p: 3, s: 2, j: 3 };
-const BUFFER: usize = 20_736;
+const BUFFER: usize = 65_536;
 
 /// Page, original, spare and bitmap.
 type Quad = (u64, u64, u64, u64);
 
-/// An image under damage: sizes as formatted, the lent buffer, and the damage done.
+/// An image under damage, as the lines that make it.
 struct Damaged {
     sizes: Sizes,
-    bytes: Vec<u8>,
-    damage: String,
+    lines: String,
 }
 
 impl Damaged {
     fn fresh(sizes: Sizes) -> Damaged {
-        let mut bytes = vec![165; BUFFER];
-        format(sizes, &mut bytes).expect("sizes in range, and room");
-        let damage = if sizes == SMALL { "small" } else { "large" }.to_string();
-        Damaged { sizes, bytes, damage }
+        let lines = format!("L,{BUFFER}\nF,{},{},{}\n", sizes.p, sizes.s, sizes.j);
+        Damaged { sizes, lines }
     }
 
     fn put(mut self, at: usize, value: u64) -> Damaged {
-        put_word(&mut self.bytes, at, value);
-        self.damage += &format!(" {}={value}", at / 8);
+        self.lines += &format!("U,{},{value}\n", at / 8);
         self
     }
 
@@ -67,20 +60,9 @@ impl Damaged {
         self
     }
 
-    /// Mount's answer with some bytes lent.
+    /// A mount with some bytes lent, what it found, and recall's answer.
     fn within(self, length: usize) {
-        let numbers = match mount(&self.bytes[..length]) {
-            Err(refusal) => vec![u64::from(refusal.number())],
-            Ok(state) => {
-                let header = [0, state.sizes.p, state.sizes.s, state.sizes.j, state.head, state.tail];
-                let slots = state.slots_used().iter().zip(state.last).flat_map(|(slot, last)| {
-                    [slot.page, slot.original, slot.spare, slot.bitmap, last.unwrap_or(ALL)]
-                });
-                header.into_iter().chain(slots).collect()
-            }
-        };
-        let numbers: String = numbers.iter().map(|number| format!(",{number}")).collect();
-        println!("{} of {length}{numbers}", self.damage);
+        print!("{}L,{length}\nM\nG\nE,0,0,64\n", self.lines);
     }
 
     fn found(self) {
@@ -88,17 +70,11 @@ impl Damaged {
     }
 }
 
-/// Format turned back keeps every byte: head, the small image's last word and the word past it are shown.
+/// A format that is turned back keeps every byte, and any keeps those past the image.
 fn formats() {
-    let mut bytes = vec![165; BUFFER];
     let end = SMALL.image_length();
-    let mut case = |p, s, j, length: usize| {
-        for (at, value) in [(P_AT, p), (S_AT, s), (J_AT, j), (HEAD_AT, 9)] {
-            put_word(&mut bytes, at, value);
-        }
-        let row = format(Sizes { p, s, j }, &mut bytes[..length]).err().map_or(0, |refusal| refusal.number());
-        let [head, last, past] = [HEAD_AT, end - 8, end].map(|at| word(&bytes, at));
-        println!("left 0={p} 1={s} 2={j} 4=9 format {length},{row},{head},{last},{past}");
+    let case = |p: u64, s: u64, j: u64, length: usize| {
+        println!("U,4,9\nU,{},7\nL,{length}\nF,{p},{s},{j}\nH", end / 8);
     };
     let ranges = [(0, 1, 2), (1025, 1, 2), (2, 0, 2), (2, 17, 17), (2, 1, 0), (3, 2, 1), (2, 1, 257)];
     for (p, s, j) in ranges {

@@ -9,7 +9,7 @@ use Rattle.bounded.specs.Below.{allBelow}
 use Rattle.bounded.proofs.Below.{all-none, all-turn, all-stops, all-ends}
 use Rattle.words.specs.Words.{word}
 use Rattle.journal.specs.Records.{liveRecord, recordOk, recordsOk}
-use Rattle.journal.proofs.Rows.{right-read}
+use Rattle.journal.proofs.RightRecords.{right-read}
 use Rattle.journal.proofs.records.records_ok.Statement.{statement}
 use Rattle.journal.proofs.records.records_ok.Tie as tie
 

@@ -1,11 +1,12 @@
 use Prim.Native.Nat.{_≤_, _-_}
 use mathlib.Core.Bool.{true}
-use mathlib.Core.Path.{_≡_}
+use mathlib.Core.Path.{_≡_, sym, _∙_}
 use borrow.Author.Tests.{not-true, not-false}
 use borrow.Author.Needs.{needs}
 use Rattle.bounded.proofs.Below.{all-none, all-turn, all-stops, all-ends}
 use Rattle.bounded.specs.Below.{allBelow}
 use Rattle.state.specs.Held.{holderOk}
+use Rattle.state.proofs.Unheld.{unheld-ok}
 use Rattle.state.proofs.held.slot_held_ok.Statement.{statement}
 use Rattle.state.proofs.held.slot_held_ok.Tie as tie
 
@@ -15,14 +16,22 @@ Inv-loop opened held free s w₀ w = (w ≤ 4) × (allBelow w (holderOk opened h
 abbrev μ-loop : tie.MeasureT-loop
 μ-loop opened held free s w₀ w = 4 - w
 
+some-hold-requires : tie.Need-some-hold-requires Inv-loop μ-loop
+some-hold-requires c κs = search needs
+
+returns : tie.Need-returns Inv-loop μ-loop
+returns c =
+    let a = c .before .before .args in
+    unheld-ok (a .opened .now) (a .held .now) (a .free) (a .s) (sym (c .before .some-hold .ensures) ∙ not-true _ (c .if1 .taken))
+
 loop-holds : tie.Need-loop-holds Inv-loop μ-loop
 loop-holds c = (search needs, all-none _)
 
 holder-ok-requires : tie.Need-holder-ok-requires Inv-loop μ-loop
 holder-ok-requires c κs = search needs
 
-returns : tie.Need-returns Inv-loop μ-loop
-returns c = all-stops _ _ _ _ (c .before .before .loop-test .taken) (c .before .holder-ok .ensures) (not-true _ (c .if1 .taken))
+returns-2 : tie.Need-returns-2 Inv-loop μ-loop
+returns-2 c = all-stops _ _ _ _ (c .before .before .loop-test .taken) (c .before .holder-ok .ensures) (not-true _ (c .if2 .taken))
 
 add-w : tie.Need-add-w Inv-loop μ-loop
 add-w c = search needs
@@ -31,10 +40,10 @@ loop-less : tie.Need-loop-less Inv-loop μ-loop
 loop-less c = search needs
 
 loop-again : tie.Need-loop-again Inv-loop μ-loop
-loop-again c = (search needs, all-turn _ _ _ (c .before .before .before .loop .inv .1) (c .before .holder-ok .ensures) (not-false _ (c .if1 .left)))
+loop-again c = (search needs, all-turn _ _ _ (c .before .before .before .loop .inv .1) (c .before .holder-ok .ensures) (not-false _ (c .if2 .left)))
 
-returns-2 : tie.Need-returns-2 Inv-loop μ-loop
-returns-2 c = all-ends _ _ _ (c .before .loop .inv .0) (c .loop-test .left) (c .before .loop .inv .1)
+returns-3 : tie.Need-returns-3 Inv-loop μ-loop
+returns-3 c = all-ends _ _ _ (c .before .loop .inv .0) (c .loop-test .left) (c .before .loop .inv .1)
 
 pub slot-held-ok-spec : {M : Type 1} → statement M
 slot-held-ok-spec =
@@ -42,10 +51,12 @@ slot-held-ok-spec =
     (tie.spec
     Inv-loop
     μ-loop
+    some-hold-requires
+    returns
     loop-holds
     holder-ok-requires
-    returns
+    returns-2
     add-w
     loop-less
     loop-again
-    returns-2)
+    returns-3)

@@ -1,0 +1,77 @@
+-- What a call comes to: a row's number with nothing changed, or taken. In a law about code, row is what the code found.
+use Prim.Native.Nat.{ℕ, _≤_}
+use mathlib.Core.Bool.{Bool, true, _&&_}
+use mathlib.Core.List.{List, [], _∷_, _++_}
+use mathlib.Core.Path.{_≡_, refl, sym, ap, _∙_}
+use native.Mathlib.Omega.{arith}
+use lib.Dec.{eqb}
+use lib.ListN.{length}
+use borrow.Author.Tests.{ne-eqb, eqb-true}
+use Rattle.bounded.specs.Rows.{Row, refusal, Past}
+use Rattle.bounded.specs.Below.{allBelow}
+use Rattle.bounded.proofs.Below.{all-at}
+use Rattle.bounded.proofs.Tests.{caseOn, and-left, and-right, row-keeps, row-no}
+use Rattle.state.specs.declared.State.{State}
+use Rattle.refinement.specs.Outcome.{answered}
+use Rattle.answers.specs.Answers.{numberOf, storesOf, asAnswer, outcomeOf}
+use Rattle.answers.specs.declared.Answer.{Answer}
+use Rattle.answers.specs.declared.Done.{Done}
+
+-- ---- rows
+
+-- each row's number is one of the answers'
+abbrev pub Known : List Row → Type 0
+Known [] = Unit {0}
+Known (r ∷ rs) = (r .1 ≤ 19) × Known rs
+
+pub row-known : (rs : List Row) → Known rs → refusal rs ≤ 19
+row-known [] k = omega arith
+row-known (r ∷ rs) k = row-keeps (λ (x : ℕ). x ≤ 19) (r .0) (r .1) (refusal rs) (k .0) (row-known rs (k .1))
+
+-- rows before others: the first of them that applies, or none and the others
+pub rows-first : (rs ss : List Row) (row : ℕ) → row ≡ refusal rs → (row ≡ 0 → ⊥) → row ≡ refusal (rs ++ ss)
+rows-first [] ss row e n = absurd (n e)
+rows-first (r ∷ rs) ss row e n =
+    caseOn (r .0)
+    (λ t. rw t (rw t at e))
+    (λ t. rw t (rows-first rs ss row (rw t at e) n))
+
+pub rows-then : (rs ss : List Row) (row : ℕ) → Past rs (length rs) → row ≡ refusal ss → row ≡ refusal (rs ++ ss)
+rows-then [] ss row p e = e
+rows-then (r ∷ rs) ss row p e = row-no (r .0) (r .1) (refusal (rs ++ ss)) row (p .0) (rows-then rs ss row (p .1) e)
+
+-- ---- calls
+
+module _ (d : Done) (row stores : ℕ) (st after : State) where
+  pub call-refused : (row ≡ 0 → ⊥) → outcomeOf d ≡ answered row st 0 st → outcomeOf d ≡ answered row st stores after
+  call-refused n e = rw (ne-eqb row 0 n) (rw (ne-eqb row 0 n) at e)
+
+  pub call-taken : row ≡ 0 → outcomeOf d ≡ answered 0 after stores after → outcomeOf d ≡ answered row st stores after
+  call-taken z e = rw z e
+
+-- the same of a table of rows
+module _ (d : Done) (rs : List Row) (row stores : ℕ) (st after : State) (e : row ≡ refusal rs) where
+  pub refused-by : (row ≡ 0 → ⊥) → outcomeOf d ≡ answered row st 0 st → outcomeOf d ≡ answered (refusal rs) st stores after
+  refused-by n h = call-refused d (refusal rs) stores st after (λ q. n (e ∙ q)) (rw e at h)
+
+  pub taken-by : row ≡ 0 → outcomeOf d ≡ answered 0 after stores after → outcomeOf d ≡ answered (refusal rs) st stores after
+  taken-by z h = call-taken d (refusal rs) stores st after (sym e ∙ z) h
+
+-- ---- the answers
+
+-- each number up to 19 is that of the answer that it makes, which makes no stores
+pub as-known : (row : ℕ) → row ≤ 19 → (numberOf (asAnswer row 0) ≡ row) × (storesOf (asAnswer row 0) ≡ 0)
+unfolding allBelow
+as-known row l =
+    let test : ℕ → Bool = λ (k : ℕ). eqb (numberOf (asAnswer k 0)) k && eqb (storesOf (asAnswer k 0)) 0 in
+    let t : test row ≡ true = all-at test 20 row (omega arith) refl in
+    let a = eqb (numberOf (asAnswer row 0)) row in
+    let b = eqb (storesOf (asAnswer row 0)) 0 in
+    (eqb-true (numberOf (asAnswer row 0)) row (and-left a b t), eqb-true (storesOf (asAnswer row 0)) 0 (and-right a b t))
+
+pub refused-known : (a : Answer) (row : ℕ) (st : State) → row ≤ 19 → a ≡ asAnswer row 0 → outcomeOf (record { answer = a; state = st }) ≡ answered row st 0 st
+refused-known a row st l e =
+    let k = as-known row l in
+    let n : numberOf a ≡ row = ap numberOf e ∙ k .0 in
+    let s : storesOf a ≡ 0 = ap storesOf e ∙ k .1 in
+    caseOn (eqb row 0) (λ t. rw (t, n, s)) (λ t. rw (t, n, s))

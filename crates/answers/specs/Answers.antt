@@ -1,0 +1,63 @@
+-- What a call answers: document 01's number and value for each case of the enum.
+use Prim.Native.Nat.{ℕ}
+use mathlib.Core.Bool.{Bool, cond}
+use lib.Dec.{eqb}
+use Rattle.refinement.specs.Outcome.{Outcome}
+use Rattle.answers.specs.declared.Answer.{Answer}
+use Rattle.answers.specs.declared.Answer.the-variants.{Taken, ImageTooShort, UnknownLayout, SizesOutOfRange, BufferTooShort, BadPositions, BadRecord, BadSlots, BadState, OperationPending, NothingPending, BadArgument, WriterOpen, WriterNotOpen, LineHeld, NoFreeSlot, BadFrame, PageWithoutSlot, PageHeld, JournalFull}
+use Rattle.answers.specs.declared.Done.{Done}
+
+-- 0 where the call is taken, else the number of the row that turns it back
+abbrev pub numberOf : Answer → ℕ
+numberOf (Taken n) = 0
+numberOf ImageTooShort = 1
+numberOf UnknownLayout = 2
+numberOf SizesOutOfRange = 3
+numberOf BufferTooShort = 4
+numberOf BadPositions = 5
+numberOf BadRecord = 6
+numberOf BadSlots = 7
+numberOf BadState = 8
+numberOf OperationPending = 9
+numberOf NothingPending = 10
+numberOf BadArgument = 11
+numberOf WriterOpen = 12
+numberOf WriterNotOpen = 13
+numberOf LineHeld = 14
+numberOf NoFreeSlot = 15
+numberOf BadFrame = 16
+numberOf PageWithoutSlot = 17
+numberOf PageHeld = 18
+numberOf JournalFull = 19
+
+-- the stores that a taken call needs or made
+abbrev pub storesOf : Answer → ℕ
+storesOf (Taken n) = n
+storesOf ImageTooShort = 0
+storesOf UnknownLayout = 0
+storesOf SizesOutOfRange = 0
+storesOf BufferTooShort = 0
+storesOf BadPositions = 0
+storesOf BadRecord = 0
+storesOf BadSlots = 0
+storesOf BadState = 0
+storesOf OperationPending = 0
+storesOf NothingPending = 0
+storesOf BadArgument = 0
+storesOf WriterOpen = 0
+storesOf WriterNotOpen = 0
+storesOf LineHeld = 0
+storesOf NoFreeSlot = 0
+storesOf BadFrame = 0
+storesOf PageWithoutSlot = 0
+storesOf PageHeld = 0
+storesOf JournalFull = 0
+
+-- what comes of a call
+abbrev pub outcomeOf : Done → Outcome
+outcomeOf d = record { number = numberOf (d .answer); stores = storesOf (d .answer); state = d .state }
+
+-- the answer with a number
+abbrev pub asAnswer : ℕ → ℕ → Answer
+asAnswer row n =
+    cond (eqb row 0) (Taken n) (cond (eqb row 1) ImageTooShort (cond (eqb row 2) UnknownLayout (cond (eqb row 3) SizesOutOfRange (cond (eqb row 4) BufferTooShort (cond (eqb row 5) BadPositions (cond (eqb row 6) BadRecord (cond (eqb row 7) BadSlots (cond (eqb row 8) BadState (cond (eqb row 9) OperationPending (cond (eqb row 10) NothingPending (cond (eqb row 11) BadArgument (cond (eqb row 12) WriterOpen (cond (eqb row 13) WriterNotOpen (cond (eqb row 14) LineHeld (cond (eqb row 15) NoFreeSlot (cond (eqb row 16) BadFrame (cond (eqb row 17) PageWithoutSlot (cond (eqb row 18) PageHeld (JournalFull)))))))))))))))))))

@@ -1,0 +1,111 @@
+// Answers by document 01's numbers.
+ghost use mathlib.Core.Path.{_≡_};
+ghost use Prim.Native.Nat.{_≤_};
+ghost use Rattle.refinement.specs.Outcome.{answered};
+ghost use Rattle.answers.specs.Answers.{numberOf, outcomeOf, asAnswer};
+use state::State;
+
+// A taken call says how many stores it needs or made; a refused one names the first rule that it breaks.
+pub enum Answer {
+    Taken(usize),
+    ImageTooShort,
+    UnknownLayout,
+    SizesOutOfRange,
+    BufferTooShort,
+    BadPositions,
+    BadRecord,
+    BadSlots,
+    BadState,
+    OperationPending,
+    NothingPending,
+    BadArgument,
+    WriterOpen,
+    WriterNotOpen,
+    LineHeld,
+    NoFreeSlot,
+    BadFrame,
+    PageWithoutSlot,
+    PageHeld,
+    JournalFull,
+}
+
+// A call's answer and the state after it.
+pub struct Done {
+    pub answer: Answer,
+    pub state: State,
+}
+
+// The answer with a row's number; 0 is taken, with its stores.
+pub fn answer_of(row: usize, stores: usize) -> Answer
+    ensures { λ r. ⌜ r ≡ asAnswer row stores ⌝ }
+{
+    match row {
+        0 => Answer::Taken(stores),
+        1 => Answer::ImageTooShort,
+        2 => Answer::UnknownLayout,
+        3 => Answer::SizesOutOfRange,
+        4 => Answer::BufferTooShort,
+        5 => Answer::BadPositions,
+        6 => Answer::BadRecord,
+        7 => Answer::BadSlots,
+        8 => Answer::BadState,
+        9 => Answer::OperationPending,
+        10 => Answer::NothingPending,
+        11 => Answer::BadArgument,
+        12 => Answer::WriterOpen,
+        13 => Answer::WriterNotOpen,
+        14 => Answer::LineHeld,
+        15 => Answer::NoFreeSlot,
+        16 => Answer::BadFrame,
+        17 => Answer::PageWithoutSlot,
+        18 => Answer::PageHeld,
+        _ => Answer::JournalFull,
+    }
+}
+
+// Document 01's number of an answer.
+pub fn number_of(a: Answer) -> usize
+    ensures { λ r. ⌜ r ≡ numberOf a ⌝ }
+{
+    match a {
+        Answer::Taken(_) => 0,
+        Answer::ImageTooShort => 1,
+        Answer::UnknownLayout => 2,
+        Answer::SizesOutOfRange => 3,
+        Answer::BufferTooShort => 4,
+        Answer::BadPositions => 5,
+        Answer::BadRecord => 6,
+        Answer::BadSlots => 7,
+        Answer::BadState => 8,
+        Answer::OperationPending => 9,
+        Answer::NothingPending => 10,
+        Answer::BadArgument => 11,
+        Answer::WriterOpen => 12,
+        Answer::WriterNotOpen => 13,
+        Answer::LineHeld => 14,
+        Answer::NoFreeSlot => 15,
+        Answer::BadFrame => 16,
+        Answer::PageWithoutSlot => 17,
+        Answer::PageHeld => 18,
+        Answer::JournalFull => 19,
+    }
+}
+
+// A refusal by a row, with the state as it was.
+pub fn refused(row: usize, st: State) -> Done
+    requires { ⌜ row ≤ 19 ⌝ }
+    ensures { λ r. ⌜ outcomeOf r ≡ answered row st 0 st ⌝ }
+{
+    let answer = answer_of(row, 0);
+    Done { answer, state: st }
+}
+
+// A taken call, with the state after it.
+pub fn taken(stores: usize, st: State) -> Done
+    ensures { λ r. ⌜ outcomeOf r ≡ answered 0 st stores st ⌝ }
+{
+    Done {
+        answer: Answer::Taken(stores),
+        state: st,
+    }
+}

@@ -1,0 +1,27 @@
+-- T1 to T12 of document 01 hold, by computing.
+use mathlib.Core.Path.{_≡_, refl}
+use Rattle.bounded.specs.Below.{allBelow, someBelow, firstBelow, one, countBelow, those, upTo}
+use Rattle.bounded.specs.Count.{countOf, eachOnce}
+use Rattle.bounded.specs.Tab.{tab, filled}
+use Rattle.words.specs.Words.{leOf, bytesOf, part, over, wordAt, putWord, wordsAt, flat}
+use Rattle.fresh.specs.Fresh.{freshWords, formatted, freshTable}
+use Rattle.replay.specs.Table.{replay}
+use Rattle.masks.specs.Lines.{inMask, withLine, exclusiveOr, disjoint, others, linesIn, countLines, linesNotIn}
+use Rattle.state.specs.Held.{heldOk, othersHold, someHold, heldSlots}
+use Rattle.operations.specs.Operations.{copyCount, recordedSlots, needs}
+use Rattle.state.specs.Slots.{freeAfter, frameOfSlot, framesApart}
+use Rattle.validity.specs.Validity.{slotsOk, lastsOk, pendingOk, stateOk}
+use Rattle.refinement.specs.Checkpoint.{checkpointAt, checkpointValue}
+use Rattle.refinement.specs.Commit.{commitRecord, commitAt, commitValue, closedWriter}
+use Rattle.refinement.specs.Consolidate.{freeingRecord, consolidateAt, consolidateValue}
+use Rattle.refinement.specs.Frames.{pageFrame, seenFrame}
+use Rattle.refinement.specs.Stores.{stepped, steppedBy}
+use Rattle.refinement.specs.Write.{writeSlot}
+use Rattle.refinement.specs.Calls.{beginOf, abortOf, writeOf, commitOf, consolidateOf, checkpointOf, readRow, readBytes, runOf, runBytes, stepOf, stepBytes}
+use Rattle.refinement.specs.Mount.{formatCall}
+use Rattle.refinement.specs.Run.{exec, after}
+use Rattle.cases.specs.Cases.{words, seen, formats, gives, copies, case, cases, computedAll, statedAll}
+
+pub every-case : computedAll cases ≡ statedAll cases
+unfolding allBelow someBelow firstBelow one countBelow those upTo countOf eachOnce tab filled leOf bytesOf part over wordAt putWord wordsAt flat freshWords formatted freshTable replay inMask withLine exclusiveOr disjoint others linesIn countLines linesNotIn heldOk othersHold someHold heldSlots copyCount recordedSlots needs freeAfter frameOfSlot framesApart slotsOk lastsOk pendingOk stateOk checkpointAt checkpointValue commitRecord commitAt commitValue closedWriter freeingRecord consolidateAt consolidateValue pageFrame seenFrame stepped steppedBy writeSlot beginOf abortOf writeOf commitOf consolidateOf checkpointOf readRow readBytes runOf runBytes stepOf stepBytes formatCall exec after words seen formats gives copies case cases computedAll statedAll
+every-case = refl

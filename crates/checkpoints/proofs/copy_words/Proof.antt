@@ -1,0 +1,73 @@
+use Prim.Native.Nat.{ℕ, _+_, _-_, _≤_}
+use mathlib.Core.Path.{_≡_, refl, ap, _∙_}
+use lib.ListN.{length}
+use borrow.Author.Needs.{needs}
+use Rattle.bounded.proofs.Below.{up-none, up-turn, up-ends}
+use Rattle.words.specs.Words.{store}
+use Rattle.refinement.specs.Checkpoint.{slotCopies}
+use Rattle.checkpoints.proofs.copy_words.Statement.{statement}
+use Rattle.checkpoints.proofs.copy_words.Tie as tie
+
+abbrev Inv-loop : tie.InvT-loop
+Inv-loop image₀ a b k n i₀ image i = (i ≤ n) × (length image ≡ length image₀) × (image ≡ slotCopies a b k i image₀)
+
+abbrev μ-loop : tie.MeasureT-loop
+μ-loop image₀ a b k n i₀ image i = n - i
+
+loop-holds : tie.Need-loop-holds Inv-loop μ-loop
+loop-holds c = (search needs, refl, up-none _ _)
+
+add-read-word : tie.Need-add-read-word Inv-loop μ-loop
+add-read-word c = search needs
+
+add-read-word-2 : tie.Need-add-read-word-2 Inv-loop μ-loop
+add-read-word-2 c = search needs
+
+read-word-requires : tie.Need-read-word-requires Inv-loop μ-loop
+read-word-requires c κs = search needs
+
+add-store-word : tie.Need-add-store-word Inv-loop μ-loop
+add-store-word c = search needs
+
+add-store-word-2 : tie.Need-add-store-word-2 Inv-loop μ-loop
+add-store-word-2 c = search needs
+
+store-word-requires : tie.Need-store-word-requires Inv-loop μ-loop
+store-word-requires c κs = search needs
+
+add-i : tie.Need-add-i Inv-loop μ-loop
+add-i c = search needs
+
+loop-less : tie.Need-loop-less Inv-loop μ-loop
+loop-less c = search needs
+
+loop-again : tie.Need-loop-again Inv-loop μ-loop
+loop-again c =
+    let h = c .before .before .before .before .before .before .before in
+    let s = c .before .before .before .before .before .before .before .before .before in
+    (search needs, search needs, c .before .before .store-word .ensures ∙ ap (λ (v : ℕ). store (h .loop .image) (s .args .b + (s .args .k + h .loop .i)) v) (c .before .before .before .before .read-word .ensures) ∙ up-turn _ _ _ _ (h .loop .inv .2))
+
+same-length : tie.Need-same-length Inv-loop μ-loop
+same-length c = search needs
+
+returns : tie.Need-returns Inv-loop μ-loop
+returns c = up-ends _ _ _ _ _ (c .before .loop .inv .0) (c .loop-test .left) (c .before .loop .inv .2)
+
+pub copy-words-spec : {M : Type 1} → statement M
+copy-words-spec =
+    tie.close
+    (tie.spec
+    Inv-loop
+    μ-loop
+    loop-holds
+    add-read-word
+    add-read-word-2
+    read-word-requires
+    add-store-word
+    add-store-word-2
+    store-word-requires
+    add-i
+    loop-less
+    loop-again
+    same-length
+    returns)

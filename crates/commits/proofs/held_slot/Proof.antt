@@ -1,0 +1,87 @@
+-- of the j slots to pass over, those below s are passed and left are not
+use Prim.Native.Nat.{ℕ, _+_, _-_, _≤_}
+use mathlib.Core.Path.{_≡_, ap}
+use mathlib.Core.Logic.{⊎-elim}
+use mathlib.Core.List.{List}
+use mathlib.Core.Bool.{Bool, not}
+use native.Mathlib.Omega.{arith}
+use lib.Dec.{eqb}
+use borrow.Author.Tests.{eq-eqb, ne-eqb}
+use borrow.Author.Needs.{needs}
+use Rattle.bounded.specs.Below.{one, countBelow}
+use Rattle.state.specs.Held.{heldAt, heldSlots}
+use Rattle.bounded.proofs.Nth.{nth-found, nth-turn, nth-ended}
+use Rattle.commits.proofs.held_slot.Statement.{statement}
+use Rattle.commits.proofs.held_slot.Tie as tie
+
+abbrev holds : List ℕ → ℕ → ℕ → Bool
+holds held w s = not (eqb (heldAt held w s) 0)
+
+abbrev Inv-loop : tie.InvT-loop
+Inv-loop z held w j left₀ s₀ left s = (s ≤ z .slots) × (countBelow s (holds held w) + left ≡ j)
+
+abbrev μ-loop : tie.MeasureT-loop
+μ-loop z held w j left₀ s₀ left s = z .slots - s
+
+loop-holds : tie.Need-loop-holds Inv-loop μ-loop
+unfolding countBelow
+loop-holds c = search needs
+
+mul-if2 : tie.Need-mul-if2 Inv-loop μ-loop
+mul-if2 c = search needs
+
+add-if2 : tie.Need-add-if2 Inv-loop μ-loop
+add-if2 c = search needs
+
+mul-if2-2 : tie.Need-mul-if2-2 Inv-loop μ-loop
+mul-if2-2 c = search needs
+
+element-copy-out-if2 : tie.Need-element-copy-out-if2 Inv-loop μ-loop
+element-copy-out-if2 c = search needs
+
+returns : tie.Need-returns Inv-loop μ-loop
+unfolding heldSlots
+returns c = nth-found _ _ _ _ (c .before .before .before .before .before .loop .left) (c .before .before .before .before .before .loop .inv .1) (c .before .before .before .if1 .taken) (ap not (ne-eqb _ _ (c .before .if2 .taken))) (c .if3 .taken)
+
+sub-left : tie.Need-sub-left Inv-loop μ-loop
+sub-left c = search needs
+
+add-s : tie.Need-add-s Inv-loop μ-loop
+add-s c = search needs
+
+loop-less : tie.Need-loop-less Inv-loop μ-loop
+loop-less c = search needs
+
+loop-again : tie.Need-loop-again Inv-loop μ-loop
+unfolding one
+loop-again c =
+    let s = c .before .before .before .before .before in (
+      search needs,
+      nth-turn (holds (s .args .held .now) (s .args .w)) (s .args .z .slots) _ (c .before .before .before .before .loop .s) (c .before .before .before .before .loop .left) (c .before .before .before .before .loop .inv .1) (c .if2 .left)
+          (⊎-elim
+          (λ q. let e : one (holds (s .args .held .now) (s .args .w) (c .before .before .before .before .loop .s)) ≡ 1 = ap (λ (b : Bool). one (not b)) (ne-eqb _ _ (q .0 .taken)) in omega arith)
+          (λ q. let e : one (holds (s .args .held .now) (s .args .w) (c .before .before .before .before .loop .s)) ≡ 0 = ap (λ (b : Bool). one (not b)) (eq-eqb _ _ (q .0 .left)) in omega arith)
+          (c .if2 .came)),
+    )
+
+returns-2 : tie.Need-returns-2 Inv-loop μ-loop
+unfolding heldSlots
+returns-2 c = nth-ended _ _ _ _ (c .before .before .loop .left) (c .before .before .loop .inv .1) (c .before .before .loop .inv .0) (c .if1 .left)
+
+pub held-slot-spec : {M : Type 1} → statement M
+held-slot-spec =
+    tie.close
+    (tie.spec
+    Inv-loop
+    μ-loop
+    loop-holds
+    mul-if2
+    add-if2
+    mul-if2-2
+    element-copy-out-if2
+    returns
+    sub-left
+    add-s
+    loop-less
+    loop-again
+    returns-2)

@@ -1,0 +1,224 @@
+// Commit's stores and the state after them.
+ghost use mathlib.Core.Path.{_≡_};
+ghost use mathlib.Core.Bool.{true, false};
+ghost use Prim.Native.Nat.{_+_, _*_, _<_, _≤_};
+ghost use lib.ListN.{length, getD, set};
+ghost use Rattle.bounded.specs.Below.{upTo};
+ghost use Rattle.layout.specs.Layout.{Legal, recordWord, imageLength};
+ghost use Rattle.journal.specs.Records.{position};
+ghost use Rattle.replay.specs.Table.{slotsOfArrays, slotsShaped};
+ghost use Rattle.state.specs.Held.{heldSlots};
+ghost use Rattle.operations.specs.Operations.{Ranged};
+ghost use Rattle.refinement.specs.Commit.{committing, commitRecord, commitStores, commitHead, bitmapsAfter, lastsAfter, commitTable, closedWriter};
+ghost use Rattle.refinement.specs.Settled.{settled};
+use journal::Record;
+use journal::Slot;
+use layout::Sizes;
+use state::State;
+
+// The j-th slot that writer w holds lines of, rising, or 0 where there is none.
+fn held_slot(z: Sizes, held: &[u64; 64], w: usize, j: usize) -> usize
+    requires { ⌜ Legal z × (w < 4) ⌝ }
+    ensures { λ r. ⌜ r ≡ getD (heldSlots z (now (held .entry)) w) j 0 ⌝ }
+{
+    let mut left = j;
+    let mut s = 0;
+    while s < z.slots {
+        if held[16 * w + s] != 0 {
+            if left == 0 {
+                return s;
+            }
+            left -= 1;
+        }
+        s += 1;
+    }
+    0
+}
+
+// The j-th record of a commit: its slot with the held lines of the writer committed.
+fn commit_record<'a>(
+    z: Sizes,
+    head: usize,
+    page: &'a [usize; 16],
+    original: &'a [usize; 16],
+    spare: &'a [usize; 16],
+    bitmap: &'a [u64; 16],
+    held: &'a [u64; 64],
+    w: usize,
+    j: usize,
+) -> Record
+    requires { ⌜ Legal z × (w < 4) ⌝ }
+    ensures { λ r. ⌜ r ≡ commitRecord (committing z head (now (page .entry)) (now (original .entry)) (now (spare .entry)) (now (bitmap .entry)) (now (held .entry))) w j ⌝ }
+{
+    let s = held_slot(z, held, w, j);
+    let t = replay::slot_at(page, original, spare, bitmap, s);
+    let now = Slot {
+        page: t.page,
+        original: t.original,
+        spare: t.spare,
+        bitmap: masks::exclusive_or(t.bitmap, held[16 * w + s]),
+    };
+    Record {
+        first: head,
+        slot: s,
+        now,
+    }
+}
+
+// The first word of the record j after head.
+fn record_place(z: Sizes, head: usize, j: usize) -> usize
+    requires { ⌜ Legal z × (head < 2 * z .places) × (j ≤ z .places) ⌝ }
+    ensures { λ r. ⌜ r ≡ recordWord z (position z head j) ⌝ }
+{
+    let q = journal::records::position(z, head, j);
+    layout::record_word(z, q)
+}
+
+// Makes n stores of a commit, from store `from` on, all of them words of records.
+fn make_record_stores<'a>(
+    image: &mut [u8],
+    z: Sizes,
+    head: usize,
+    page: &'a [usize; 16],
+    original: &'a [usize; 16],
+    spare: &'a [usize; 16],
+    bitmap: &'a [u64; 16],
+    held: &'a [u64; 64],
+    w: usize,
+    from: usize,
+    n: usize,
+)
+    requires { ⌜ Legal z × (head < 2 * z .places) × (slotsShaped z (slotsOfArrays (now page) (now original) (now spare) (now bitmap)) ≡ true) × (w < 4) × (from + n ≤ 4 * length (heldSlots z (now held) w)) × (imageLength z ≤ length (now image)) ⌝ }
+    ensures { λ _. ⌜ now (image .exit) ≡ commitStores (committing z head (now (page .entry)) (now (original .entry)) (now (spare .entry)) (now (bitmap .entry)) (now (held .entry))) w from n (now (image .entry)) ⌝ }
+{
+    let mut i = 0;
+    while i < n {
+        let at = from + i;
+        let e = commit_record(z, head, page, original, spare, bitmap, held, w, at / 4);
+        let a = record_place(z, head, at / 4);
+        let m = pieces::in_piece(4, at, n - i);
+        pieces::store_record_words(image, a, e, at % 4, m);
+        i += m;
+    }
+}
+
+// Makes n stores of a commit, from store `from` on.
+pub fn make_commit_stores<'a>(
+    image: &mut [u8],
+    z: Sizes,
+    head: usize,
+    page: &'a [usize; 16],
+    original: &'a [usize; 16],
+    spare: &'a [usize; 16],
+    bitmap: &'a [u64; 16],
+    held: &'a [u64; 64],
+    w: usize,
+    from: usize,
+    n: usize,
+)
+    requires { ⌜ Legal z × (head < 2 * z .places) × (slotsShaped z (slotsOfArrays (now page) (now original) (now spare) (now bitmap)) ≡ true) × (w < 4) × (from ≤ 4 * length (heldSlots z (now held) w)) × (from + n ≤ 4 * length (heldSlots z (now held) w) + 1) × (imageLength z ≤ length (now image)) ⌝ }
+    ensures { λ _. ⌜ now (image .exit) ≡ commitStores (committing z head (now (page .entry)) (now (original .entry)) (now (spare .entry)) (now (bitmap .entry)) (now (held .entry))) w from n (now (image .entry)) ⌝ }
+{
+    let c = state::held::held_count(z, held, w);
+    let m = pieces::smaller(n, 4 * c - from);
+    make_record_stores(
+        image,
+        z,
+        head,
+        page,
+        original,
+        spare,
+        bitmap,
+        held,
+        w,
+        from,
+        m,
+    );
+    if m < n {
+        let h = journal::records::position(z, head, c);
+        words::store_word(image, 4, h as u64);
+    }
+}
+
+// The bitmaps after a commit of n slots.
+fn commit_bitmaps<'a>(
+    z: Sizes,
+    bitmap: &'a [u64; 16],
+    held: &'a [u64; 64],
+    w: usize,
+    n: usize,
+) -> [u64; 16]
+    requires { ⌜ Legal z × (w < 4) ⌝ }
+    ensures { λ r. ⌜ r ≡ bitmapsAfter z (now (bitmap .entry)) (now (held .entry)) w n ⌝ }
+{
+    let mut out = *bitmap;
+    let mut j = 0;
+    while j < n {
+        let s = held_slot(z, held, w, j);
+        out[s] = masks::exclusive_or(bitmap[s], held[16 * w + s]);
+        j += 1;
+    }
+    out
+}
+
+// The positions of last records after a commit of n slots.
+fn commit_lasts<'a>(
+    z: Sizes,
+    head: usize,
+    last: &'a [usize; 16],
+    held: &'a [u64; 64],
+    w: usize,
+    n: usize,
+) -> [usize; 16]
+    requires { ⌜ Legal z × (head < 2 * z .places) × (w < 4) × (n ≤ z .places) ⌝ }
+    ensures { λ r. ⌜ r ≡ lastsAfter z head (now (last .entry)) (now (held .entry)) w n ⌝ }
+{
+    let mut out = *last;
+    let mut j = 0;
+    while j < n {
+        let s = held_slot(z, held, w, j);
+        out[s] = journal::records::position(z, head, j);
+        j += 1;
+    }
+    out
+}
+
+// Empties what a writer holds.
+fn release(held: &mut [u64; 64], z: Sizes, w: usize)
+    requires { ⌜ Legal z × (w < 4) ⌝ }
+    ensures { λ _. ⌜ now (held .exit) ≡ upTo (z .slots) (λ s h. set h (16 * w + s) 0) (now (held .entry)) ⌝ }
+{
+    let mut s = 0;
+    while s < z.slots {
+        held[16 * w + s] = 0;
+        s += 1;
+    }
+}
+
+// Closes a writer.
+fn close(opened: &mut [bool; 4], w: usize)
+    requires { ⌜ w < 4 ⌝ }
+    ensures { λ _. ⌜ now (opened .exit) ≡ set (now (opened .entry)) w false ⌝ }
+{
+    opened[w] = false;
+}
+
+// The state when a commit is complete.
+pub fn commit_completed(mut st: State, writer: usize) -> State
+    requires { ⌜ Ranged st × (writer < 4) ⌝ }
+    ensures { λ r. ⌜ r ≡ settled st (commitHead st writer) (st .tail) (st .next) (commitTable st writer) (closedWriter (st .sizes) (st .writers) writer) ⌝ }
+{
+    let z = st.sizes;
+    let head = st.head;
+    let n = state::held::held_count(z, &st.writers.held, writer);
+    let bitmap = commit_bitmaps(z, &st.table.bitmap, &st.writers.held, writer, n);
+    let last = commit_lasts(z, head, &st.table.last, &st.writers.held, writer, n);
+    let idle = settled::no_pending();
+    settled::put_masks(&mut st.table.bitmap, bitmap);
+    settled::put_all(&mut st.table.last, last);
+    release(&mut st.writers.held, z, writer);
+    close(&mut st.writers.opened, writer);
+    st.head = journal::records::position(z, head, n);
+    st.pending = idle;
+    st
+}

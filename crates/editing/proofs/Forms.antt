@@ -1,0 +1,30 @@
+-- What a line's form tells of its numbers.
+use Prim.Native.Nat.{ℕ, _/_, _<_, _≤_}
+use mathlib.Core.Bool.{Bool, true, _&&_}
+use mathlib.Core.List.{[], _∷_}
+use mathlib.Core.Path.{_≡_}
+use lib.Dec.{ltb, leb, eqb}
+use borrow.Author.Tests.{ltb-true, leb-true}
+use Rattle.bounded.proofs.Tests.{and-left, and-right, every-held}
+use Rattle.text.specs.declared.Line.{Line}
+use Rattle.editing.specs.Edits.{byteForm, wordForm}
+use Rattle.editing.specs.Turns.{arg}
+
+-- a place is below its bound
+pub place-low : (i n : ℕ) (b : Bool) → leb i n && b ≡ true → i ≤ n
+place-low i n b e = leb-true i n (and-left (leb i n) b e)
+
+pub byte-formed : (size : ℕ) (line : Line) → byteForm size line ≡ true → (arg line 0 < size) × (arg line 1 ≤ 255)
+byte-formed size line e =
+    let h = every-held (eqb (line .count) 2 ∷ ltb (arg line 0) size ∷ leb (arg line 1) 255 ∷ []) e in
+    (ltb-true (arg line 0) size (h .1 .0), leb-true (arg line 1) 255 (h .1 .1 .0))
+
+pub word-formed : (size : ℕ) (line : Line) → wordForm size line ≡ true → arg line 0 < size / 8
+word-formed size line e = ltb-true (arg line 0) (size / 8) (and-right (eqb (line .count) 2) (ltb (arg line 0) (size / 8)) e)
+
+-- a byte of the finished line, where a write is pending
+pub line-byte-formed : (line : Line) (write : Bool) → eqb (line .count) 2 && leb (arg line 0) 63 && leb (arg line 1) 255 && write ≡ true
+    → (arg line 0 ≤ 63) × (arg line 1 ≤ 255)
+line-byte-formed line write e =
+    let h = every-held (eqb (line .count) 2 ∷ leb (arg line 0) 63 ∷ leb (arg line 1) 255 ∷ write ∷ []) e in
+    (leb-true (arg line 0) 63 (h .1 .0), leb-true (arg line 1) 255 (h .1 .1 .0))

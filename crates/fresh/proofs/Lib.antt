@@ -1,0 +1,3 @@
+pub mod FreshWords
+pub mod FreshMounts
+pub mod Puts

@@ -1,0 +1,43 @@
+-- Four words stored and four filled are the header's eight, one after the other.
+use borrow.Author.Needs.{needs}
+use Rattle.fresh.proofs.Puts.{header-puts}
+use Rattle.fresh.proofs.put_header.Statement.{statement}
+use Rattle.fresh.proofs.put_header.Tie as tie
+
+store-word-requires : tie.Need-store-word-requires
+store-word-requires c κs = search needs
+
+store-word-requires-2 : tie.Need-store-word-requires-2
+store-word-requires-2 c κs = search needs
+
+store-word-requires-3 : tie.Need-store-word-requires-3
+store-word-requires-3 c κs = search needs
+
+store-word-requires-4 : tie.Need-store-word-requires-4
+store-word-requires-4 c κs = search needs
+
+fill-words-requires : tie.Need-fill-words-requires
+fill-words-requires c κs = search needs
+
+same-length : tie.Need-same-length
+same-length c = search needs
+
+returns : tie.Need-returns
+returns c =
+    let e = c .before .before in
+    let d = e .before .before .before .before in
+    let b = d .before .before .before .before in
+    let a = b .before .before .before .before in
+    header-puts _ _ (a .before .before .before .before .store-word .ensures) (a .store-word2 .ensures) (b .store-word3 .ensures) (d .store-word4 .ensures) (e .fill-words .ensures)
+
+pub put-header-spec : {M : Type 1} → statement M
+put-header-spec =
+    tie.close
+    (tie.spec
+    store-word-requires
+    store-word-requires-2
+    store-word-requires-3
+    store-word-requires-4
+    fill-words-requires
+    same-length
+    returns)

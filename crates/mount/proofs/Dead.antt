@@ -1,0 +1,117 @@
+-- Words that a mount of a view does not read: a store to one changes neither the view nor the mount. The kinds of
+-- them: the header's last two words, padding and frames, places without a live record, slot words under a live record,
+-- and page-table words of slotted pages.
+use Prim.Native.Nat.{ℕ, zero, suc, _+_, _*_, _≤_, _<_}
+use mathlib.Core.Path.{_≡_, refl, sym, ap, _∙_, subst}
+use mathlib.Core.List.{List}
+use mathlib.Core.Logic.{_⊎_, ⊎-elim}
+use native.Mathlib.Omega.{arith}
+use lib.ListN.{length}
+use Rattle.bounded.specs.Below.{upTo}
+use Rattle.layout.specs.Layout.{Legal, placeOf, pageWord, slotWord, recordWord, paddingWord, lineWord}
+use Rattle.words.specs.Words.{word, store, Bytes}
+use Rattle.words.proofs.WordLaws.{word-store-other, length-store, store-same}
+use Rattle.layout.proofs.LayoutLaws.{place-lt}
+use Rattle.journal.specs.Records.{position}
+use Rattle.replay.specs.Table.{noPosition, lastIn, slotOf}
+use Rattle.mount.specs.Mount.{mountOf}
+use Rattle.journal.proofs.Ring.{Positions, new-apart}
+use Rattle.mount.proofs.View.{View, live, viewOf, Shows, Read, header, journal, slot, page, Agree, same-view}
+use Rattle.mount.proofs.Verdict.{equal-views}
+
+abbrev pub Dead : View → ℕ → Type 0
+Dead v a = Read v a → ⊥
+
+-- words that differ only where they are dead agree on what mount reads
+pub agree-dead : (v : View) (r r′ : ℕ → ℕ) → ((a : ℕ) → (r a ≡ r′ a) ⊎ Dead v a) → Agree v r r′
+agree-dead v r r′ h a q = ⊎-elim (λ e. e) (λ d. absurd (d q)) (h a)
+
+-- ---- a store to a dead word
+
+module _ (img : List ℕ) (v : View) (shows : Shows img v) (a w : ℕ) (fits : 8 * a + 8 ≤ length img) (dead : Dead v a) where
+  pub dead-view : Shows (store img a w) v
+  dead-view =
+      sym (same-view (word img) (word (store img a w)) (λ b q.
+      sym (word-store-other img a w b fits (λ e. dead (subst (λ (u : View). Read u a) shows (subst (Read (viewOf (word img))) (sym e) q))))))
+      ∙ shows
+
+  pub dead-mount : mountOf (store img a w) ≡ mountOf img
+  dead-mount = equal-views (store img a w) img v (length-store img a w fits) dead-view shows
+
+-- stores to dead words, one after the other, each of a value that may be read from the image as it then is
+abbrev pub stores : ℕ → (ℕ → ℕ) → (ℕ → List ℕ → ℕ) → List ℕ → List ℕ
+stores n a w img = upTo n (λ i l. store l (a i) (w i l)) img
+
+module _ (a : ℕ → ℕ) (w : ℕ → List ℕ → ℕ) (img : List ℕ) where
+  pub length-stores : (n : ℕ) → ((i : ℕ) → i < n → 8 * a i + 8 ≤ length img) → length (stores n a w img) ≡ length img
+  unfolding upTo
+  length-stores zero h = refl
+  length-stores (suc n) h =
+      let k : length (stores n a w img) ≡ length img = length-stores n (λ i l. h i (omega arith)) in
+      length-store (stores n a w img) (a n) (w n (stores n a w img)) (omega (arith, h n (omega arith))) ∙ k
+
+  pub dead-stores : (n : ℕ) (v : View) → Shows img v → ((i : ℕ) → i < n → 8 * a i + 8 ≤ length img) → ((i : ℕ) → i < n → Dead v (a i))
+      → Shows (stores n a w img) v
+  unfolding upTo
+  dead-stores zero v shows h d = shows
+  dead-stores (suc n) v shows h d =
+      let k : length (stores n a w img) ≡ length img = length-stores n (λ i l. h i (omega arith)) in
+      dead-view (stores n a w img) v (dead-stores n v shows (λ i l. h i (omega arith)) (λ i l. d i (omega arith)))
+      (a n) (w n (stores n a w img)) (omega (arith, h n (omega arith))) (d n (omega arith))
+
+-- the value that a word already has
+pub store-old : (img : List ℕ) (a w : ℕ) → Bytes img → 8 * a + 8 ≤ length img → w ≡ word img a → store img a w ≡ img
+store-old img a w b h e = ap (store img a) e ∙ store-same img a b h
+
+-- ---- which words are dead
+
+module _ (v : View) where
+  pub dead-header : (a : ℕ) → 6 ≤ a → a < 8 → Dead v a
+  dead-header a l m (header h) = omega arith
+  dead-header a l m (journal i k h n e) = omega arith
+  dead-header a l m (slot s k h q n e) = omega arith
+  dead-header a l m (page p h q e) = omega arith
+
+  -- from the padding on
+  pub dead-past : Legal (v .sizes) → (a : ℕ) → paddingWord (v .sizes) ≤ a → Dead v a
+  dead-past g a l (header h) = omega arith
+  dead-past g a l (journal i k h n e) = omega (arith, place-lt (v .sizes) g (position (v .sizes) (v .tail) i))
+  dead-past g a l (slot s k h q n e) = omega arith
+  dead-past g a l (page p h q e) = omega arith
+
+  -- as is every word of a frame
+  pub dead-line : Legal (v .sizes) → (f l k : ℕ) → Dead v (lineWord (v .sizes) f l + k)
+  dead-line g f l k = dead-past g (lineWord (v .sizes) f l + k) (omega arith)
+
+  -- a place that no live position has
+  pub dead-place : (q k : ℕ) → k < 4 → ((i : ℕ) → i < live v → placeOf (v .sizes) (position (v .sizes) (v .tail) i) ≡ placeOf (v .sizes) q → ⊥)
+      → Dead v (recordWord (v .sizes) q + k)
+  dead-place q k l f (header h) = omega arith
+  dead-place q k l f (journal i m h n e) = f i h (omega arith)
+  dead-place q k l f (slot s m h o n e) = omega arith
+  dead-place q k l f (page p h o e) = omega arith
+
+  -- as has the position j after head, while there is room
+  pub dead-new : Legal (v .sizes) → Positions (v .sizes) (v .head) (v .tail) → (j k : ℕ) → live v + j < v .sizes .places → k < 4
+      → Dead v (recordWord (v .sizes) (position (v .sizes) (v .head) j) + k)
+  dead-new g p j k h l =
+      dead-place (position (v .sizes) (v .head) j) k l (λ i m e. new-apart (v .sizes) g (v .head) (v .tail) p i j m h e)
+
+  -- a slot with a live record
+  pub dead-slot : (s k : ℕ) → s < v .sizes .slots → k < 3 → (lastIn (v .table) s ≡ noPosition → ⊥) → Dead v (slotWord (v .sizes) s + k)
+  dead-slot s k h l f (header m) = omega arith
+  dead-slot s k h l f (journal i n m o e) = omega arith
+  dead-slot s k h l f (slot u n m q o e) =
+      let w : u ≡ s = omega arith in
+      f (ap (lastIn (v .table)) (sym w) ∙ q)
+  dead-slot s k h l f (page p m q e) = omega arith
+
+  -- a page with a slot
+  pub dead-page : (p : ℕ) → p < v .sizes .pages → slotOf (v .sizes) (v .table) p < v .sizes .slots → Dead v (pageWord p)
+  dead-page p h f (header m) = omega arith
+  dead-page p h f (journal i n m o e) = omega arith
+  dead-page p h f (slot u n m q o e) = omega arith
+  dead-page p h f (page g m q e) =
+      let w : g ≡ p = omega arith in
+      let x : slotOf (v .sizes) (v .table) p ≡ v .sizes .slots = subst (λ (y : ℕ). slotOf (v .sizes) (v .table) y ≡ v .sizes .slots) w q in
+      omega arith

@@ -1,0 +1,88 @@
+-- Mount's rows: the number of the first that applies with nothing found, or what is found.
+use mathlib.Core.Path.{_≡_, refl, sym, ap, ap₂, _∙_}
+use mathlib.Core.Bool.{Bool, true, false}
+use mathlib.Core.List.{List, [], _∷_}
+use Prim.Native.Nat.{ℕ, zero, suc, _-_, _<_}
+use native.Mathlib.Nat.{not-suc-le-zero, le-of-suc-le-suc}
+use native.Mathlib.Omega.{arith}
+use lib.Dec.{eqb}
+use lib.ListN.{length, getD}
+use borrow.Author.Tests.{eq-eqb, ne-eqb}
+use Rattle.bounded.specs.Rows.{Row, refusal, Past, Numbered}
+use Rattle.bounded.proofs.Rows.{row-at, row-none}
+use Rattle.bounded.proofs.Tests.{row-yes, row-no}
+use Rattle.layout.specs.declared.Sizes.{Sizes}
+use Rattle.layout.specs.Layout.{headWord, tailWord}
+use Rattle.words.specs.Words.{word}
+use Rattle.journal.specs.declared.Record.{Record}
+use Rattle.replay.specs.declared.Table.{Table}
+use Rattle.mount.specs.declared.Mounted.{Mounted}
+use Rattle.journal.specs.Records.{position, liveCount, positionsOk, liveRecord, recordRight, recordOk, recordsOk}
+use Rattle.replay.specs.Table.{tableFrom, replay}
+use Rattle.mount.specs.Mount.{sizesFrom, liveFrom, tableAfter, mountRows, turnedBack, found, mountRead, mountOf}
+
+-- ---- any table of refusals
+
+pub past-more : (rs : List Row) (k : ℕ) → Past rs k → getD rs k (true, 0) .0 ≡ false → Past rs (suc k)
+past-more [] k p e = tt
+past-more (r ∷ []) zero p e = (e, tt)
+past-more (r ∷ s ∷ rs) zero p e = (e, tt)
+past-more (r ∷ rs) (suc k) p e = (p .0, past-more rs k (p .1) e)
+
+pub numbered-at : (rs : List Row) (k : ℕ) → k < length rs → Numbered rs → 0 < getD rs k (true, 0) .1
+numbered-at [] k l n = absurd (not-suc-le-zero l)
+numbered-at (r ∷ rs) zero l n = n .0
+numbered-at (r ∷ rs) (suc k) l n = numbered-at rs k (le-of-suc-le-suc l) (n .1)
+
+-- row 0, and what is found
+abbrev taken : Sizes → ℕ → ℕ → Table → Mounted
+taken z head tail t = record { row = 0; sizes = z; head = head; tail = tail; table = t }
+
+-- ---- the header as it was read, and what is worked out from it
+
+pub record Header (r : ℕ → ℕ) (z : Sizes) (head tail : ℕ) : Type 0 where
+  pub sizes-is : z ≡ sizesFrom r
+  pub head-is : head ≡ r headWord
+  pub tail-is : tail ≡ r tailWord
+
+module _ {r : ℕ → ℕ} {z : Sizes} {head tail : ℕ} (h : Header r z head tail) where
+  read : {X : Type 0} (f : Sizes → ℕ → ℕ → X) → f z head tail ≡ f (sizesFrom r) (r headWord) (r tailWord)
+  read f = ap (λ (y : Sizes). f y head tail) (h .sizes-is) ∙ ap₂ (f (sizesFrom r)) (h .head-is) (h .tail-is)
+
+  pub positions-read : positionsOk z head tail ≡ positionsOk (sizesFrom r) (r headWord) (r tailWord)
+  positions-read = read positionsOk
+
+  pub records-read : (n : ℕ) → n ≡ liveCount z head tail
+      → recordsOk z tail n (liveRecord r z tail) ≡ recordsOk (sizesFrom r) (r tailWord) (liveFrom r) (liveRecord r (sizesFrom r) (r tailWord))
+  records-read n e =
+      ap (λ (k : ℕ). recordsOk z tail k (liveRecord r z tail)) e ∙ read (λ y a b. recordsOk y b (liveCount y a b) (liveRecord r y b))
+
+  pub table-read : (n : ℕ) → n ≡ liveCount z head tail → replay z tail n (liveRecord r z tail) (tableFrom r z) ≡ tableAfter r
+  table-read n e =
+      ap (λ (k : ℕ). replay z tail k (liveRecord r z tail) (tableFrom r z)) e
+      ∙ read (λ y a b. replay y b (liveCount y a b) (liveRecord r y b) (tableFrom r y))
+
+  pub found-read : (t : Table) → t ≡ tableAfter r → record { row = 0; sizes = z; head = head; tail = tail; table = t } ≡ found r
+  found-read t e =
+      ap (λ (u : Table). taken z head tail u) e ∙ read (λ y a b. taken y a b (tableAfter r))
+
+-- ---- mount
+
+pub mount-past : (img : List ℕ) (k : ℕ) → Past (mountRows (length img) (word img)) k → getD (mountRows (length img) (word img)) k (true, 0) .0 ≡ false
+    → Past (mountRows (length img) (word img)) (suc k)
+mount-past img = past-more (mountRows (length img) (word img))
+
+pub mount-refused : (img : List ℕ) (k : ℕ) → k < 7 → Past (mountRows (length img) (word img)) k → getD (mountRows (length img) (word img)) k (true, 0) .0 ≡ true
+    → turnedBack (getD (mountRows (length img) (word img)) k (true, 0) .1) ≡ mountOf img
+unfolding mountOf mountRead
+mount-refused img k l p t =
+    let rs = mountRows (length img) (word img) in
+    let e : getD rs k (true, 0) .1 ≡ refusal rs = row-at rs k l p t in
+    let n : 0 < getD rs k (true, 0) .1 = numbered-at rs k l (omega arith, (omega arith, (omega arith, (omega arith, (omega arith, (omega arith, (omega arith, tt))))))) in
+    row-no (eqb (refusal rs) 0) (found (word img)) (turnedBack (refusal rs)) (turnedBack (getD rs k (true, 0) .1)) (ne-eqb (refusal rs) 0 (λ q. omega arith)) (ap turnedBack e)
+
+pub mount-taken : (img : List ℕ) → Past (mountRows (length img) (word img)) 7 → found (word img) ≡ mountOf img
+unfolding mountOf mountRead
+mount-taken img p =
+    let rs = mountRows (length img) (word img) in
+    row-yes (eqb (refusal rs) 0) (found (word img)) (turnedBack (refusal rs)) (eq-eqb (refusal rs) 0 (sym (row-none rs p)))

@@ -1,0 +1,88 @@
+// What a mount finds on any bytes.
+ghost use mathlib.Core.Path.{_≡_};
+ghost use Prim.Native.Nat.{_≤_};
+ghost use lib.ListN.{length};
+ghost use Rattle.words.specs.Words.{word};
+ghost use Rattle.mount.specs.Mount.{sizesFrom, turnedBack, mountOf};
+use layout::Sizes;
+use replay::Table;
+
+// What a mount finds: row 0 and the header with the slots, or the row that turns the image back and nothing else.
+pub struct Mounted {
+    pub row: usize,
+    pub sizes: Sizes,
+    pub head: usize,
+    pub tail: usize,
+    pub table: Table,
+}
+
+// The sizes in an image's header.
+fn sizes_from(image: &[u8]) -> Sizes
+    requires { ⌜ 64 ≤ length (now image) ⌝ }
+    ensures { λ r. ⌜ r ≡ sizesFrom (word (now (image .entry))) ⌝ }
+{
+    let pages = words::read_word(image, 0);
+    let slots = words::read_word(image, 1);
+    let places = words::read_word(image, 2);
+    Sizes {
+        pages: pages as usize,
+        slots: slots as usize,
+        places: places as usize,
+    }
+}
+
+// A row's number, and nothing found.
+fn turned_back(row: usize) -> Mounted
+    ensures { λ r. ⌜ r ≡ turnedBack row ⌝ }
+{
+    Mounted {
+        row,
+        sizes: Sizes {
+            pages: 0,
+            slots: 0,
+            places: 0,
+        },
+        head: 0,
+        tail: 0,
+        table: replay::empty_table(),
+    }
+}
+
+// The first of rows 1 to 7 that applies, or what the image holds.
+pub fn judge(image: &[u8]) -> Mounted
+    ensures { λ r. ⌜ r ≡ mountOf (now (image .entry)) ⌝ }
+{
+    if image.len() < 64 {
+        return turned_back(1);
+    }
+    if words::read_word(image, 3) != 1 {
+        return turned_back(2);
+    }
+    let z = sizes_from(image);
+    if !layout::sizes_ok(z) {
+        return turned_back(3);
+    }
+    if image.len() < layout::image_length(z) {
+        return turned_back(4);
+    }
+    let head = words::read_word(image, 4) as usize;
+    let tail = words::read_word(image, 5) as usize;
+    if !journal::records::positions_ok(z, head, tail) {
+        return turned_back(5);
+    }
+    let n = journal::records::live_count(z, head, tail);
+    if !journal::records::records_ok(image, z, tail, n) {
+        return turned_back(6);
+    }
+    let found = replay::replayed(image, z, tail, n);
+    if !names::table_ok(image, z, found) {
+        return turned_back(7);
+    }
+    Mounted {
+        row: 0,
+        sizes: z,
+        head,
+        tail,
+        table: found,
+    }
+}

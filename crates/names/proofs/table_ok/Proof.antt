@@ -1,0 +1,69 @@
+-- Three tests, one after the other; the names put are those of the definition.
+use mathlib.Core.Path.{ap, _∙_}
+use lib.ListN.{take}
+use lib.Seq.{take-at}
+use borrow.Author.Needs.{needs}
+use Rattle.bounded.specs.Count.{eachOnce}
+use Rattle.bounded.proofs.Tests.{and-stops, and-goes, held}
+use Rattle.layout.specs.Layout.{frames}
+use Rattle.words.specs.Words.{word}
+use Rattle.replay.specs.Table.{frameNames}
+use Rattle.names.proofs.Homes.{length-names}
+use Rattle.names.proofs.table_ok.Statement.{statement}
+use Rattle.names.proofs.table_ok.Tie as tie
+
+slots-shaped-requires : tie.Need-slots-shaped-requires
+slots-shaped-requires c κs = search needs
+
+returns : tie.Need-returns
+returns c = and-stops _ _ _ (c .before .slots-shaped .ensures) (c .if1 .taken)
+
+pages-apart-requires : tie.Need-pages-apart-requires
+pages-apart-requires c κs = search needs
+
+returns-2 : tie.Need-returns-2
+returns-2 c =
+    let h = c .before .before .before .before in
+    and-goes _ _ _ _ (h .before .slots-shaped .ensures) (h .if1 .left) (and-stops _ _ _ (c .before .pages-apart .ensures) (c .if2 .taken))
+
+slice-aggregate-put-names : tie.Need-slice-aggregate-put-names
+slice-aggregate-put-names c = search needs
+
+put-names-requires : tie.Need-put-names-requires
+put-names-requires c κs =
+    let s = c .before .before .before .before .before .before .before .before .before .before .before .before .before in
+    (s .pre .0, s .pre .1, search needs, held _ _ (c .before .before .pages-apart .ensures) (c .before .if2 .left))
+
+slice-aggregate-each-once : tie.Need-slice-aggregate-each-once
+slice-aggregate-each-once c = search needs
+
+add-each-once : tie.Need-add-each-once
+add-each-once c = search needs
+
+each-once-requires : tie.Need-each-once-requires
+each-once-requires c κs = search needs
+
+returns-3 : tie.Need-returns-3
+returns-3 c =
+    let h = c .before .before .before .before .before .before in
+    let g = h .before .before .before .before in
+    let x = g .before .before .before .before .before .before .before .before .args in
+    let n = length-names (word (x .image .now)) (x .z) (x .t3) in
+    and-goes _ _ _ _ (g .before .slots-shaped .ensures) (g .if1 .left)
+    (and-goes _ _ _ _ (h .before .pages-apart .ensures) (h .if2 .left)
+    (c .each-once .ensures ∙ ap (eachOnce (frames (x .z))) (ap (take (frames (x .z))) (c .before .before .before .before .put-names .ensures) ∙ take-at (frameNames (word (x .image .now)) (x .z) (x .t3)) _ (frames (x .z)) n)))
+
+pub table-ok-spec : {M : Type 1} → statement M
+table-ok-spec =
+    tie.close
+    (tie.spec
+    slots-shaped-requires
+    returns
+    pages-apart-requires
+    returns-2
+    slice-aggregate-put-names
+    put-names-requires
+    slice-aggregate-each-once
+    add-each-once
+    each-once-requires
+    returns-3)

@@ -1,0 +1,99 @@
+-- What no row from 11 on tells of an operation, as facts.
+use Prim.Native.Nat.{ℕ, zero, suc, _+_, _*_, _<_, _≤_}
+use mathlib.Core.Bool.{Bool, true, false, not, _||_}
+use mathlib.Core.Path.{_≡_, refl}
+use native.Mathlib.Omega.{arith}
+use borrow.Author.Tests.{ltb-true, ltb-false, leb-true, leb-false, eqb-false, not-true, not-false}
+use lib.Dec.{ltb, leb, eqb}
+use lib.ListN.{length}
+use Rattle.bounded.specs.Rows.{refusal}
+use Rattle.bounded.proofs.Rows.{none-apply}
+use Rattle.bounded.proofs.Tests.{or-left, or-right}
+use Rattle.layout.specs.declared.Sizes.{Sizes}
+use Rattle.state.specs.declared.State.{State}
+use Rattle.state.specs.declared.Op.{Op}
+use Rattle.state.specs.declared.Op.the-variants.{Idle, Write, Commit, Consolidate, Checkpoint}
+use Rattle.state.specs.Held.{isOpen, someHold, heldSlots}
+use Rattle.operations.specs.Operations.{live, slotFor, slotted, writeArgsBad, lineTaken, noneFree, frameBad, writeRows, commitRows, consolidateRows, opRows, Asked}
+
+-- row 11 of a write
+pub record ArgsGood (z : Sizes) (w p l o n : ℕ) : Type 0 where
+  pub writer-low : w < 4
+  pub page-low : p < z .pages
+  pub line-low : l < 64
+  pub some : 0 < n
+  pub fits : o + n ≤ 64
+
+pub args-good : (z : Sizes) (w p l o n : ℕ) → writeArgsBad z w p l o n ≡ false → ArgsGood z w p l o n
+args-good z w p l o n e =
+    let e4 = or-left (ltb 3 w || leb (z .pages) p || ltb 63 l || eqb n 0) (ltb 64 (o + n)) e in
+    let e3 = or-left (ltb 3 w || leb (z .pages) p || ltb 63 l) (eqb n 0) e4 in
+    let e2 = or-left (ltb 3 w || leb (z .pages) p) (ltb 63 l) e3 in
+    let n0 : n ≡ 0 → ⊥ = eqb-false n 0 (or-right (ltb 3 w || leb (z .pages) p || ltb 63 l) (eqb n 0) e4) in
+    record {
+      writer-low = omega (arith, ltb-false 3 w (or-left (ltb 3 w) (leb (z .pages) p) e2));
+      page-low = leb-false (z .pages) p (or-right (ltb 3 w) (leb (z .pages) p) e2);
+      line-low = omega (arith, ltb-false 63 l (or-right (ltb 3 w || leb (z .pages) p) (ltb 63 l) e3));
+      some = omega arith;
+      fits = ltb-false 64 (o + n) (or-right (ltb 3 w || leb (z .pages) p || ltb 63 l || eqb n 0) (ltb 64 (o + n)) e);
+    }
+
+pub record WriteTaken (st : State) (w p l o n f : ℕ) : Type 0 where
+  pub args : ArgsGood (st .sizes) w p l o n
+  pub opened : isOpen (st .writers .opened) w ≡ true
+  pub line-free : lineTaken (st .sizes) (st .writers .held) w (slotFor st p) l ≡ false
+  pub some-free : noneFree (st .sizes) (st .table .page) (st .next) (slotFor st p) ≡ false
+  pub frame-good : frameBad (st .sizes) (st .table .page) (st .table .original) (st .table .spare) (slotFor st p) f ≡ false
+
+pub write-taken : (st : State) (w p l o n f : ℕ) → refusal (writeRows st w p l o n f) ≡ 0 → WriteTaken st w p l o n f
+write-taken st w p l o n f e =
+    let h = none-apply (writeRows st w p l o n f) (omega arith) e in
+    record {
+      args = args-good (st .sizes) w p l o n (h .0);
+      opened = not-false (isOpen (st .writers .opened) w) (h .1 .0);
+      line-free = h .1 .1 .0;
+      some-free = h .1 .1 .1 .0;
+      frame-good = h .1 .1 .1 .1 .0;
+    }
+
+pub record CommitTaken (st : State) (w : ℕ) : Type 0 where
+  pub writer-low : w < 4
+  pub opened : isOpen (st .writers .opened) w ≡ true
+  pub fits : live st + length (heldSlots (st .sizes) (st .writers .held) w) ≤ st .sizes .places
+
+pub commit-taken : (st : State) (w : ℕ) → refusal (commitRows st w) ≡ 0 → CommitTaken st w
+commit-taken st w e =
+    let h = none-apply (commitRows st w) (omega arith) e in
+    record {
+      writer-low = omega (arith, ltb-false 3 w (h .0));
+      opened = not-false (isOpen (st .writers .opened) w) (h .1 .0);
+      fits = ltb-false (st .sizes .places) (live st + length (heldSlots (st .sizes) (st .writers .held) w)) (h .1 .1 .0);
+    }
+
+pub record ConsolidateTaken (st : State) (p : ℕ) : Type 0 where
+  pub page-low : p < st .sizes .pages
+  pub has-slot : slotted st p ≡ true
+  pub none-held : someHold (st .writers .held) (slotFor st p) ≡ false
+  pub fits : live st + 1 ≤ st .sizes .places
+
+pub consolidate-taken : (st : State) (p : ℕ) → refusal (consolidateRows st p) ≡ 0 → ConsolidateTaken st p
+consolidate-taken st p e =
+    let h = none-apply (consolidateRows st p) (omega arith) e in
+    record {
+      page-low = leb-false (st .sizes .pages) p (h .0);
+      has-slot = not-false (slotted st p) (h .1 .0);
+      none-held = h .1 .1 .0;
+      fits = ltb-false (st .sizes .places) (live st + 1) (h .1 .1 .1 .0);
+    }
+
+-- what the count of an operation's stores leans on
+pub op-asked : (st : State) (op : Op) (f : ℕ) → refusal (opRows st op f) ≡ 0 → Asked (st .sizes) (st .table .page) op
+op-asked st Idle f e = tt
+op-asked st (Write w p l o n) f e = tt
+op-asked st (Commit w) f e = commit-taken st w e .writer-low
+op-asked st (Consolidate p) f e = ltb-true (slotFor st p) (st .sizes .slots) (consolidate-taken st p e .has-slot)
+op-asked st Checkpoint f e = tt
+
+-- r is the slot that the code found
+pub slot-low : (st : State) (p r : ℕ) → slotted st p ≡ true → r ≡ slotFor st p → r < st .sizes .slots
+slot-low st p r t e = rw e (ltb-true (slotFor st p) (st .sizes .slots) t)

@@ -1,0 +1,43 @@
+use native.Mathlib.Omega.{arith}
+use borrow.Author.Tests.{lt-ltb, le-ltb}
+use borrow.Author.Needs.{needs}
+use Rattle.state.proofs.Numbers.{held-le}
+use Rattle.operations.proofs.commit_row.Statement.{statement}
+use Rattle.operations.proofs.commit_row.Tie as tie
+
+returns : tie.Need-returns
+returns c = rw (lt-ltb _ _ (c .if1 .taken))
+
+is-open-requires : tie.Need-is-open-requires
+is-open-requires c κs = search needs
+
+returns-2 : tie.Need-returns-2
+returns-2 c = rw (le-ltb _ _ (c .before .before .if1 .left), ← c .before .is-open .ensures, c .if2 .taken)
+
+held-count-requires : tie.Need-held-count-requires
+held-count-requires c κs = search needs
+
+live-count-requires : tie.Need-live-count-requires
+live-count-requires c κs = search needs
+
+add-if3 : tie.Need-add-if3
+add-if3 c = omega (arith, held-le _ _ _ _ (c .before .held-count .ensures), c .live-count .ensures, c .before .before .before .before .before .pre)
+
+returns-3 : tie.Need-returns-3
+returns-3 c = rw (le-ltb _ _ (c .before .before .before .before .before .before .if1 .left), ← c .before .before .before .before .before .is-open .ensures, c .before .before .before .before .if2 .left, ← c .before .before .before .held-count .ensures, ← c .before .before .live-count .ensures, lt-ltb _ _ (c .if3 .taken))
+
+returns-4 : tie.Need-returns-4
+returns-4 c = rw (le-ltb _ _ (c .before .before .before .before .before .before .if1 .left), ← c .before .before .before .before .before .is-open .ensures, c .before .before .before .before .if2 .left, ← c .before .before .before .held-count .ensures, ← c .before .before .live-count .ensures, le-ltb _ _ (c .if3 .left))
+
+pub commit-row-spec : {M : Type 1} → statement M
+commit-row-spec =
+    tie.close
+    (tie.spec
+    returns
+    is-open-requires
+    returns-2
+    held-count-requires
+    live-count-requires
+    add-if3
+    returns-3
+    returns-4)

@@ -1,0 +1,333 @@
+// The rows from 11 on of each operation, and how many stores it needs.
+ghost use mathlib.Core.Path.{_≡_};
+ghost use Prim.Native.Nat.{_*_, _<_, _≤_};
+ghost use lib.ListN.{length};
+ghost use Rattle.bounded.specs.Rows.{refusal};
+ghost use Rattle.layout.specs.Layout.{Legal};
+ghost use Rattle.journal.specs.Records.{liveCount};
+ghost use Rattle.operations.specs.Operations.{isIdle, Ranged, Asked, writeArgsBad, lineTaken, noneFree, frameBad, writeRowsOf, commitRowsOf, consolidateRowsOf, opRowsOf, opRows, commitNeeds, copyCount, consolidateNeeds, recordedSlots, checkpointNeeds, needsOf, needs};
+use layout::Sizes;
+use state::Op;
+use state::State;
+
+// Whether there is no operation.
+pub fn is_idle(op: Op) -> bool
+    ensures { λ r. ⌜ r ≡ isIdle op ⌝ }
+{
+    match op {
+        Op::Idle => true,
+        Op::Write {
+            writer: _,
+            page: _,
+            line: _,
+            offset: _,
+            length: _,
+        } => false,
+        Op::Commit { writer: _ } => false,
+        Op::Consolidate { page: _ } => false,
+        Op::Checkpoint => false,
+    }
+}
+
+// Row 11 of a write, without the data. No sum wraps.
+fn write_args_bad(
+    z: Sizes,
+    writer: usize,
+    page: usize,
+    line: usize,
+    offset: usize,
+    length: usize,
+) -> bool
+    ensures { λ r. ⌜ r ≡ writeArgsBad z writer page line offset length ⌝ }
+{
+    if offset > 64 {
+        return true;
+    }
+    if length > 64 {
+        return true;
+    }
+    (writer > 3) | (page >= z.pages) | (line > 63) | (length == 0) | (offset + length > 64)
+}
+
+// Row 14: the page has slot s, and a writer other than w holds line l.
+fn line_taken(z: Sizes, held: &[u64; 64], w: usize, s: usize, l: usize) -> bool
+    requires { ⌜ Legal z × (l < 64) ⌝ }
+    ensures { λ r. ⌜ r ≡ lineTaken z (now (held .entry)) w s l ⌝ }
+{
+    if z.slots <= s {
+        return false;
+    }
+    state::held::others_hold(held, w, s, l)
+}
+
+// Row 15: the page has no slot and none is free.
+fn none_free(z: Sizes, page: &[usize; 16], next: usize, s: usize) -> bool
+    requires { ⌜ Legal z × (next < z .slots) ⌝ }
+    ensures { λ r. ⌜ r ≡ noneFree z (now (page .entry)) next s ⌝ }
+{
+    if s < z.slots {
+        return false;
+    }
+    z.slots <= state::slots::free_after(z, page, next)
+}
+
+// Row 16, of the frame f of a page that has slot s, or none.
+pub fn frame_bad<'a>(
+    z: Sizes,
+    page: &'a [usize; 16],
+    original: &'a [usize; 16],
+    spare: &'a [usize; 16],
+    s: usize,
+    f: usize,
+) -> bool
+    requires { ⌜ Legal z ⌝ }
+    ensures { λ r. ⌜ r ≡ frameBad z (now (page .entry)) (now (original .entry)) (now (spare .entry)) s f ⌝ }
+{
+    if s < z.slots {
+        return original[s] != f;
+    }
+    if z.pages + z.slots <= f {
+        return true;
+    }
+    state::slots::frame_of_slot(z, page, original, spare, f)
+}
+
+// The first row from 11 on that turns a write to page p back, with the page's slot s, S where it has none, and its frame.
+pub fn write_row<'a>(
+    z: Sizes,
+    next: usize,
+    page: &'a [usize; 16],
+    original: &'a [usize; 16],
+    spare: &'a [usize; 16],
+    opened: &'a [bool; 4],
+    held: &'a [u64; 64],
+    writer: usize,
+    p: usize,
+    s: usize,
+    line: usize,
+    offset: usize,
+    length: usize,
+    frame: usize,
+) -> usize
+    requires { ⌜ Legal z × (next < z .slots) ⌝ }
+    ensures { λ r. ⌜ r ≡ refusal (writeRowsOf z next (now (page .entry)) (now (original .entry)) (now (spare .entry)) (now (opened .entry)) (now (held .entry)) writer p s line offset length frame) ⌝ }
+{
+    if write_args_bad(z, writer, p, line, offset, length) {
+        return 11;
+    }
+    if !state::held::is_open(opened, writer) {
+        return 13;
+    }
+    if line_taken(z, held, writer, s, line) {
+        return 14;
+    }
+    if none_free(z, page, next, s) {
+        return 15;
+    }
+    if frame_bad(z, page, original, spare, s, frame) {
+        return 16;
+    }
+    0
+}
+
+// The first row from 11 on that turns a commit back.
+pub fn commit_row<'a>(
+    z: Sizes,
+    head: usize,
+    tail: usize,
+    opened: &'a [bool; 4],
+    held: &'a [u64; 64],
+    writer: usize,
+) -> usize
+    requires { ⌜ Legal z × (head < 2 * z .places) × (tail < 2 * z .places) × (liveCount z head tail ≤ z .places) ⌝ }
+    ensures { λ r. ⌜ r ≡ refusal (commitRowsOf z head tail (now (opened .entry)) (now (held .entry)) writer) ⌝ }
+{
+    if writer > 3 {
+        return 11;
+    }
+    if !state::held::is_open(opened, writer) {
+        return 13;
+    }
+    let n = state::held::held_count(z, held, writer);
+    if z.places < journal::records::live_count(z, head, tail) + n {
+        return 19;
+    }
+    0
+}
+
+// The first row from 11 on that turns a consolidation of page p back.
+pub fn consolidate_row<'a>(
+    z: Sizes,
+    head: usize,
+    tail: usize,
+    page: &'a [usize; 16],
+    held: &'a [u64; 64],
+    p: usize,
+) -> usize
+    requires { ⌜ Legal z × (head < 2 * z .places) × (tail < 2 * z .places) × (liveCount z head tail ≤ z .places) ⌝ }
+    ensures { λ r. ⌜ r ≡ refusal (consolidateRowsOf z head tail (now (page .entry)) (now (held .entry)) p) ⌝ }
+{
+    if z.pages <= p {
+        return 11;
+    }
+    let s = state::slots::slot_of(z, page, p);
+    if z.slots <= s {
+        return 17;
+    }
+    if state::held::some_hold(held, s) {
+        return 18;
+    }
+    if z.places < journal::records::live_count(z, head, tail) + 1 {
+        return 19;
+    }
+    0
+}
+
+// The stores that a commit of n slots needs.
+pub fn commit_needs(n: usize) -> usize
+    requires { ⌜ n ≤ 16 ⌝ }
+    ensures { λ r. ⌜ r ≡ commitNeeds n ⌝ }
+{
+    if n == 0 { 0 } else { 4 * n + 1 }
+}
+
+// How many lines a consolidation copies: those in the spare where they are at most 32, else the others.
+pub fn copy_count(bitmap: u64) -> usize
+    ensures { λ r. ⌜ r ≡ copyCount bitmap ⌝ }
+{
+    let k = masks::count(bitmap);
+    if k <= 32 { k } else { 64 - k }
+}
+
+// The stores that the consolidation of a slot with this bitmap needs.
+pub fn consolidate_needs(bitmap: u64) -> usize
+    ensures { λ r. ⌜ r ≡ consolidateNeeds bitmap ⌝ }
+{
+    8 * copy_count(bitmap) + 6
+}
+
+// How many slots have a live record.
+pub fn recorded_count(z: Sizes, last: &[usize; 16]) -> usize
+    requires { ⌜ Legal z ⌝ }
+    ensures { λ r. ⌜ r ≡ length (recordedSlots z (now (last .entry))) ⌝ }
+{
+    let mut n = 0;
+    let mut s = 0;
+    while s < z.slots {
+        n += state::held::one_if(last[s] != 18446744073709551615);
+        s += 1;
+    }
+    n
+}
+
+// The stores that a checkpoint needs.
+pub fn checkpoint_needs(z: Sizes, head: usize, tail: usize, last: &[usize; 16]) -> usize
+    requires { ⌜ Legal z ⌝ }
+    ensures { λ r. ⌜ r ≡ checkpointNeeds head tail (length (recordedSlots z (now (last .entry)))) ⌝ }
+{
+    if head == tail {
+        return 0;
+    }
+    3 * recorded_count(z, last) + 1
+}
+
+// The first row from 11 on that turns an operation back, of a write with the page's frame.
+pub fn op_row<'a>(
+    z: Sizes,
+    head: usize,
+    tail: usize,
+    next: usize,
+    page: &'a [usize; 16],
+    original: &'a [usize; 16],
+    spare: &'a [usize; 16],
+    opened: &'a [bool; 4],
+    held: &'a [u64; 64],
+    op: Op,
+    frame: usize,
+) -> usize
+    requires { ⌜ Legal z × (head < 2 * z .places) × (tail < 2 * z .places) × (liveCount z head tail ≤ z .places) × (next < z .slots) ⌝ }
+    ensures { λ r. ⌜ r ≡ refusal (opRowsOf z head tail next (now (page .entry)) (now (original .entry)) (now (spare .entry)) (now (opened .entry)) (now (held .entry)) op frame) ⌝ }
+{
+    match op {
+        Op::Idle => 0,
+        Op::Write {
+            writer,
+            page: p,
+            line,
+            offset,
+            length,
+        } => {
+            let s = state::slots::slot_of(z, page, p);
+            write_row(
+                z,
+                next,
+                page,
+                original,
+                spare,
+                opened,
+                held,
+                writer,
+                p,
+                s,
+                line,
+                offset,
+                length,
+                frame,
+            )
+        }
+        Op::Commit { writer } => commit_row(z, head, tail, opened, held, writer),
+        Op::Consolidate { page: p } => consolidate_row(z, head, tail, page, held, p),
+        Op::Checkpoint => 0,
+    }
+}
+
+// The stores that an operation needs, which no row turns back.
+pub fn op_needs<'a>(
+    z: Sizes,
+    head: usize,
+    tail: usize,
+    page: &'a [usize; 16],
+    bitmap: &'a [u64; 16],
+    last: &'a [usize; 16],
+    held: &'a [u64; 64],
+    op: Op,
+) -> usize
+    requires { ⌜ Legal z × Asked z (now page) op ⌝ }
+    ensures { λ r. ⌜ r ≡ needsOf z head tail (now (page .entry)) (now (bitmap .entry)) (now (last .entry)) (now (held .entry)) op ⌝ }
+{
+    match op {
+        Op::Idle => 0,
+        Op::Write {
+            writer: _,
+            page: _,
+            line: _,
+            offset: _,
+            length: _,
+        } => 8,
+        Op::Commit { writer } => commit_needs(state::held::held_count(z, held, writer)),
+        Op::Consolidate { page: p } => {
+            let s = state::slots::slot_of(z, page, p);
+            consolidate_needs(bitmap[s])
+        }
+        Op::Checkpoint => checkpoint_needs(z, head, tail, last),
+    }
+}
+
+// The stores that the pending operation needs, where no row turns it back.
+pub fn pending_needs(st: State) -> usize
+    requires { ⌜ Ranged st × (refusal (opRows st (st .pending .op) (st .pending .frame)) ≡ 0) ⌝ }
+    ensures { λ r. ⌜ r ≡ needs st (st .pending .op) ⌝ }
+{
+    let pending = st.pending;
+    let op = pending.op;
+    op_needs(
+        st.sizes,
+        st.head,
+        st.tail,
+        &st.table.page,
+        &st.table.bitmap,
+        &st.table.last,
+        &st.writers.held,
+        op,
+    )
+}

@@ -1,0 +1,59 @@
+use mathlib.Core.Path.{_∙_}
+use native.Mathlib.Omega.{arith}
+use Rattle.text.proofs.Cutting.{end-le}
+use borrow.Author.Needs.{needs}
+use Rattle.powerhit.proofs.perform_piece.Statement.{statement}
+use Rattle.powerhit.proofs.perform_piece.Tie as tie
+
+line-end-requires : tie.Need-line-end-requires
+line-end-requires c κs = search needs
+
+keep-requires : tie.Need-keep-requires
+keep-requires c κs = search needs
+
+same-length : tie.Need-same-length
+same-length c = search needs
+
+returns : tie.Need-returns
+returns c = search needs
+
+perform-kept-requires : tie.Need-perform-kept-requires
+perform-kept-requires c κs = search needs
+
+add-perform-lines : tie.Need-add-perform-lines
+add-perform-lines c = omega (arith, end-le (c .before .before .before .before .before .before .before .before .before .before .before .before .before .before .before .before .before .before .before .before .before .args .piece .now) 0, c .before .before .before .before .before .before .before .before .before .before .before .before .before .before .before .before .line-end .ensures, c .before .before .before .before .before .before .before .before .before .before .before .before .before .before .before .before .before .before .before .before .before .good .1 .1 .1 .0, c .before .before .before .before .before .before .before .before .before .before .before .if1 .left)
+
+perform-lines-requires : tie.Need-perform-lines-requires
+perform-lines-requires c κs = search needs
+
+keep-requires-2 : tie.Need-keep-requires-2
+keep-requires-2 c κs = search needs
+
+same-length-2 : tie.Need-same-length-2
+same-length-2 c = search needs
+
+same-length-3 : tie.Need-same-length-3
+same-length-3 c = c .before .before .keep2 .kept .0 ∙ c .before .before .before .before .before .before .before .before .before .before .before .before .before .before .before .before .before .perform-kept .kept .1 .1 .0 ∙ c .before .before .before .before .before .before .before .before .before .before .before .before .before .before .before .before .before .before .before .before .before .before .before .before .keep .kept .0
+
+same-length-4 : tie.Need-same-length-4
+same-length-4 c = search needs
+
+returns-2 : tie.Need-returns-2
+returns-2 c = search needs
+
+pub perform-piece-spec : {M : Type 1} → statement M
+perform-piece-spec =
+    tie.close
+    (tie.spec
+    line-end-requires
+    keep-requires
+    same-length
+    returns
+    perform-kept-requires
+    add-perform-lines
+    perform-lines-requires
+    keep-requires-2
+    same-length-2
+    same-length-3
+    same-length-4
+    returns-2)

@@ -1,0 +1,35 @@
+use mathlib.Core.Path.{_≡_, ap, _∙_}
+use borrow.Author.Needs.{needs}
+use Rattle.text.specs.Fields.{parsed}
+use Rattle.editing.specs.declared.Turn.{Turn}
+use Rattle.probing.specs.Lines.{turnOf}
+use Rattle.probe.proofs.lines.perform.Statement.{statement}
+use Rattle.probe.proofs.lines.perform.Tie as tie
+
+parse-requires : tie.Need-parse-requires
+parse-requires c κs = search needs
+
+turn-requires : tie.Need-turn-requires
+turn-requires c κs = search needs
+
+print-requires : tie.Need-print-requires
+print-requires c κs = search needs
+
+same-length : tie.Need-same-length
+same-length c = search needs
+
+same-length-2 : tie.Need-same-length-2
+same-length-2 c = search needs
+
+returns : tie.Need-returns
+returns c =
+    let a = c .before .before .before .before .before .before .before .before .before .before .before .before .before .args in
+    let l = c .before .before .before .before .before .before .before .before .before .parse in
+    let t = c .before .before .before .before .before .before .before .turn in
+    let e : t .result ≡ turnOf (a .bench) (a .buffer .now) (parsed 20 (a .line .now)) = t .ensures .0 ∙ ap (turnOf (a .bench) (a .buffer .now)) (l .ensures) in
+    (ap (λ (x : Turn). x .bench) e, (rw (← l .ensures) (t .ensures .1), rw (← l .ensures, ← t .ensures .0) (c .before .before .before .print .ensures)))
+
+pub perform-spec : {M : Type 1} → statement M
+perform-spec =
+    tie.close
+    (tie.spec parse-requires turn-requires print-requires same-length same-length-2 returns)

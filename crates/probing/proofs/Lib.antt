@@ -1,0 +1,4 @@
+pub mod Stored
+pub mod Taken
+pub mod Targets
+pub mod Written

@@ -1,0 +1,164 @@
+-- The state that a taken mount or format returns is valid: rows 5 to 7 give its slots and positions, and no writer is
+-- open.
+use Prim.Native.Nat.{ℕ, _+_, _*_, _<_, _≤_}
+use mathlib.Core.Bool.{true}
+use mathlib.Core.List.{List, _++_}
+use mathlib.Core.Path.{_≡_, refl, sym, ap, _∙_, subst}
+use native.Mathlib.Omega.{arith}
+use lib.ListN.{length, getD, replicate, length-replicate}
+use Rattle.bounded.specs.Count.{Once}
+use Rattle.bounded.specs.Tab.{tab}
+use Rattle.bounded.proofs.Below.{up-keeps}
+use Rattle.layout.specs.declared.Sizes.{Sizes}
+use Rattle.layout.specs.Layout.{sizesOk, frames, imageLength, slotWord}
+use Rattle.words.specs.Words.{Bytes, word}
+use Rattle.layout.proofs.LayoutLaws.{legal}
+use Rattle.words.proofs.WordLaws.{word-lt}
+use Rattle.replay.specs.declared.Table.{Table}
+use Rattle.journal.specs.Slots.{slotFrom, freeSlot}
+use Rattle.journal.specs.Records.{liveRecord}
+use Rattle.replay.specs.Table.{slotIn, lastIn, withSlot, emptyTable, tableFrom, homeOf, frameNames}
+use Rattle.fresh.specs.Fresh.{formatted, freshTable}
+use Rattle.mount.specs.Mount.{mountOf}
+use Rattle.replay.proofs.Tables.{Sixteen, sixteen-empty, sixteen-laid, sixteen-from, one-value}
+use Rattle.replay.proofs.Latest.{sixteen-replay}
+use Rattle.mount.proofs.View.{View, live, viewOf, Shows, shown, table-shown}
+use Rattle.mount.proofs.Verdict.{Taken, namesIn, foundIn, mount-taken, taken-mount}
+use Rattle.mount.proofs.LastRecords.{last-live, lasts-apart}
+use Rattle.fresh.proofs.FreshWords.{length-formatted}
+use Rattle.fresh.proofs.FreshMounts.{freshView, fresh-shows, fresh-taken}
+use Rattle.state.specs.Held.{heldAt}
+use Rattle.validity.specs.Validity.{stateOk}
+use Rattle.masks.specs.Lines.{disjoint}
+use Rattle.masks.proofs.Disjoint.{none-disjoint}
+use Rattle.refinement.proofs.StateValid.{lastAt, LastsFine, HeldFine, valid-ok}
+use Rattle.refinement.proofs.Pending.{idle-ok}
+use Rattle.refinement.proofs.Appended.{last-at}
+use Rattle.refinement.proofs.NamesOnce.{names-fine}
+use Rattle.refinement.proofs.Sized.{Low, set-low, replay-low, SizedWriters, Sized}
+use Rattle.refinement.specs.Mount.{allClosed, quietState, mountedState, freshState}
+
+-- ---- nobody holds anything
+
+nothing-held : (w s : ℕ) → heldAt (allClosed .held) w s ≡ 0
+nothing-held w s = one-value 64 (16 * w + s) 0
+
+closed-held : (z : Sizes) (t : Table) → HeldFine z (slotIn t) (allClosed .opened) (allClosed .held)
+closed-held z t =
+    record {
+      opens = λ s w l m n. absurd (n (nothing-held w s));
+      owned = λ s w l m n. absurd (n (nothing-held w s));
+      apart = λ s w v l a b d. ap (λ (x : ℕ). disjoint x (heldAt (allClosed .held) v s)) (nothing-held w s) ∙ none-disjoint (heldAt (allClosed .held) v s);
+    }
+
+empty-low : Low (emptyTable .bitmap)
+empty-low i = let e : getD (emptyTable .bitmap) i 0 ≡ 0 = one-value 16 i 0 in omega arith
+
+closed-low : Low (allClosed .held)
+closed-low i = let e : getD (allClosed .held) i 0 ≡ 0 = one-value 64 i 0 in omega arith
+
+closed-sized : SizedWriters allClosed
+closed-sized = record { four = refl; sixty-four = refl; held-low = closed-low }
+
+-- ---- a view that an image shows
+
+module _ (img : List ℕ) (v : View) (shows : Shows img v) where
+  pub view-sixteen : Sixteen (v .table)
+  view-sixteen =
+      subst Sixteen (sym (table-shown img v shows))
+      (sixteen-replay (v .sizes) (v .tail) (live v) (liveRecord (word img) (v .sizes) (v .tail)) (tableFrom (word img) (v .sizes)) (sixteen-from (word img) (v .sizes)))
+
+  pub view-names : namesIn v ≡ frameNames (word img) (v .sizes) (v .table)
+  unfolding frameNames
+  view-names =
+      let spares = tab (v .sizes .slots) (λ s. slotIn (v .table) s .spare) in
+      let homes : v .homes ≡ tab (v .sizes .pages) (homeOf (word img) (v .sizes) (v .table)) =
+      ap (λ (u : View). u .homes) (shown img v shows) ∙ ap (λ (t : Table). tab (v .sizes .pages) (homeOf (word img) (v .sizes) t)) (sym (table-shown img v shows)) in
+      ap (λ (h : List ℕ). spares ++ h) homes
+
+  view-bitmaps : Bytes img → Low (v .table .bitmap)
+  unfolding tableFrom liveRecord
+  view-bitmaps b =
+      let r = word img in
+      let z = v .sizes in
+      let from : Low (tableFrom r z .bitmap) =
+      up-keeps (λ (t : Table). Low (t .bitmap)) (λ s t. withSlot t s (slotFrom r (slotWord z s))) (z .slots) emptyTable
+      (λ s t l h. set-low (t .bitmap) s (r (slotWord z s + 2)) h (word-lt img (slotWord z s + 2) b))
+      empty-low in
+      subst (λ (t : Table). Low (t .bitmap)) (sym (table-shown img v shows))
+      (replay-low z (v .tail) (live v) (liveRecord r z (v .tail)) (tableFrom r z) from (λ i. word-lt img _ b))
+
+  module _ (taken : Taken (length img) v) where
+    view-lasts : LastsFine (v .sizes) (v .head) (v .tail) (lastAt (v .table))
+    view-lasts =
+        let z = v .sizes in
+        let g = taken .legal in
+        let p = taken .positions in
+        let at : (s : ℕ) → s < z .slots → lastAt (v .table) s ≡ lastIn (v .table) s = λ s l. last-at (v .table) s view-sixteen (omega arith) in
+        record {
+          low = λ s l n. rw (at s l) (last-live img v shows g p s l (λ q. n (at s l ∙ q)) .0);
+          live = λ s l n. rw (at s l) (last-live img v shows g p s l (λ q. n (at s l ∙ q)) .1);
+          apart = λ s k l m d n e. d (lasts-apart img v shows g p s k l m (λ q. n (at s l ∙ q)) (sym (at s l) ∙ e ∙ at k m));
+        }
+
+    pub mount-valid : stateOk (quietState (v .sizes) (v .head) (v .tail) (v .table)) ≡ true
+    mount-valid =
+        let z = v .sizes in
+        let st = quietState z (v .head) (v .tail) (v .table) in
+        let once : Once (frames z) (frameNames (word img) z (v .table)) = subst (Once (frames z)) view-names (taken .names) in
+        let g = taken .legal in
+        valid-ok st
+        (record {
+          legal = g;
+          positions = taken .positions;
+          slots = names-fine (word img) z (v .table) once g (taken .shapes) (taken .apart);
+          held = closed-held z (v .table);
+          next-low = omega arith;
+          lasts = view-lasts;
+          pending = idle-ok st refl;
+        })
+
+    pub mount-sized : Bytes img → Sized (quietState (v .sizes) (v .head) (v .tail) (v .table))
+    mount-sized b =
+        record {
+          table = record { sixteen = view-sixteen; bitmap-low = view-bitmaps b };
+          writers = closed-sized;
+        }
+
+-- ---- a taken mount, and a fresh image
+
+module _ (img : List ℕ) (e : mountOf img .row ≡ 0) where
+  found : mountedState (mountOf img) ≡ mountedState (foundIn (viewOf (word img)))
+  found = ap mountedState (taken-mount img (viewOf (word img)) refl (mount-taken img (viewOf (word img)) refl e))
+
+  pub mounted-valid : stateOk (mountedState (mountOf img)) ≡ true
+  mounted-valid = ap stateOk found ∙ mount-valid img (viewOf (word img)) refl (mount-taken img (viewOf (word img)) refl e)
+
+  pub mounted-sized : Bytes img → Sized (mountedState (mountOf img))
+  mounted-sized b = subst Sized (sym found) (mount-sized img (viewOf (word img)) refl (mount-taken img (viewOf (word img)) refl e) b)
+
+module _ (z : Sizes) (e : sizesOk z ≡ true) where
+  abbrev room : List ℕ
+  room = replicate (imageLength z) 0
+
+  fits : imageLength z ≤ length room
+  fits = omega (arith, length-replicate {A = ℕ} (imageLength z) 0)
+
+  pub fresh-valid : stateOk (freshState z) ≡ true
+  fresh-valid =
+      mount-valid (formatted z room) (freshView z) (fresh-shows z (legal z e) room fits)
+      (fresh-taken z (legal z e) (length (formatted z room)) (omega (arith, length-formatted z (legal z e) room fits, fits)))
+
+  pub fresh-sized : Sized (freshState z)
+  unfolding freshTable
+  fresh-sized =
+      record {
+        table =
+            record {
+              sixteen = sixteen-laid (z .slots) (λ s. freeSlot (z .pages + s)) emptyTable sixteen-empty;
+              bitmap-low =
+                  up-keeps (λ (t : Table). Low (t .bitmap)) (λ s t. withSlot t s (freeSlot (z .pages + s))) (z .slots) emptyTable
+                  (λ s t l h. set-low (t .bitmap) s 0 h (omega arith)) empty-low;
+            };
+        writers = closed-sized;
+      }

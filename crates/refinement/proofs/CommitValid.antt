@@ -1,0 +1,141 @@
+-- A commit keeps the state valid: only bitmaps of owning slots change, the new records' positions are live, and the
+-- closed writer holds nothing.
+use Prim.Native.Nat.{ℕ, _<_}
+use mathlib.Core.Bool.{Bool, true, not}
+use mathlib.Core.Logic.{⊎-elim}
+use mathlib.Core.Path.{_≡_, refl, sym, ap, _∙_, subst}
+use native.Mathlib.Omega.{arith}
+use lib.Dec.{eqb}
+use lib.ListN.{length, getD}
+use borrow.Author.Tests.{eqb-false, not-true}
+use Rattle.bounded.specs.Rows.{refusal}
+use Rattle.bounded.proofs.Those.{chosen, length-those}
+use Rattle.layout.specs.declared.Sizes.{Sizes}
+use Rattle.journal.specs.declared.Slot.{Slot}
+use Rattle.journal.specs.Slots.{shaped}
+use Rattle.replay.specs.Table.{slotIn}
+use Rattle.journal.proofs.Ring.{positions-more}
+use Rattle.journal.proofs.SlotWords.{Owning, Free, shape, owning-shaped}
+use Rattle.replay.proofs.Tables.{Sixteen}
+use Rattle.replay.proofs.Latest.{Latest, latest, replay-latest, replay-kept}
+use Rattle.state.specs.declared.State.{State}
+use Rattle.state.specs.declared.Op.the-variants.{Commit}
+use Rattle.state.specs.Held.{heldAt, heldSlots}
+use Rattle.operations.specs.Operations.{commitRows}
+use Rattle.validity.specs.Validity.{stateOk}
+use Rattle.operations.proofs.Taken.{CommitTaken, commit-taken}
+use Rattle.refinement.specs.Stores.{completed}
+use Rattle.refinement.specs.Commit.{commitSlots, committedSlot, commitRecord, commitTable}
+use Rattle.refinement.proofs.StateValid.{Apart, HeldFine, valid, valid-ok}
+use Rattle.refinement.proofs.Pending.{idle-ok}
+use Rattle.refinement.proofs.Appended.{lasts-more}
+use Rattle.refinement.proofs.Closed.{closed-fine}
+
+-- ---- slots that name what they named
+
+pub record SameNames (a b : Slot) : Type 0 where
+  pub page : b .page ≡ a .page
+  pub original : b .original ≡ a .original
+  pub spare : b .spare ≡ a .spare
+
+pub apart-renamed : (a b c d : Slot) → SameNames a c → SameNames b d → Apart a b → Apart c d
+apart-renamed a b c d p q h =
+    record {
+      pages = λ n e. h .pages (λ x. n (p .page ∙ x)) (sym (p .page) ∙ e ∙ q .page);
+      spares = λ e. h .spares (sym (p .spare) ∙ e ∙ q .spare);
+      forth = λ e. h .forth (sym (p .original) ∙ e ∙ q .spare);
+      back = λ e. h .back (sym (p .spare) ∙ e ∙ q .original);
+      originals = λ n m e. h .originals (λ x. n (p .page ∙ x)) (λ x. m (q .page ∙ x)) (sym (p .original) ∙ e ∙ q .original);
+    }
+
+pub owning-renamed : (z : Sizes) (a b : Slot) → SameNames a b → Owning z a → Owning z b
+owning-renamed z a b p o =
+    record { page-low = rw (p .page) (o .page-low); original-low = rw (p .original) (o .original-low); spare-low = rw (p .spare) (o .spare-low); apart = λ e. o .apart (sym (p .original) ∙ e ∙ p .spare) }
+
+-- ---- the records of a commit
+
+module _ (st : State) (w : ℕ) where
+  -- record j is that of a slot below S of which the writer holds lines
+  pub record CommitSlot (j s : ℕ) : Type 0 where
+    pub slot-low : s < st .sizes .slots
+    pub holds : heldAt (st .writers .held) w s ≡ 0 → ⊥
+    pub slot : commitRecord st w j .slot ≡ s
+    pub now : commitRecord st w j .now ≡ committedSlot st w s
+
+  pub commit-slot : (j : ℕ) → j < length (commitSlots st w) → CommitSlot j (commitRecord st w j .slot)
+  unfolding commitRecord heldSlots
+  commit-slot j l =
+      let held = st .writers .held in
+      let test : ℕ → Bool = λ s. not (eqb (heldAt held w s) 0) in
+      let c = chosen test (st .sizes .slots) j 0 (omega (arith, l, length-those test (st .sizes .slots))) in
+      let s = getD (commitSlots st w) j 0 in
+      record { slot-low = c .below; holds = eqb-false (heldAt held w s) 0 (not-true (eqb (heldAt held w s) 0) (c .passes)); slot = refl; now = refl }
+
+  module _ (e : stateOk st ≡ true) (full : Sixteen (st .table)) where
+    owner : (s : ℕ) → s < st .sizes .slots → w < 4 → (heldAt (st .writers .held) w s ≡ 0 → ⊥) → Owning (st .sizes) (slotIn (st .table) s)
+    owner s l m n =
+        let v = valid st e in
+        ⊎-elim (λ o. o)
+        (λ (x : Free (st .sizes) (slotIn (st .table) s)). absurd (v .held .owned s w l m n (x .page-none)))
+        (shape (st .sizes) (slotIn (st .table) s) (v .slots .shapes s l))
+
+    -- slot s after a commit: the names are kept and it has a shape
+    pub record After (s : ℕ) : Type 0 where
+      pub names : SameNames (slotIn (st .table) s) (slotIn (commitTable st w) s)
+      pub shape : shaped (st .sizes) (slotIn (commitTable st w) s) ≡ true
+
+    pub after : w < 4 → (s : ℕ) → s < st .sizes .slots → After s
+    after m s l =
+        let v = valid st e in
+        let z = st .sizes in
+        let n = length (commitSlots st w) in
+        let old = slotIn (st .table) s in
+        let new = slotIn (commitTable st w) s in
+        ⊎-elim
+        (λ (x : (i : ℕ) × Latest n (commitRecord st w) s i).
+        let c = commit-slot (x .0) (x .1 .live) in
+        let q : commitRecord st w (x .0) .slot ≡ s = x .1 .slot in
+        let b : new ≡ committedSlot st w s =
+        replay-latest z (st .head) (commitRecord st w) (st .table) full s n (x .0) (omega arith) (x .1) .slot ∙ c .now ∙ ap (committedSlot st w) q in
+        let a : SameNames old new =
+        record { page = ap (λ (u : Slot). u .page) b; original = ap (λ (u : Slot). u .original) b; spare = ap (λ (u : Slot). u .spare) b } in
+        record {
+          names = a;
+          shape = owning-shaped z new (owning-renamed z old new a (owner s l m (subst (λ (k : ℕ). heldAt (st .writers .held) w k ≡ 0 → ⊥) q (c .holds))));
+        })
+        (λ f.
+        let b : new ≡ old = replay-kept z (st .head) (commitRecord st w) (st .table) full s n f .slot in
+        record {
+          names = record { page = ap (λ (u : Slot). u .page) b; original = ap (λ (u : Slot). u .original) b; spare = ap (λ (u : Slot). u .spare) b };
+          shape = ap (shaped z) b ∙ v .slots .shapes s l;
+        })
+        (latest n (commitRecord st w) s)
+
+    pub committed-valid : CommitTaken st w → stateOk (completed st (Commit w)) ≡ true
+    committed-valid h =
+        let v = valid st e in
+        let z = st .sizes in
+        let n = length (commitSlots st w) in
+        let t = commitTable st w in
+        let old = slotIn (st .table) in
+        let new = slotIn t in
+        let a = after (h .writer-low) in
+        let kept : HeldFine z new (st .writers .opened) (st .writers .held) =
+        record { opens = v .held .opens; owned = λ s u l m d x. v .held .owned s u l m d (sym (a s l .names .page) ∙ x); apart = v .held .apart } in
+        valid-ok (completed st (Commit w))
+        (record {
+          legal = v .legal;
+          positions = positions-more z (v .legal) (st .head) (st .tail) (v .positions) n (h .fits);
+          slots =
+              record {
+                shapes = λ s l. a s l .shape;
+                apart = λ s k l m d. apart-renamed (old s) (old k) (new s) (new k) (a s l .names) (a k m .names) (v .slots .apart s k l m d);
+              };
+          held = closed-fine z (v .legal) (st .writers) w new kept;
+          next-low = v .next-low;
+          lasts = lasts-more z (v .legal) (st .head) (st .tail) (v .positions) n (h .fits) (commitRecord st w) (st .table) full (v .lasts);
+          pending = idle-ok (completed st (Commit w)) refl;
+        })
+
+pub commit-valid : (st : State) (w : ℕ) → stateOk st ≡ true → Sixteen (st .table) → refusal (commitRows st w) ≡ 0 → stateOk (completed st (Commit w)) ≡ true
+commit-valid st w e full r = committed-valid st w e full (commit-taken st w r)

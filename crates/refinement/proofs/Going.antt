@@ -1,0 +1,94 @@
+-- What row 8 tells of a state with an operation pending, as the functions that make its stores require it.
+use Prim.Native.Nat.{ℕ, _+_, _*_, _<_, _≤_}
+use mathlib.Core.Bool.{true, false}
+use mathlib.Core.List.{List}
+use mathlib.Core.Path.{_≡_, refl, sym, ap, _∙_}
+use native.Mathlib.Omega.{arith}
+use lib.Dec.{eqb}
+use lib.ListN.{length}
+use borrow.Author.Tests.{ltb-true}
+use Rattle.bounded.proofs.Tests.{row-keeps}
+use Rattle.bounded.specs.Below.{upTo}
+use Rattle.bounded.specs.Rows.{refusal}
+use Rattle.replay.specs.Table.{slotsShaped}
+use Rattle.state.specs.declared.State.{State}
+use Rattle.state.specs.declared.Op.{Op}
+use Rattle.state.specs.declared.Op.the-variants.{Write, Commit, Consolidate, Checkpoint}
+use Rattle.operations.specs.Operations.{Ranged, isIdle, opRows, needs, commitNeeds, checkpointNeeds, recordedSlots}
+use Rattle.validity.specs.Validity.{stateOk}
+use Rattle.validity.proofs.Ranged.{slots-good, ranged}
+use Rattle.operations.proofs.Taken.{WriteTaken, write-taken, CommitTaken, commit-taken, ConsolidateTaken, consolidate-taken}
+use Rattle.refinement.specs.Frames.{pageSlot}
+use Rattle.refinement.specs.Commit.{commitSlots}
+use Rattle.refinement.specs.Consolidate.{copyStoreCount}
+use Rattle.refinement.specs.Stores.{left, storeMade, storesMade}
+use Rattle.refinement.proofs.StateValid.{parts}
+use Rattle.refinement.proofs.Pending.{pends}
+
+-- its numbers are in their ranges and its slots have shapes
+module _ (st : State) (e : stateOk st ≡ true) where
+  pub ranges-of : Ranged st
+  ranges-of = let h = parts st e in ranged st (h .slots) (ltb-true (st .next) (st .sizes .slots) (h .next))
+
+  pub shapes-of : slotsShaped (st .sizes) (st .table) ≡ true
+  shapes-of = slots-good (st .sizes) (st .head) (st .tail) (st .table) (parts st e .slots) .shapes
+
+pub record Going (st : State) : Type 0 where
+  pub ranges : Ranged st
+  pub shapes : slotsShaped (st .sizes) (st .table) ≡ true
+  pub made-low : st .pending .made < needs st (st .pending .op)
+  pub taken : refusal (opRows st (st .pending .op) (st .pending .frame)) ≡ 0
+
+pub going : (st : State) → stateOk st ≡ true → isIdle (st .pending .op) ≡ false → Going st
+going st e i =
+    let p = pends st (st .pending .op) e refl i in
+    record { ranges = ranges-of st e; shapes = shapes-of st e; made-low = p .made-low; taken = p .taken }
+
+-- ---- what no row tells, by the operation
+
+module _ (st : State) (taken : refusal (opRows st (st .pending .op) (st .pending .frame)) ≡ 0) where
+  pub write-of : {w p l o n : ℕ} → st .pending .op ≡ Write w p l o n → WriteTaken st w p l o n (st .pending .frame)
+  write-of {w} {p} {l} {o} {n} e = write-taken st w p l o n (st .pending .frame) (rw e at taken)
+
+  pub commit-of : {w : ℕ} → st .pending .op ≡ Commit w → CommitTaken st w
+  commit-of {w} e = commit-taken st w (rw e at taken)
+
+  pub consolidate-of : {p : ℕ} → st .pending .op ≡ Consolidate p → ConsolidateTaken st p
+  consolidate-of {p} e = consolidate-taken st p (rw e at taken)
+
+-- ---- of n stores that are left, the last is the operation's at most
+
+module _ (st : State) (g : Going st) (n : ℕ) (h : n ≤ left st) where
+  pub write-left : {w p l o k : ℕ} → st .pending .op ≡ Write w p l o k → st .pending .made + n ≤ 8
+  unfolding needs
+  write-left e =
+      let q : needs st (st .pending .op) ≡ 8 = rw e in
+      omega (arith, g .made-low)
+
+  pub commit-left : {w : ℕ} → st .pending .op ≡ Commit w
+      → (st .pending .made ≤ 4 * length (commitSlots st w)) × (st .pending .made + n ≤ 4 * length (commitSlots st w) + 1)
+  unfolding needs
+  commit-left {w} e =
+      let q : needs st (st .pending .op) ≡ commitNeeds (length (commitSlots st w)) = rw e in
+      let m : commitNeeds (length (commitSlots st w)) ≤ 4 * length (commitSlots st w) + 1 = row-keeps (λ (x : ℕ). x ≤ 4 * length (commitSlots st w) + 1) (eqb (length (commitSlots st w)) 0) 0 (4 * length (commitSlots st w) + 1) (omega arith) (omega arith) in
+      (omega (arith, g .made-low), omega (arith, g .made-low))
+
+  pub consolidate-left : {p : ℕ} → st .pending .op ≡ Consolidate p → st .pending .made + n ≤ copyStoreCount (pageSlot st p) + 6
+  unfolding needs
+  consolidate-left {p} e =
+      let q : needs st (st .pending .op) ≡ copyStoreCount (pageSlot st p) + 6 = rw e in
+      omega (arith, g .made-low)
+
+  pub checkpoint-left : st .pending .op ≡ Checkpoint
+      → (st .pending .made ≤ 3 * length (recordedSlots (st .sizes) (st .table .last))) × (st .pending .made + n ≤ 3 * length (recordedSlots (st .sizes) (st .table .last)) + 1)
+  unfolding needs
+  checkpoint-left e =
+      let c = length (recordedSlots (st .sizes) (st .table .last)) in
+      let q : needs st (st .pending .op) ≡ checkpointNeeds (st .head) (st .tail) c = rw e in
+      let m : checkpointNeeds (st .head) (st .tail) c ≤ 3 * c + 1 = row-keeps (λ (x : ℕ). x ≤ 3 * c + 1) (eqb (st .head) (st .tail)) 0 (3 * c + 1) (omega arith) (omega arith) in
+      (omega (arith, g .made-low), omega (arith, g .made-low))
+
+-- ---- the stores of the pending operation, its arguments known
+
+pub stores-of : (st : State) {op : Op} (n : ℕ) (img m : List ℕ) → st .pending .op ≡ op → m ≡ upTo n (λ i x. storeMade st x op (st .pending .made + i)) img → m ≡ storesMade st n img
+stores-of st n img m e q = q ∙ sym (ap (λ (o : Op). upTo n (λ i x. storeMade st x o (st .pending .made + i)) img) e)

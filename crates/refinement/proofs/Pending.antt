@@ -1,0 +1,86 @@
+-- The pending operation of a valid state: fewer stores made than it needs, and no row turns it back. Until its last
+-- store, a store keeps the state valid, and what the operation needs stays the same.
+use Prim.Native.Nat.{ℕ, _<_}
+use mathlib.Core.Bool.{Bool, true, false, _&&_, _||_}
+use mathlib.Core.Path.{_≡_, refl, sym, ap, _∙_}
+use lib.Dec.{ltb, eqb}
+use borrow.Author.Tests.{eqb-true, ltb-true, lt-ltb, eq-eqb}
+use Rattle.bounded.specs.Rows.{refusal}
+use Rattle.bounded.proofs.Tests.{and-left, and-right}
+use Rattle.state.specs.declared.State.{State}
+use Rattle.state.specs.declared.Op.{Op}
+use Rattle.state.specs.declared.Op.the-variants.{Idle, Write, Commit, Consolidate, Checkpoint}
+use Rattle.operations.specs.Operations.{isIdle, opRows, needs}
+use Rattle.validity.specs.Validity.{pendingOk, stateOk}
+use Rattle.refinement.specs.Stores.{withMade}
+use Rattle.refinement.proofs.StateValid.{valid, valid-ok}
+
+-- nothing is pending
+pub idle-ok : (st : State) → isIdle (st .pending .op) ≡ true → pendingOk st ≡ true
+unfolding pendingOk
+idle-ok st e = rw e
+
+-- an operation is
+pub record Pends (st : State) (op : Op) : Type 0 where
+  pub made-low : st .pending .made < needs st op
+  pub taken : refusal (opRows st op (st .pending .frame)) ≡ 0
+
+pub pends-ok : (st : State) (op : Op) → st .pending .op ≡ op → Pends st op → pendingOk st ≡ true
+unfolding pendingOk
+pends-ok st op e h =
+    let busy : ltb (st .pending .made) (needs st op) && eqb (refusal (opRows st op (st .pending .frame))) 0 ≡ true =
+    rw (lt-ltb (st .pending .made) (needs st op) (h .made-low)) (eq-eqb (refusal (opRows st op (st .pending .frame))) 0 (h .taken)) in
+    or-second (isIdle (st .pending .op)) (ltb (st .pending .made) (needs st (st .pending .op)) && eqb (refusal (opRows st (st .pending .op) (st .pending .frame))) 0)
+    (ap (λ (o : Op). ltb (st .pending .made) (needs st o) && eqb (refusal (opRows st o (st .pending .frame))) 0) e ∙ busy)
+  where
+    or-second : (a b : Bool) → b ≡ true → a || b ≡ true
+    or-second true b e = refl
+    or-second false b e = e
+
+pub pends : (st : State) (op : Op) → stateOk st ≡ true → st .pending .op ≡ op → isIdle op ≡ false → Pends st op
+unfolding pendingOk
+pends st op v e i =
+    let a = ltb (st .pending .made) (needs st op) in
+    let b = eqb (refusal (opRows st op (st .pending .frame))) 0 in
+    let h : isIdle op || (a && b) ≡ true =
+    ap (λ (o : Op). isIdle o || (ltb (st .pending .made) (needs st o) && eqb (refusal (opRows st o (st .pending .frame))) 0)) (sym e) ∙ valid st v .pending in
+    let k : a && b ≡ true = ap (λ (x : Bool). x || (a && b)) (sym i) ∙ h in
+    record {
+      made-low = ltb-true (st .pending .made) (needs st op) (and-left a b k);
+      taken = eqb-true (refusal (opRows st op (st .pending .frame))) 0 (and-right a b k);
+    }
+
+-- what an operation needs does not depend on the stores made
+pub needs-made : (st : State) (m : ℕ) (op : Op) → needs (withMade st m) op ≡ needs st op
+unfolding needs
+needs-made st m Idle = refl
+needs-made st m (Write w p l o n) = refl
+needs-made st m (Commit w) = refl
+needs-made st m (Consolidate p) = refl
+needs-made st m Checkpoint = refl
+
+-- nor do its rows
+pub rows-made : (st : State) (m : ℕ) (op : Op) (f : ℕ) → refusal (opRows (withMade st m) op f) ≡ refusal (opRows st op f)
+rows-made st m Idle f = refl
+rows-made st m (Write w p l o n) f = refl
+rows-made st m (Commit w) f = refl
+rows-made st m (Consolidate p) f = refl
+rows-made st m Checkpoint f = refl
+
+pub made-valid : (st : State) (m : ℕ) → stateOk st ≡ true → isIdle (st .pending .op) ≡ false → m < needs st (st .pending .op) → stateOk (withMade st m) ≡ true
+made-valid st m e i l =
+    let v = valid st e in
+    let h = pends st (st .pending .op) e refl i in
+    let op = st .pending .op in
+    valid-ok (withMade st m)
+    (record {
+      legal = v .legal;
+      positions = v .positions;
+      slots = v .slots;
+      held = v .held;
+      next-low = v .next-low;
+      lasts = v .lasts;
+      pending =
+          pends-ok (withMade st m) op refl
+          (record { made-low = rw (needs-made st m op) l; taken = rows-made st m op (st .pending .frame) ∙ h .taken });
+    })

@@ -1,0 +1,143 @@
+-- The calls: for each the table of refusals in its order, and what a taken one does (document 01, "Calls").
+use Prim.Native.Nat.{ℕ, _*_, _+_, _-_, min}
+use mathlib.Core.Bool.{Bool, true, _&&_, _||_, not, cond}
+use mathlib.Core.List.{List, [], _∷_, _++_}
+use lib.Dec.{ltb, leb, eqb}
+use lib.ListN.{length, set, replicate}
+use Rattle.bounded.specs.Rows.{Row, refusal}
+use Rattle.layout.specs.Layout.{imageLength}
+use Rattle.image.specs.Lines.{lineBytes, merged, lineWords}
+use Rattle.words.specs.Words.{over}
+use Rattle.state.specs.declared.State.{State}
+use Rattle.state.specs.declared.Writers.{Writers}
+use Rattle.state.specs.declared.Op.{Op}
+use Rattle.state.specs.declared.Op.the-variants.{Idle, Write, Commit, Consolidate, Checkpoint}
+use Rattle.state.specs.Held.{isOpen}
+use Rattle.operations.specs.Operations.{isIdle, slotFor, frameBad, writeRows, commitRows, consolidateRows, needs}
+use Rattle.validity.specs.Validity.{stateOk}
+use Rattle.refinement.specs.Commit.{closedWriter}
+use Rattle.refinement.specs.Frames.{pageFrame, seenFrame}
+use Rattle.refinement.specs.Stores.{World, completed, stepped, steppedBy, left}
+use Rattle.refinement.specs.Outcome.{Outcome, answered}
+
+-- 8: a state that breaks the rules; 4: a short buffer; 9, 10: an operation is pending, none is
+abbrev pub rowState : State → Row
+rowState st = (not (stateOk st), 8)
+
+abbrev pub rowShort : State → ℕ → Row
+rowShort st n = (ltb n (imageLength (st .sizes)), 4)
+
+abbrev pub rowPending : State → Row
+rowPending st = (not (isIdle (st .pending .op)), 9)
+
+abbrev pub rowNotPending : State → Row
+rowNotPending st = (isIdle (st .pending .op), 10)
+
+-- the rows that come first where nothing may be pending
+abbrev pub quietRows : State → ℕ → List Row
+quietRows st n = rowState st ∷ rowShort st n ∷ rowPending st ∷ []
+
+-- and those where something must be
+abbrev pub busyRows : State → ℕ → List Row
+busyRows st n = rowState st ∷ rowShort st n ∷ rowNotPending st ∷ []
+
+-- the state with writers ws
+abbrev pub withWriters : State → Writers → State
+withWriters st ws =
+    record { sizes = st .sizes; head = st .head; tail = st .tail; next = st .next; table = st .table; writers = ws; pending = st .pending }
+
+-- ---- begin, abort
+
+abbrev pub beginRows : State → ℕ → List Row
+beginRows st w = rowState st ∷ rowPending st ∷ (ltb 3 w, 11) ∷ (isOpen (st .writers .opened) w, 12) ∷ []
+
+unfoldable pub beginOf : State → ℕ → Outcome
+beginOf st w =
+    answered (refusal (beginRows st w)) st 0 (withWriters st (record { opened = set (st .writers .opened) w true; held = st .writers .held }))
+
+abbrev pub abortRows : State → ℕ → List Row
+abortRows st w = rowState st ∷ rowPending st ∷ (ltb 3 w, 11) ∷ (not (isOpen (st .writers .opened) w), 13) ∷ []
+
+unfoldable pub abortOf : State → ℕ → Outcome
+abortOf st w = answered (refusal (abortRows st w)) st 0 (withWriters st (closedWriter (st .sizes) (st .writers) w))
+
+-- ---- operations asked for: complete where no store is needed, else pending
+
+abbrev pub withPending : State → Op → List ℕ → ℕ → State
+withPending st op line frame =
+    record { sizes = st .sizes; head = st .head; tail = st .tail; next = st .next; table = st .table; writers = st .writers; pending = record { op = op; made = 0; line = line; frame = frame } }
+
+abbrev pub asked : ℕ → State → Op → List ℕ → ℕ → Outcome
+asked row st op line frame =
+    answered row st (needs st op) (cond (eqb (needs st op) 0) (completed st op) (withPending st op line frame))
+
+-- the line as the writer reads it, with the data's first n bytes laid over
+abbrev pub finishedLine : State → List ℕ → ℕ → ℕ → ℕ → ℕ → ℕ → List ℕ → List ℕ
+finishedLine st img w p l o n bytes =
+    lineWords (merged (lineBytes img (st .sizes) (seenFrame st w p l (pageFrame st img p)) l) o n bytes)
+
+abbrev pub writeCallRows : State → List ℕ → ℕ → ℕ → ℕ → ℕ → ℕ → List ℕ → List Row
+writeCallRows st img w p l o n bytes =
+    rowState st ∷ rowShort st (length img) ∷ rowPending st ∷ (ltb (length bytes) n, 11) ∷ writeRows st w p l o n (pageFrame st img p)
+
+unfoldable pub writeOf : State → List ℕ → ℕ → ℕ → ℕ → ℕ → ℕ → List ℕ → Outcome
+writeOf st img w p l o n bytes =
+    asked (refusal (writeCallRows st img w p l o n bytes)) st (Write w p l o n) (finishedLine st img w p l o n bytes) (pageFrame st img p)
+
+abbrev pub commitCallRows : State → List ℕ → ℕ → List Row
+commitCallRows st img w = rowState st ∷ rowShort st (length img) ∷ rowPending st ∷ commitRows st w
+
+unfoldable pub commitOf : State → List ℕ → ℕ → Outcome
+commitOf st img w = asked (refusal (commitCallRows st img w)) st (Commit w) (replicate 8 0) 0
+
+abbrev pub consolidateCallRows : State → List ℕ → ℕ → List Row
+consolidateCallRows st img p = rowState st ∷ rowShort st (length img) ∷ rowPending st ∷ consolidateRows st p
+
+unfoldable pub consolidateOf : State → List ℕ → ℕ → Outcome
+consolidateOf st img p = asked (refusal (consolidateCallRows st img p)) st (Consolidate p) (replicate 8 0) 0
+
+abbrev pub checkpointCallRows : State → List ℕ → List Row
+checkpointCallRows st img = rowState st ∷ rowShort st (length img) ∷ rowPending st ∷ []
+
+unfoldable pub checkpointOf : State → List ℕ → Outcome
+checkpointOf st img = asked (refusal (checkpointCallRows st img)) st Checkpoint (replicate 8 0) 0
+
+-- ---- read: the number, and the target after it
+
+abbrev pub readRows : State → List ℕ → ℕ → ℕ → ℕ → List ℕ → List Row
+readRows st img w p l target =
+    rowState st ∷ rowShort st (length img) ∷ rowPending st
+    ∷ (ltb 3 w || leb (st .sizes .pages) p || ltb 63 l || ltb (length target) 64, 11)
+    ∷ (frameBad (st .sizes) (st .table .page) (st .table .original) (st .table .spare) (slotFor st p) (pageFrame st img p), 16)
+    ∷ []
+
+unfoldable pub readRow : State → List ℕ → ℕ → ℕ → ℕ → List ℕ → ℕ
+readRow st img w p l target = refusal (readRows st img w p l target)
+
+unfoldable pub readBytes : State → List ℕ → ℕ → ℕ → ℕ → List ℕ → List ℕ
+readBytes st img w p l target =
+    cond (eqb (readRow st img w p l target) 0) (over target 0 (lineBytes img (st .sizes) (seenFrame st w p l (pageFrame st img p)) l)) target
+
+-- ---- step, run: the outcome, and the image after it
+
+abbrev pub stepRows : State → List ℕ → List Row
+stepRows st img = busyRows st (length img)
+
+abbrev pub stepRow : State → List ℕ → ℕ
+stepRow st img = refusal (stepRows st img)
+
+abbrev pub worldOf : State → List ℕ → World
+worldOf st img = record { st = st; image = img }
+
+-- step makes one store; run makes at most k, the smaller of k and those left
+unfoldable pub runOf : State → List ℕ → ℕ → Outcome
+runOf st img k = let n = min k (left st) in answered (stepRow st img) st n (steppedBy n (worldOf st img) .st)
+
+unfoldable pub runBytes : State → List ℕ → ℕ → List ℕ
+runBytes st img k = cond (eqb (stepRow st img) 0) (steppedBy (min k (left st)) (worldOf st img) .image) img
+
+unfoldable pub stepOf : State → List ℕ → Outcome
+stepOf st img = answered (stepRow st img) st 1 (stepped (worldOf st img) .st)
+
+unfoldable pub stepBytes : State → List ℕ → List ℕ
+stepBytes st img = cond (eqb (stepRow st img) 0) (stepped (worldOf st img) .image) img

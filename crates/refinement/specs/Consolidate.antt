@@ -1,0 +1,91 @@
+-- Consolidate: k is the number of ones in the bitmap. If k ≤ 32, those k lines go from spare to original; otherwise the
+-- 64 − k others go from original to spare and the two frames change roles. Then the page-table word, a record that frees
+-- the slot, and head.
+use Prim.Native.Nat.{ℕ, _+_, _-_, _*_, _/_, _%_, _<_}
+use mathlib.Core.Bool.{Bool, true, cond}
+use mathlib.Core.List.{List, []}
+use mathlib.Core.Path.{_≡_}
+use lib.Dec.{ltb, leb, eqb}
+use lib.ListN.{getD}
+use Rattle.bounded.specs.Below.{upTo}
+use Rattle.layout.specs.declared.Sizes.{Sizes}
+use Rattle.layout.specs.Layout.{Legal, headWord, pageWord, recordWord, lineWord}
+use Rattle.words.specs.Words.{word, store}
+use Rattle.journal.specs.declared.Slot.{Slot}
+use Rattle.journal.specs.declared.Record.{Record}
+use Rattle.replay.specs.declared.Table.{Table}
+use Rattle.journal.specs.Slots.{freeSlot}
+use Rattle.journal.specs.Records.{position, wordOfRecord}
+use Rattle.replay.specs.Table.{slotIn, slotsOfArrays, slotsShaped, replay}
+use Rattle.masks.specs.Lines.{countLines, linesIn, linesNotIn}
+use Rattle.state.specs.declared.State.{State}
+use Rattle.operations.specs.Operations.{slotFor, slotted, copyCount}
+use Rattle.refinement.specs.Frames.{pageSlot}
+use Rattle.refinement.specs.Settled.{noPending}
+
+-- k ≤ 32
+abbrev pub isFew : Slot → Bool
+isFew t = leb (countLines (t .bitmap)) 32
+
+-- the frame that the lines go to, the one that they come from, and the lines, rising
+abbrev pub copyTo : Slot → ℕ
+copyTo t = cond (isFew t) (t .original) (t .spare)
+
+abbrev pub copyFrom : Slot → ℕ
+copyFrom t = cond (isFew t) (t .spare) (t .original)
+
+abbrev pub copyLines : Slot → List ℕ
+copyLines t = cond (isFew t) (linesIn (t .bitmap)) (linesNotIn (t .bitmap))
+
+abbrev pub copyStoreCount : Slot → ℕ
+copyStoreCount t = 8 * copyCount (t .bitmap)
+
+-- the record that frees the slot; its spare is the frame that the lines came from
+unfoldable pub freeingRecord : State → ℕ → ℕ → Record
+freeingRecord st p j = record { first = st .head; slot = slotFor st p; now = freeSlot (copyFrom (pageSlot st p)) }
+
+-- store i, of a slot t that record e frees: 8 c for the lines, the page-table word, the record's four, head
+abbrev pub consolidationAt : Sizes → ℕ → Slot → ℕ → ℕ → ℕ
+consolidationAt z head t p i =
+    let c = copyStoreCount t in
+    cond (ltb i c) (lineWord z (copyTo t) (getD (copyLines t) (i / 8) 64) + i % 8)
+    (cond (eqb i c) (pageWord p)
+    (cond (ltb i (c + 5)) (recordWord z head + (i - (c + 1))) headWord))
+
+abbrev pub consolidationValue : Sizes → ℕ → Slot → Record → List ℕ → ℕ → ℕ
+consolidationValue z head t e img i =
+    let c = copyStoreCount t in
+    cond (ltb i c) (word img (lineWord z (copyFrom t) (getD (copyLines t) (i / 8) 64) + i % 8))
+    (cond (eqb i c) (copyTo t)
+    (cond (ltb i (c + 5)) (wordOfRecord e (i - (c + 1))) (position z head 1)))
+
+-- of the slot of page p
+unfoldable pub consolidateAt : State → ℕ → ℕ → ℕ
+consolidateAt st p i = consolidationAt (st .sizes) (st .head) (pageSlot st p) p i
+
+unfoldable pub consolidateValue : State → List ℕ → ℕ → ℕ → ℕ
+consolidateValue st img p i = consolidationValue (st .sizes) (st .head) (pageSlot st p) (freeingRecord st p 0) img i
+
+-- what they lean on: numbers in their ranges, slots with shapes, a page that has one
+pub record Consolidates (st : State) (p : ℕ) : Type 0 where
+  pub legal : Legal (st .sizes)
+  pub head-low : st .head < 2 * st .sizes .places
+  pub shapes : slotsShaped (st .sizes) (st .table) ≡ true
+  pub page-low : p < st .sizes .pages
+  pub has-slot : slotted st p ≡ true
+
+-- n stores from store `from` on
+abbrev pub consolidationStores : Sizes → ℕ → Slot → Record → ℕ → ℕ → ℕ → List ℕ → List ℕ
+consolidationStores z head t e p from n img =
+    upTo n (λ i m. store m (consolidationAt z head t p (from + i)) (consolidationValue z head t e m (from + i))) img
+
+abbrev pub consolidateStores : State → ℕ → ℕ → ℕ → List ℕ → List ℕ
+consolidateStores st p from n img = upTo n (λ i m. store m (consolidateAt st p (from + i)) (consolidateValue st m p (from + i))) img
+
+-- a state by what these stores read of it
+abbrev pub consolidating : Sizes → ℕ → List ℕ → List ℕ → List ℕ → List ℕ → State
+consolidating z head page original spare bitmap =
+    record { sizes = z; head = head; tail = 0; next = 0; table = slotsOfArrays page original spare bitmap; writers = record { opened = []; held = [] }; pending = noPending }
+
+abbrev pub consolidateTable : State → ℕ → Table
+consolidateTable st p = replay (st .sizes) (st .head) 1 (freeingRecord st p) (st .table)

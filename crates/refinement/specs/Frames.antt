@@ -1,0 +1,47 @@
+-- Where the copies of a line lie: bit l of a slot's bitmap is 0 where line l's committed copy is in the original
+-- frame, 1 where it is in the spare.
+use Prim.Native.Nat.{ℕ}
+use mathlib.Core.Bool.{Bool, cond}
+use mathlib.Core.List.{List}
+use lib.Dec.{ltb}
+use lib.ListN.{getD}
+use Rattle.layout.specs.declared.Sizes.{Sizes}
+use Rattle.layout.specs.Layout.{pageWord}
+use Rattle.words.specs.Words.{word}
+use Rattle.journal.specs.declared.Slot.{Slot}
+use Rattle.replay.specs.Table.{slotIn}
+use Rattle.masks.specs.Lines.{inMask}
+use Rattle.state.specs.declared.State.{State}
+use Rattle.state.specs.Held.{heldAt}
+use Rattle.operations.specs.Operations.{slotFor}
+
+-- the slot of a slotted page
+abbrev pub pageSlot : State → ℕ → Slot
+pageSlot st p = slotIn (st .table) (slotFor st p)
+
+-- slot s, with page p, of arrays
+abbrev pub slotAt : ℕ → List ℕ → List ℕ → List ℕ → ℕ → Slot
+slotAt p original spare bitmap s = record { page = p; original = getD original s 0; spare = getD spare s 0; bitmap = getD bitmap s 0 }
+
+-- the frame with the committed copy of line l of a slot's page, and the other one
+abbrev pub committedFrame : Slot → ℕ → ℕ
+committedFrame t l = cond (inMask (t .bitmap) l) (t .spare) (t .original)
+
+abbrev pub otherFrame : Slot → ℕ → ℕ
+otherFrame t l = cond (inMask (t .bitmap) l) (t .original) (t .spare)
+
+-- page p's frame, s being its slot, S where it has none: a slotted page's original, else its page-table word
+abbrev pub frameAt : Sizes → List ℕ → List ℕ → ℕ → ℕ → ℕ
+frameAt z original img p s = cond (ltb s (z .slots)) (getD original s 0) (word img (pageWord p))
+
+unfoldable pub pageFrame : State → List ℕ → ℕ → ℕ
+pageFrame st img p = frameAt (st .sizes) (st .table .original) img p (slotFor st p)
+
+-- the frame that a line l is read from, f being the page's frame, s its slot, S where it has none, t that slot, and
+-- mine the lines that the reader holds of it: a held line shows the writer's own copy, any other the committed one
+abbrev pub seenAt : Sizes → Slot → ℕ → ℕ → ℕ → ℕ → ℕ
+seenAt z t mine s l f = cond (ltb s (z .slots)) (cond (inMask mine l) (otherFrame t l) (committedFrame t l)) f
+
+-- the frame that writer w reads line l of page p from
+unfoldable pub seenFrame : State → ℕ → ℕ → ℕ → ℕ → ℕ
+seenFrame st w p l f = seenAt (st .sizes) (pageSlot st p) (heldAt (st .writers .held) w (slotFor st p)) (slotFor st p) l f

@@ -1,0 +1,81 @@
+-- Store i of an operation, and the state when its last store is made. Until then only the count of stores made changes.
+use Prim.Native.Nat.{ℕ, _+_, _-_, min}
+use mathlib.Core.Bool.{Bool, cond}
+use mathlib.Core.List.{List}
+use lib.Dec.{eqb}
+use Rattle.bounded.specs.Below.{upTo}
+use Rattle.words.specs.Words.{store}
+use Rattle.journal.specs.Records.{position}
+use Rattle.state.specs.declared.State.{State}
+use Rattle.state.specs.declared.Op.{Op}
+use Rattle.state.specs.declared.Op.the-variants.{Idle, Write, Commit, Consolidate, Checkpoint}
+use Rattle.operations.specs.Operations.{needs}
+use Rattle.refinement.specs.Settled.{settled}
+use Rattle.refinement.specs.Write.{writeAt, writeValue, writeTable, writeNext, writeWriters}
+use Rattle.refinement.specs.Commit.{commitAt, commitValue, commitHead, commitTable, closedWriter}
+use Rattle.refinement.specs.Consolidate.{consolidateAt, consolidateValue, consolidateTable}
+use Rattle.refinement.specs.Checkpoint.{checkpointAt, checkpointValue, withoutLasts}
+
+-- the word that store i goes to, and its value
+abbrev pub storeAt : State → Op → ℕ → ℕ
+storeAt st Idle i = 0
+storeAt st (Write w p l o n) i = writeAt st p l i
+storeAt st (Commit w) i = commitAt st w i
+storeAt st (Consolidate p) i = consolidateAt st p i
+storeAt st Checkpoint i = checkpointAt st i
+
+abbrev pub storeValue : State → List ℕ → Op → ℕ → ℕ
+storeValue st img Idle i = 0
+storeValue st img (Write w p l o n) i = writeValue st i
+storeValue st img (Commit w) i = commitValue st w i
+storeValue st img (Consolidate p) i = consolidateValue st img p i
+storeValue st img Checkpoint i = checkpointValue st img i
+
+-- the image after store i
+abbrev pub storeMade : State → List ℕ → Op → ℕ → List ℕ
+storeMade st img op i = store img (storeAt st op i) (storeValue st img op i)
+
+-- the image after the next n stores of the pending operation
+abbrev pub storesMade : State → ℕ → List ℕ → List ℕ
+storesMade st n img = upTo n (λ i m. storeMade st m (st .pending .op) (st .pending .made + i)) img
+
+-- the state when an operation is complete
+abbrev pub completed : State → Op → State
+completed st Idle = st
+completed st (Write w p l o n) = settled st (st .head) (st .tail) (writeNext st p) (writeTable st p) (writeWriters st w p l)
+completed st (Commit w) = settled st (commitHead st w) (st .tail) (st .next) (commitTable st w) (closedWriter (st .sizes) (st .writers) w)
+completed st (Consolidate p) = settled st (position (st .sizes) (st .head) 1) (st .tail) (st .next) (consolidateTable st p) (st .writers)
+completed st Checkpoint = settled st (st .head) (st .head) (st .next) (withoutLasts (st .sizes) (st .table)) (st .writers)
+
+-- the state with m stores made
+abbrev pub withMade : State → ℕ → State
+withMade st m =
+    record { sizes = st .sizes; head = st .head; tail = st .tail; next = st .next; table = st .table; writers = st .writers; pending = record { op = st .pending .op; made = m; line = st .pending .line; frame = st .pending .frame } }
+
+-- the state after the next n stores of the pending operation: with the last of them it is complete
+abbrev pub stateAfter : State → ℕ → State
+stateAfter st n =
+    let m = st .pending .made + n in
+    cond (eqb m (needs st (st .pending .op))) (completed st (st .pending .op)) (withMade st m)
+
+-- a state and the image that it works on
+pub record World : Type 0 where
+  pub st : State
+  pub image : List ℕ
+
+-- one store of the pending operation
+unfoldable pub stepped : World → World
+stepped v =
+    let op = v .st .pending .op in
+    let m = v .st .pending .made in
+    record {
+      st = cond (eqb (m + 1) (needs (v .st) op)) (completed (v .st) op) (withMade (v .st) (m + 1));
+      image = storeMade (v .st) (v .image) op m;
+    }
+
+-- the stores left, and n of them made one after the other
+abbrev pub left : State → ℕ
+left st = needs st (st .pending .op) - st .pending .made
+
+unfoldable pub steppedBy : ℕ → World → World
+steppedBy n v = upTo n (λ i u. stepped u) v

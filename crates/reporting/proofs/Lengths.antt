@@ -1,0 +1,93 @@
+-- How many numbers a state has, and how long the texts are: what the room in the buffer is reckoned from.
+use Prim.Native.Nat.{ℕ, _+_, _-_, _*_, _≤_, min}
+use mathlib.Core.Bool.{false}
+use mathlib.Core.List.{List, _++_}
+use mathlib.Core.Path.{_≡_, refl, ap}
+use native.Mathlib.Omega.{arith}
+use lib.ListN.{length, take, drop, getD, length-append, length-take}
+use Rattle.bounded.specs.Below.{one}
+use Rattle.bounded.proofs.Tab.{length-tab}
+use Rattle.words.specs.Words.{part}
+use Rattle.words.proofs.Bytes.{length-bytes}
+use Rattle.replay.specs.declared.Table.{Table}
+use Rattle.state.specs.declared.Op.the-variants.{Idle, Write, Commit, Consolidate, Checkpoint}
+use Rattle.state.specs.declared.Op.{Op}
+use Rattle.state.specs.declared.Pending.{Pending}
+use Rattle.state.specs.declared.State.{State}
+use Rattle.state.specs.declared.Writers.{Writers}
+use Rattle.text.proofs.Printing.{decimal-le}
+use Rattle.editing.specs.declared.Said.the-variants.{OtherForm, Answered, Hash, Numbers}
+use Rattle.editing.specs.declared.Said.{Said}
+use Rattle.reporting.specs.Text.{each, lineBytes, slotNumbers, openNumbers, heldNumbers, writerNumbers, opNumbers, finishedNumbers, pendingNumbers, headerNumbers, numbersPastP, blanked, field, dash, stateField, saidText}
+use Rattle.reporting.proofs.Puts.{length-each, length-blanked}
+
+-- ---- numbers
+
+pub slots-long : (t : Table) (n : ℕ) → length (each n (slotNumbers t)) ≤ 5 * n
+slots-long t n = length-each 5 (slotNumbers t) (λ j. omega arith) n
+
+pub length-open : (ws : Writers) → length (openNumbers ws) ≡ 4
+length-open ws = length-tab 4 (λ w. one (getD (ws .opened) w false))
+
+-- a part that is lent, said by its place and length
+pub part-lent : (l : List ℕ) (a n : ℕ) → take (a + n - a) (drop a l) ≡ part l a n
+unfolding part
+part-lent l a n =
+    let e : a + n - a ≡ n = omega arith in
+    ap (λ (k : ℕ). take k (drop a l)) e
+
+pub held-short : (held : List ℕ) (n : ℕ) → n ≤ 16 → (w : ℕ) → length (heldNumbers held n w) ≤ 16
+unfolding part
+held-short held n h w = omega (arith, length-take n (drop (16 * w) held))
+
+writers-long : (ws : Writers) (n : ℕ) → n ≤ 16 → length (writerNumbers ws n) ≤ 68
+writers-long ws n h =
+    let held = each 4 (heldNumbers (ws .held) n) in
+    omega (arith, length-append (openNumbers ws) held, length-open ws, length-each 16 (heldNumbers (ws .held) n) (held-short (ws .held) n h) 4)
+
+pub line-bytes : (words : List ℕ) (i : ℕ) → length (lineBytes words i) ≤ 8
+line-bytes words i = omega (arith, length-bytes 8 (getD words i 0))
+
+pub length-op : (op : Op) (made frame : ℕ) → length (opNumbers op made frame) ≡ 8
+length-op Idle made frame = refl
+length-op (Write w p l o n) made frame = refl
+length-op (Commit w) made frame = refl
+length-op (Consolidate p) made frame = refl
+length-op Checkpoint made frame = refl
+
+finished-long : (op : Op) (words : List ℕ) → length (finishedNumbers op words) ≤ 64
+finished-long Idle words = omega arith
+finished-long (Write w p l o n) words = length-each 8 (lineBytes words) (line-bytes words) 8
+finished-long (Commit w) words = omega arith
+finished-long (Consolidate p) words = omega arith
+finished-long Checkpoint words = omega arith
+
+pending-long : (p : Pending) → length (pendingNumbers p) ≤ 72
+pending-long p =
+    omega (arith, length-append (opNumbers (p .op) (p .made) (p .frame)) (finishedNumbers (p .op) (p .line)), length-op (p .op) (p .made) (p .frame), finished-long (p .op) (p .line))
+
+-- ---- text: a number has at most 20 digits, and a mark stands before it
+
+pub slots-text : (t : Table) (n : ℕ) → n ≤ 16 → length (blanked (each n (slotNumbers t))) ≤ 1680
+slots-text t n h = omega (arith, length-blanked (each n (slotNumbers t)), slots-long t n)
+
+pub writers-text : (ws : Writers) (n : ℕ) → n ≤ 16 → length (blanked (writerNumbers ws n)) ≤ 1428
+writers-text ws n h = omega (arith, length-blanked (writerNumbers ws n), writers-long ws n h)
+
+state-text : (st : State) → length (stateField st) ≤ 4746
+state-text st =
+    let n = min (st .sizes .slots) 16 in
+    let h : n ≤ 16 = omega arith in
+    let s = each n (slotNumbers (st .table)) in
+    let w = writerNumbers (st .writers) n in
+    let p = pendingNumbers (st .pending) in
+    omega (arith, length-append (field (st .sizes .pages)) (blanked (numbersPastP st)), decimal-le (st .sizes .pages), length-blanked (numbersPastP st), length-append (headerNumbers st) (s ++ (w ++ p)), length-append s (w ++ p), length-append w p, slots-long (st .table) n, writers-long (st .writers) n h, pending-long (st .pending))
+
+pub said-text : (letter : ℕ) (said : Said) (st : State) → length (saidText letter said st) ≤ 4789
+said-text letter OtherForm st = omega (arith, length-append (field 0) dash, decimal-le 0)
+said-text letter (Answered number count) st =
+    omega (arith, length-append (field number) (field count ++ dash), length-append (field count) dash, decimal-le number, decimal-le count)
+said-text letter (Hash h) st =
+    omega (arith, length-append (field 0) (field 0 ++ field h), length-append (field 0) (field h), decimal-le 0, decimal-le h)
+said-text letter Numbers st =
+    omega (arith, length-append (field 0) (field 0 ++ stateField st), length-append (field 0) (stateField st), decimal-le 0, state-text st)

@@ -1,0 +1,36 @@
+use native.Mathlib.Omega.{arith}
+use lib.ListN.{length-append}
+use borrow.Author.Needs.{needs}
+use Rattle.text.proofs.Printing.{decimal-le}
+use Rattle.reporting.specs.Text.{field, stateField}
+use Rattle.reporting.proofs.Puts.{put-then, put-as, shown-text}
+use Rattle.reporting.proofs.put_numbered.Statement.{statement}
+use Rattle.reporting.proofs.put_numbered.Tie as tie
+
+put-shown-requires : tie.Need-put-shown-requires
+put-shown-requires c κs = search needs
+
+put-state-requires : tie.Need-put-state-requires
+put-state-requires c κs =
+    let s = c .before .before .before .before .before .before in
+    let shown = c .before .before .before .put-shown in
+    let d = decimal-le 0 in
+    let f = length-append (field 0) (field 0) in
+    omega arith
+
+same-length : tie.Need-same-length
+same-length c = search needs
+
+returns : tie.Need-returns
+returns c =
+    let s = c .before .before .before .before .before .before .before .before .before in
+    let shown = c .before .before .before .before .before .before .put-shown in
+    let last = c .before .before .put-state in
+    let d = decimal-le 0 in
+    let f = length-append (field 0) (field 0) in
+    put-as (shown-text (s .args .letter) (stateField (s .args .st))) (put-then (shown .ensures)
+    (last .ensures)
+    (omega arith))
+
+pub put-numbered-spec : {M : Type 1} → statement M
+put-numbered-spec = tie.close (tie.spec put-shown-requires put-state-requires same-length returns)

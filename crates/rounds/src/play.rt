@@ -1,0 +1,104 @@
+// The rounds. A round is three functions of which each ends in the next: a state that came back from one and went on to another would be copied
+// twice more.
+ghost use Prim.Native.Nat.{_<_};
+use crate::room;
+use layout::Sizes;
+use state::State;
+use transactions::asking;
+
+// The state after the rounds, and the stores that they made.
+pub struct Played {
+    pub state: State,
+    pub stores: u64,
+}
+
+// A line of the eight words v.
+fn line_of(v: u64) -> [u8; 64] {
+    let mut line = [0u8; 64];
+    runs::fill_words(&mut line, 0, 8, v);
+    line
+}
+
+// The pair of pages of round r, of eight; each pair stays for so many rounds.
+fn pair_of(r: usize, stay: usize) -> usize
+    ensures { λ p. ⌜ p < 8 ⌝ }
+{
+    if stay == 0 {
+        return 0;
+    }
+    r / stay % 8
+}
+
+// The round's commit.
+fn close(image: &mut [u8; 84288], stores: &mut u64, st: State) -> State {
+    let done = asking::commit(st, image, 0);
+    let answer = done.answer;
+    if room::is_wanted(answer) {
+        return room::commit(image, stores, done.state);
+    }
+    let done = stepping::run(done.state, image, 1000);
+    let answer = done.answer;
+    room::count(stores, answer);
+    done.state
+}
+
+// The round from its second write on.
+fn go_on(
+    image: &mut [u8; 84288],
+    stores: &mut u64,
+    st: State,
+    page: usize,
+    line: usize,
+    data: &[u8; 64],
+) -> State {
+    let done = asking::write(st, image, 0, page, line, 0, 64, data);
+    let answer = done.answer;
+    if room::is_wanted(answer) {
+        let st = room::write(image, stores, done.state, page, line, data);
+        return close(image, stores, st);
+    }
+    let done = stepping::run(done.state, image, 1000);
+    let answer = done.answer;
+    room::count(stores, answer);
+    close(image, stores, done.state)
+}
+
+// Round r: one of 24 lines of the pair's first page, as meters are, and the next of the 64 of its second, as a history is.
+fn round(image: &mut [u8; 84288], stores: &mut u64, st: State, r: usize, stay: usize) -> State {
+    let page = 2 * pair_of(r, stay);
+    let next = page + 1;
+    let v = 2 * (r as u64 % 4294967296);
+    let one = line_of(v + 1);
+    let two = line_of(v + 2);
+    let done = writers::begin(st, 0);
+    let done = asking::write(done.state, image, 0, page, r % 24, 0, 64, &one);
+    let answer = done.answer;
+    if room::is_wanted(answer) {
+        let st = room::write(image, stores, done.state, page, r % 24, &one);
+        return go_on(image, stores, st, next, r % 64, &two);
+    }
+    let done = stepping::run(done.state, image, 1000);
+    let answer = done.answer;
+    room::count(stores, answer);
+    go_on(image, stores, done.state, next, r % 64, &two)
+}
+
+// A fresh store with n rounds played.
+pub fn rounds(image: &mut [u8; 84288], n: usize, stay: usize) -> Played {
+    let done = mounting::format(
+        image,
+        Sizes {
+            pages: 16,
+            slots: 4,
+            places: 64,
+        },
+    );
+    let mut state = done.state;
+    let mut stores = 0;
+    let mut r = 0;
+    while r < n {
+        state = round(image, &mut stores, state, r, stay);
+        r += 1;
+    }
+    Played { state, stores }
+}

@@ -1,0 +1,79 @@
+-- After i turns the first i words are put; all of them are the bytes of the part.
+use mathlib.Core.Path.{_≡_, refl}
+use Prim.Native.Nat.{_-_, _≤_}
+use borrow.Author.Needs.{needs}
+use native.Mathlib.Omega.{arith}
+use lib.ListN.{length}
+use Rattle.words.specs.Words.{wordsAt, putWords}
+use Rattle.words.proofs.Runs.{puts-words, puts-copied}
+use Rattle.runs.proofs.copy_words.Statement.{statement}
+use Rattle.runs.proofs.copy_words.Tie as tie
+
+abbrev Inv-loop : tie.InvT-loop
+Inv-loop src from dst₀ to n i₀ dst i = (i ≤ n) × (length dst ≡ length dst₀) × (dst ≡ putWords dst₀ to (wordsAt src from i))
+
+abbrev μ-loop : tie.MeasureT-loop
+μ-loop src from dst₀ to n i₀ dst i = n - i
+
+loop-holds : tie.Need-loop-holds Inv-loop μ-loop
+unfolding putWords wordsAt
+loop-holds c = (search needs, refl, refl)
+
+mul-word-at : tie.Need-mul-word-at Inv-loop μ-loop
+mul-word-at c = search needs
+
+add-word-at : tie.Need-add-word-at Inv-loop μ-loop
+add-word-at c = search needs
+
+word-at-requires : tie.Need-word-at-requires Inv-loop μ-loop
+word-at-requires c κs = search needs
+
+mul-put-word : tie.Need-mul-put-word Inv-loop μ-loop
+mul-put-word c = search needs
+
+add-put-word : tie.Need-add-put-word Inv-loop μ-loop
+add-put-word c = search needs
+
+put-word-requires : tie.Need-put-word-requires Inv-loop μ-loop
+put-word-requires c κs = search needs
+
+add-i : tie.Need-add-i Inv-loop μ-loop
+add-i c = search needs
+
+loop-less : tie.Need-loop-less Inv-loop μ-loop
+loop-less c = search needs
+
+loop-again : tie.Need-loop-again Inv-loop μ-loop
+loop-again c =
+    let h = c .before .before .before .before .before .before in
+    let x = h .before .before .before .args in
+    (search needs, search needs, cc (puts-words (x .dst .now) (x .to) (x .src .now) (x .from) (h .loop .i)))
+
+same-length : tie.Need-same-length Inv-loop μ-loop
+same-length c = search needs
+
+returns : tie.Need-returns Inv-loop μ-loop
+returns c =
+    let b = c .before .before .before in
+    let x = b .before .args in
+    let e : c .before .loop .i ≡ x .n = omega arith in
+    cc (puts-copied (x .dst .now) (x .to) (x .src .now) (x .from) (x .n) (λ i. b .shared-slice-known .given i .fits) (search needs) (search needs))
+
+pub copy-words-spec : {M : Type 1} → statement M
+copy-words-spec =
+    tie.close
+    (tie.spec
+    Inv-loop
+    μ-loop
+    loop-holds
+    mul-word-at
+    add-word-at
+    word-at-requires
+    mul-put-word
+    add-put-word
+    put-word-requires
+    add-i
+    loop-less
+    loop-again
+    same-length
+    returns)

@@ -1,0 +1,43 @@
+-- A line performed, with room for what it prints and without.
+use Prim.Native.Nat.{ℕ, _+_, _-_, _≤_}
+use mathlib.Core.Bool.{Bool, true, false}
+use mathlib.Core.List.{List}
+use mathlib.Core.Path.{_≡_, refl, sym, ap, _∙_}
+use lib.Dec.{leb}
+use lib.ListN.{length}
+use native.Mathlib.Omega.{arith}
+use borrow.Author.Tests.{leb-true, leb-false, le-leb, lt-leb}
+use Rattle.bounded.proofs.Tests.{caseOn}
+use Rattle.words.specs.Words.{over}
+use Rattle.text.specs.declared.Line.{Line}
+use Rattle.text.specs.Fields.{parsed}
+use Rattle.script.specs.declared.Machine.{Machine}
+use Rattle.script.specs.declared.Performed.{Performed}
+use Rattle.script.specs.declared.Turned.{Turned}
+use Rattle.script.specs.Output.{outputLine}
+use Rattle.script.specs.Performed.{room, Performance, performed}
+use Rattle.script.specs.Turns.{Turn, turnOf}
+
+-- the test that no sum wraps in
+pub room-left : (size at : ℕ) → 67 ≤ size → leb at (size - 67) ≡ leb (at + room) size
+room-left size at h =
+    caseOn (leb at (size - 67))
+    (λ t. t ∙ sym (le-leb (at + room) size (omega (arith, leb-true at (size - 67) t))))
+    (λ t. t ∙ sym (lt-leb (at + room) size (omega (arith, leb-false at (size - 67) t))))
+
+module _ (m : Machine) (img : List ℕ) (n : ℕ) (line out : List ℕ) (at : ℕ) where
+  abbrev pub Is : Performed → List ℕ → List ℕ → Type 0
+  Is r after put =
+      let p = performed m img n line out at in
+      (r ≡ p .result) × ((after ≡ p .image) × (put ≡ p .out))
+
+  pub perform-none : leb (at + room) (length out) ≡ false → Is (record { machine = m; end = at }) img out
+  unfolding performed
+  perform-none t = rw t (refl, (refl, refl))
+
+  pub perform-done : (l : Line) (t : Turned) (after put : List ℕ) (end : ℕ) → leb (at + room) (length out) ≡ true
+      → l ≡ parsed 9 line → t ≡ turnOf m img l .turned → after ≡ turnOf m img l .image
+      → put ≡ over out at (outputLine n (t .output)) → end ≡ at + length (outputLine n (t .output))
+      → Is (record { machine = t .machine; end = end }) after put
+  unfolding performed
+  perform-done l t after put end h hl ht ha hp he = rw (h, ← hl, ← ht, ← ha, ← hp, ← he) (refl, (refl, refl))

@@ -1,0 +1,42 @@
+use mathlib.Core.Path.{refl}
+use borrow.Author.Needs.{needs}
+use Rattle.script.proofs.Shown.{format-refused, format-taken}
+use Rattle.script.proofs.turns.format_turn.Statement.{statement}
+use Rattle.script.proofs.turns.format_turn.Tie as tie
+
+format-requires : tie.Need-format-requires
+format-requires c κs = search needs
+
+number-of-requires : tie.Need-number-of-requires
+number-of-requires c κs = search needs
+
+same-length : tie.Need-same-length
+same-length c = search needs
+
+returns : tie.Need-returns
+returns c =
+    let a = c .before .before .before .before .before .before .before .args in
+    format-refused (a .m) (a .image .now) _ (a .z) (c .before .before .before .before .format .result) _ _ (c .before .before .before .before .format .ensures .0) (c .before .before .before .before .format .ensures .1) (c .before .number-of .ensures) (c .if1 .taken) refl
+
+answered-requires : tie.Need-answered-requires
+answered-requires c κs = search needs
+
+same-length-2 : tie.Need-same-length-2
+same-length-2 c = search needs
+
+returns-2 : tie.Need-returns-2
+returns-2 c =
+    let a = c .before .before .before .before .before .before .before .before .args in
+    format-taken (a .m) (a .image .now) _ (a .z) (c .before .before .before .before .before .format .result) _ _ (c .before .before .before .before .before .format .ensures .0) (c .before .before .before .before .before .format .ensures .1) (c .before .before .number-of .ensures) (c .before .if1 .left) (c .answered .ensures)
+
+pub format-turn-spec : {M : Type 1} → statement M
+format-turn-spec =
+    tie.close
+    (tie.spec
+    format-requires
+    number-of-requires
+    same-length
+    returns
+    answered-requires
+    same-length-2
+    returns-2)

@@ -1,0 +1,44 @@
+use native.Mathlib.Omega.{arith}
+use borrow.Author.Needs.{needs}
+use Rattle.script.proofs.Shown.{shown-refused, shown-past, shown-byte}
+use Rattle.script.proofs.turns.read_byte.Statement.{statement}
+use Rattle.script.proofs.turns.read_byte.Tie as tie
+
+slice-aggregate-read : tie.Need-slice-aggregate-read
+slice-aggregate-read c = search needs
+
+read-requires : tie.Need-read-requires
+read-requires c κs = search needs
+
+number-of-requires : tie.Need-number-of-requires
+number-of-requires c κs = search needs
+
+returns : tie.Need-returns
+returns c =
+    let a = c .before .before .before .before .before .before .args in
+    shown-refused (a .st) (a .image .now) (a .writer) (a .page) (a .line) (a .offset) (c .before .before .before .read .result) _ (c .before .number-of .ensures) (c .before .before .before .read .ensures .0 .0) (c .if1 .taken)
+
+returns-2 : tie.Need-returns-2
+returns-2 c =
+    let a = c .before .before .before .before .before .before .before .args in
+    shown-past (a .st) (a .image .now) (a .writer) (a .page) (a .line) (a .offset) (c .before .before .before .before .read .result) _ (c .before .before .number-of .ensures) (c .before .before .before .before .read .ensures .0 .0) (c .before .if1 .left) (c .if2 .taken)
+
+array-read-t15 : tie.Need-array-read-t15
+array-read-t15 c = search needs
+
+returns-3 : tie.Need-returns-3
+returns-3 c =
+    let a = c .before .before .before .before .before .before .before .args in
+    shown-byte (a .st) (a .image .now) (a .writer) (a .page) (a .line) (a .offset) (c .before .before .before .before .read .result) _ (c .before .before .number-of .ensures) (c .before .before .before .before .read .ensures .0 .0) _ (c .before .before .before .before .read .ensures .1) (c .before .if1 .left) (c .if2 .left)
+
+pub read-byte-spec : {M : Type 1} → statement M
+read-byte-spec =
+    tie.close
+    (tie.spec
+    slice-aggregate-read
+    read-requires
+    number-of-requires
+    returns
+    returns-2
+    array-read-t15
+    returns-3)

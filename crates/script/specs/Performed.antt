@@ -1,0 +1,40 @@
+-- A line of the input performed: its turn, and the line that it prints.
+use Prim.Native.Nat.{ℕ, _+_}
+use mathlib.Core.Bool.{false, cond}
+use mathlib.Core.List.{List}
+use lib.Dec.{leb}
+use lib.ListN.{length}
+use Rattle.words.specs.Words.{over}
+use Rattle.refinement.specs.Mount.{noState}
+use Rattle.text.specs.Fields.{parsed}
+use Rattle.script.specs.declared.Cut.the-variants.{Unset}
+use Rattle.script.specs.declared.Machine.{Machine}
+use Rattle.script.specs.declared.Performed.{Performed}
+use Rattle.script.specs.Output.{outputLine}
+use Rattle.script.specs.Turns.{Turn, turnOf}
+
+-- before the first line
+abbrev pub started : Machine
+started = record { st = noState; formatted = false; cut = Unset }
+
+-- a number has 1 to 9 digits
+abbrev pub lineTurn : Machine → List ℕ → List ℕ → Turn
+lineTurn m img line = turnOf m img (parsed 9 line)
+
+-- no printed line is longer: two numbers of 20 digits after one of 20, the letter, 4 commas, a dash and a newline
+abbrev pub room : ℕ
+room = 67
+
+pub record Performance : Type 0 where
+  pub result : Performed
+  pub image : List ℕ
+  pub out : List ℕ
+
+-- line number n, whose printed line goes to byte at of out; without room nothing is done
+unfoldable pub performed : Machine → List ℕ → ℕ → List ℕ → List ℕ → ℕ → Performance
+performed m img n line out at =
+    let t = lineTurn m img line in
+    let printed = outputLine n (t .turned .output) in
+    cond (leb (at + room) (length out))
+    (record { result = record { machine = t .turned .machine; end = at + length printed }; image = t .image; out = over out at printed })
+    (record { result = record { machine = m; end = at }; image = img; out = out })

@@ -1,0 +1,11 @@
+// Text of scripts: a line as a letter and numbers, numbers as decimals, and lines cut out of what was read.
+pub mod decimals;
+pub mod parse;
+pub mod pieces;
+
+// A line of a script: one letter, then numbers, each after a comma. A line of another form has letter 0.
+pub struct Line {
+    pub letter: u8,
+    pub count: usize,
+    pub numbers: [u64; 69],
+}

@@ -1,0 +1,59 @@
+-- A write asked for: what its rows say, and what comes of it. found is what the code found.
+use Prim.Native.Nat.{ℕ, _≤_}
+use mathlib.Core.Bool.{Bool, true, false, _||_}
+use mathlib.Core.List.{List, _∷_}
+use mathlib.Core.Path.{_≡_, refl, sym, _∙_}
+use native.Mathlib.Omega.{arith}
+use lib.Dec.{ltb, leb}
+use lib.ListN.{length}
+use borrow.Author.Tests.{ltb-false}
+use Rattle.bounded.specs.Rows.{refusal}
+use Rattle.bounded.proofs.Rows.{row-none, none-apply}
+use Rattle.bounded.proofs.Tests.{caseOn}
+use Rattle.image.specs.Lines.{lineBytes, merged, lineWords}
+use Rattle.state.specs.declared.State.{State}
+use Rattle.state.specs.declared.Pending.{Pending}
+use Rattle.state.specs.declared.Op.the-variants.{Write}
+use Rattle.operations.specs.Operations.{writeRows, needs}
+use Rattle.operations.proofs.Taken.{WriteTaken, write-taken}
+use Rattle.refinement.specs.Frames.{pageFrame}
+use Rattle.refinement.specs.Outcome.{answered}
+use Rattle.answers.specs.Answers.{outcomeOf}
+use Rattle.answers.specs.declared.Done.{Done}
+use Rattle.refinement.specs.Calls.{quietRows, finishedLine, writeCallRows, writeOf}
+use Rattle.refinement.proofs.Quiet.{Quiet, quiet}
+use Rattle.transactions.specs.declared.finding.Found.{Found}
+use Rattle.transactions.specs.Finding.{WriteFound}
+use Rattle.transactions.proofs.Taking.{pendingFrom, pendingWith, ask-refused, ask-pending}
+
+-- row 11: short data, or a page past the last
+pub write-bad : (short : Bool) (st : State) (w p l o n f : ℕ) → short || leb (st .sizes .pages) p ≡ true
+    → 11 ≡ refusal ((short, 11) ∷ writeRows st w p l o n f)
+write-bad true st w p l o n f e = refl
+write-bad false st w p l o n f e = caseOn (ltb 3 w) (λ t. rw t) (λ t. rw (t, e))
+
+-- what no row of a write tells, with the frame found
+pub write-none : (st : State) (img : List ℕ) (w p l o n : ℕ) (bytes : List ℕ) → refusal (writeCallRows st img w p l o n bytes) ≡ 0
+    → Quiet st (length img) × (n ≤ length bytes) × WriteTaken st w p l o n (pageFrame st img p)
+write-none st img w p l o n bytes e =
+    let rows = writeRows st w p l o n (pageFrame st img p) in
+    let h = none-apply (writeCallRows st img w p l o n bytes) (omega arith) e in (
+      quiet st (length img) 0 (row-none (quietRows st (length img)) (h .0, (h .1 .0, (h .1 .1 .0, tt)))) refl,
+      ltb-false (length bytes) n (h .1 .1 .1 .0),
+      write-taken st w p l o n (pageFrame st img p) (sym (row-none rows (h .1 .1 .1 .1))),
+    )
+
+module _ (st : State) (img : List ℕ) (w p l o n : ℕ) (bytes : List ℕ) (d : Done) (found : Found) (f : WriteFound st img w p l o n bytes found) where
+  pub write-refused : (found .row ≡ 0 → ⊥) → outcomeOf d ≡ answered (found .row) st 0 st → outcomeOf d ≡ writeOf st img w p l o n bytes
+  unfolding writeOf
+  write-refused z h =
+      ask-refused st (Write w p l o n) (finishedLine st img w p l o n bytes) (pageFrame st img p) d (writeCallRows st img w p l o n bytes) (found .row) (f .0) z h
+
+  pub write-asked : (words : List ℕ) (q : Pending) → found .row ≡ 0 → words ≡ lineWords (merged (lineBytes img (st .sizes) (found .seen) l) o n bytes)
+      → q ≡ pendingFrom (Write w p l o n) words (found .frame) → outcomeOf d ≡ answered 0 (pendingWith st q) 8 (pendingWith st q)
+      → outcomeOf d ≡ writeOf st img w p l o n bytes
+  unfolding writeOf needs
+  write-asked words q z m e h =
+      let g = f .1 z in
+      ask-pending st (Write w p l o n) (finishedLine st img w p l o n bytes) (pageFrame st img p) d (writeCallRows st img w p l o n bytes) q 8
+      (sym z ∙ f .0) (rw (m, g .1, g .0) at e) refl (λ k. omega arith) h
