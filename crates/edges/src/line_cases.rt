@@ -34,7 +34,7 @@ fn read(image: &[u8; 12480], f: usize, l: usize, target: &mut [u8; 64])
     requires { ⌜ f < 3 ⌝ }
     requires { ⌜ l < 64 ⌝ }
 {
-    image::read_line(
+    lines::read_line(
         image,
         Sizes {
             pages: 2,
@@ -70,7 +70,7 @@ fn pattern(s: &mut [u8; 64]) {
 fn lay(image: &[u8; 12480], offset: usize, n: usize, s: &[u8; 64])
     requires { ⌜ offset + n ≤ 64 ⌝ }
 {
-    let w = image::merged_line(
+    let w = lines::merged_line(
         image,
         Sizes {
             pages: 2,
@@ -98,7 +98,7 @@ fn merge(image: &[u8; 12480], offset: usize, n: usize)
 fn copy(image: &mut [u8; 12480], l: usize)
     requires { ⌜ l < 64 ⌝ }
 {
-    image::copy_line(
+    lines::copy_line(
         image,
         Sizes {
             pages: 2,

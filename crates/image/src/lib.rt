@@ -1,15 +1,15 @@
-// Lines of the frames. A line reader or writer is passed one frame's 4,096 bytes, cut out of the image.
+// Words of the lines of the frames. A reader or writer is passed one frame's 4,096 bytes, cut out of the image.
 ghost use mathlib.Core.Path.{_≡_};
 ghost use mathlib.Core.Logic.{_⊎_};
 ghost use Prim.Native.Nat.{_+_, _*_, _≤_, _<_};
 ghost use lib.ListN.{length};
-ghost use Rattle.words.specs.Words.{wordAt, putWord, word, store, part, over};
+ghost use Rattle.words.specs.Words.{wordAt, putWord, word, store, part};
 ghost use Rattle.layout.specs.Layout.{Legal, frames, lineWord, imageLength};
-ghost use Rattle.image.specs.Lines.{lineBytes, merged, lineWords, copyStore, copyStores};
+ghost use Rattle.image.specs.Lines.{copyStore};
 use layout::Sizes;
 
 // One frame's bytes.
-fn frame(image: &[u8], z: Sizes, f: usize) -> &[u8]
+pub fn frame(image: &[u8], z: Sizes, f: usize) -> &[u8]
     requires { ⌜ Legal z × (f < frames z) × (imageLength z ≤ length (now image)) ⌝ }
     ensures { λ r. ⌜ now r ≡ part (now (image .entry)) (8 * lineWord z f 0) 4096 ⌝ }
 {
@@ -57,43 +57,4 @@ pub fn copy_line_word(image: &mut [u8], z: Sizes, from: usize, to: usize, l: usi
 {
     let v = read_line_word(image, z, from, l, k);
     store_line_word(image, z, to, l, k, v);
-}
-
-// Copies line l from one frame to another.
-pub fn copy_line(image: &mut [u8], z: Sizes, from: usize, to: usize, l: usize)
-    requires { ⌜ Legal z × (from < frames z) × (to < frames z) × (l < 64) × (imageLength z ≤ length (now image)) ⌝ }
-    ensures { λ _. ⌜ now (image .exit) ≡ copyStores z from to l 8 (now (image .entry)) ⌝ }
-{
-    let mut k = 0;
-    while k < 8 {
-        copy_line_word(image, z, from, to, l, k);
-        k += 1;
-    }
-}
-
-// Copies line l of frame f to the start of target.
-pub fn read_line(image: &[u8], z: Sizes, f: usize, l: usize, target: &mut [u8])
-    requires { ⌜ Legal z × (f < frames z) × (l < 64) × (imageLength z ≤ length (now image)) × (64 ≤ length (now target)) ⌝ }
-    ensures { λ _. ⌜ now (target .exit) ≡ over (now (target .entry)) 0 (lineBytes (now (image .entry)) z f l) ⌝ }
-{
-    runs::copy_words(frame(image, z, f), 64 * l, target, 0, 8);
-}
-
-// The words of line l of frame f with the first n bytes of data laid over it from offset on.
-pub fn merged_line(
-    image: &[u8],
-    z: Sizes,
-    f: usize,
-    l: usize,
-    offset: usize,
-    data: &[u8],
-    n: usize,
-) -> [u64; 8]
-    requires { ⌜ Legal z × (f < frames z) × (l < 64) × (imageLength z ≤ length (now image)) × (offset + n ≤ 64) × (n ≤ length (now «data»)) ⌝ }
-    ensures { λ r. ⌜ r ≡ lineWords (merged (lineBytes (now (image .entry)) z f l) offset n (now («data» .entry))) ⌝ }
-{
-    let mut line = [0u8; 64];
-    read_line(image, z, f, l, &mut line);
-    bytes::copy(&data[0..n], &mut line[offset..offset + n]);
-    runs::words_of(&line)
 }

@@ -4,7 +4,6 @@ use libc::STDIN_FILENO;
 use libc::STDOUT_FILENO;
 use script::Machine;
 use script::performing;
-use text::pieces;
 
 // The program between two pieces of the input.
 struct Session {
@@ -73,7 +72,7 @@ fn perform_lines(
     let mut lines = s.lines;
     let mut at = s.at;
     let mut start = from;
-    let mut end = pieces::line_end(piece, start);
+    let mut end = cutting::line_end(piece, start);
     while end < piece.len() {
         if at > 65000 {
             if !write_out(out, at) {
@@ -86,7 +85,7 @@ fn perform_lines(
         machine = p.machine;
         at = p.end;
         start = end + 1;
-        end = pieces::line_end(piece, start);
+        end = cutting::line_end(piece, start);
     }
     Session {
         machine,
@@ -122,15 +121,15 @@ fn perform_piece(
     piece: &[u8],
     out: &mut [u8],
 ) -> Session {
-    let end = pieces::line_end(piece, 0);
+    let end = cutting::line_end(piece, 0);
     let mut begun = s;
-    begun.kept = pieces::keep(line, s.kept, piece, 0, end);
+    begun.kept = cutting::keep(line, s.kept, piece, 0, end);
     if end == piece.len() {
         return begun;
     }
     let first = perform_kept(begun, image, line, out);
     let mut last = perform_lines(first, image, piece, end + 1, out);
-    last.kept = pieces::keep(line, 0, piece, last.start, piece.len());
+    last.kept = cutting::keep(line, 0, piece, last.start, piece.len());
     last
 }
 

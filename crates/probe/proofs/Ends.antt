@@ -3,7 +3,7 @@ use Prim.Native.Nat.{ℕ, _<_, _≤_}
 use mathlib.Core.List.{List}
 use native.Mathlib.Omega.{arith}
 use lib.ListN.{length}
-use Rattle.text.specs.Pieces.{lineEnd}
+use Rattle.cutting.specs.Pieces.{lineEnd}
 
 -- not before the place from which it goes on
 pub end-after : (l : List ℕ) (from : ℕ) → from < length l → from ≤ lineEnd l from

@@ -4,7 +4,6 @@ use crate::Session;
 use crate::lines;
 use libc::STDIN_FILENO;
 use libc::STDOUT_FILENO;
-use text::pieces;
 
 fn lesser(a: usize, b: usize) -> usize
     ensures { λ r. ⌜ (r ≤ a) × (r ≤ b) ⌝ }
@@ -56,8 +55,8 @@ fn perform_piece(
     let mut s = s;
     let mut from = 0;
     while from < piece.len() {
-        let end = pieces::line_end(piece, from);
-        let kept = pieces::keep(line, s.kept, piece, from, end);
+        let end = cutting::line_end(piece, from);
+        let kept = cutting::keep(line, s.kept, piece, from, end);
         s.kept = kept;
         if end >= piece.len() {
             return s;

@@ -56,6 +56,6 @@ pub fn read(
     if found.bad {
         return Answer::BadFrame;
     }
-    image::read_line(image, st.sizes, found.seen, line, target);
+    lines::read_line(image, st.sizes, found.seen, line, target);
     Answer::Taken(0)
 }

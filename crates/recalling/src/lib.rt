@@ -34,6 +34,6 @@ pub extern "C" fn recall(page: usize, line: usize, image: &[u8], target: &mut [u
         return 11;
     }
     let f = recall_frame(image, m.sizes, m.table, page, line);
-    image::read_line(image, m.sizes, f, line, target);
+    lines::read_line(image, m.sizes, f, line, target);
     0
 }

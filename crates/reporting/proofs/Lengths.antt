@@ -15,7 +15,7 @@ use Rattle.state.specs.declared.Op.{Op}
 use Rattle.state.specs.declared.Pending.{Pending}
 use Rattle.state.specs.declared.State.{State}
 use Rattle.state.specs.declared.Writers.{Writers}
-use Rattle.text.proofs.Printing.{decimal-le}
+use Rattle.decimals.proofs.Printing.{decimal-le}
 use Rattle.editing.specs.declared.Said.the-variants.{OtherForm, Answered, Hash, Numbers}
 use Rattle.editing.specs.declared.Said.{Said}
 use Rattle.reporting.specs.Text.{each, lineBytes, slotNumbers, openNumbers, heldNumbers, writerNumbers, opNumbers, finishedNumbers, pendingNumbers, headerNumbers, numbersPastP, blanked, field, dash, stateField, saidText}

@@ -10,8 +10,8 @@ use lib.Seq.{take-suc, take-all}
 use Rattle.bounded.proofs.Below.{ends}
 use Rattle.words.specs.Words.{over}
 use Rattle.words.proofs.Parts.{over-nil, over-over}
-use Rattle.text.specs.Decimal.{decimalOf}
-use Rattle.text.proofs.Printing.{decimal-le}
+use Rattle.decimals.specs.Decimal.{decimalOf}
+use Rattle.decimals.proofs.Printing.{decimal-le}
 use Rattle.reporting.specs.Text.{Put, each, blanked, field, shownText}
 
 -- ---- one text after the other

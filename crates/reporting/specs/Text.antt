@@ -13,7 +13,7 @@ use Rattle.state.specs.declared.Op.{Op}
 use Rattle.state.specs.declared.Pending.{Pending}
 use Rattle.state.specs.declared.State.{State}
 use Rattle.state.specs.declared.Writers.{Writers}
-use Rattle.text.specs.Decimal.{decimalOf}
+use Rattle.decimals.specs.Decimal.{decimalOf}
 use Rattle.editing.specs.declared.Said.the-variants.{OtherForm, Answered, Hash, Numbers}
 use Rattle.editing.specs.declared.Said.{Said}
 use Rattle.editing.specs.declared.Turn.{Turn}

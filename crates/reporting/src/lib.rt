@@ -11,7 +11,6 @@ use crate::numbers::put_after;
 use editing::Said;
 use editing::Turn;
 use state::State;
-use text::decimals;
 
 // `,-`
 fn put_dash(out: &mut [u8], at: usize) -> usize

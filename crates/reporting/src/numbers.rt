@@ -2,9 +2,8 @@
 ghost use mathlib.Core.List.{_∷_};
 ghost use Prim.Native.Nat.{_+_, _*_, _≤_};
 ghost use lib.ListN.{length};
-ghost use Rattle.text.specs.Decimal.{decimalOf};
+ghost use Rattle.decimals.specs.Decimal.{decimalOf};
 ghost use Rattle.reporting.specs.Text.{Put, blanked};
-use text::decimals;
 
 // A number after a mark.
 pub fn put_after(out: &mut [u8], at: usize, mark: u8, v: u64) -> usize

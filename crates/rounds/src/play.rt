@@ -4,7 +4,6 @@ ghost use Prim.Native.Nat.{_<_};
 use crate::room;
 use layout::Sizes;
 use state::State;
-use transactions::asking;
 
 // The state after the rounds, and the stores that they made.
 pub struct Played {
@@ -31,7 +30,7 @@ fn pair_of(r: usize, stay: usize) -> usize
 
 // The round's commit.
 fn close(image: &mut [u8; 84288], stores: &mut u64, st: State) -> State {
-    let done = asking::commit(st, image, 0);
+    let done = transactions::commit(st, image, 0);
     let answer = done.answer;
     if room::is_wanted(answer) {
         return room::commit(image, stores, done.state);
@@ -51,7 +50,7 @@ fn go_on(
     line: usize,
     data: &[u8; 64],
 ) -> State {
-    let done = asking::write(st, image, 0, page, line, 0, 64, data);
+    let done = transactions::write(st, image, 0, page, line, 0, 64, data);
     let answer = done.answer;
     if room::is_wanted(answer) {
         let st = room::write(image, stores, done.state, page, line, data);
@@ -71,7 +70,7 @@ fn round(image: &mut [u8; 84288], stores: &mut u64, st: State, r: usize, stay: u
     let one = line_of(v + 1);
     let two = line_of(v + 2);
     let done = writers::begin(st, 0);
-    let done = asking::write(done.state, image, 0, page, r % 24, 0, 64, &one);
+    let done = transactions::write(done.state, image, 0, page, r % 24, 0, 64, &one);
     let answer = done.answer;
     if room::is_wanted(answer) {
         let st = room::write(image, stores, done.state, page, r % 24, &one);

@@ -6,7 +6,6 @@ use answers::Answer;
 use answers::Done;
 use answers::number_of;
 use state::State;
-use transactions::asking;
 
 // Whether a call was refused for want of room.
 pub fn is_wanted(a: Answer) -> bool {
@@ -38,19 +37,19 @@ fn run_whole(image: &mut [u8; 84288], stores: &mut u64, st: State) -> State {
 
 // Checkpoints.
 fn empty_journal(image: &mut [u8; 84288], stores: &mut u64, st: State) -> State {
-    let done = asking::checkpoint(st, image);
+    let done = transactions::checkpoint(st, image);
     run_whole(image, stores, done.state)
 }
 
 // Asks for a consolidation, after a checkpoint where the journal is full.
 fn consolidate(image: &mut [u8; 84288], stores: &mut u64, st: State, page: usize) -> Done {
-    let done = asking::consolidate(st, image, page);
+    let done = transactions::consolidate(st, image, page);
     let answer = done.answer;
     if number_of(answer) != 19 {
         return done;
     }
     let st = empty_journal(image, stores, st);
-    asking::consolidate(st, image, page)
+    transactions::consolidate(st, image, page)
 }
 
 // The page in the slot k places on from next, of four, going round.
@@ -87,13 +86,13 @@ pub fn write(
     data: &[u8; 64],
 ) -> State {
     let st = free_slot(image, stores, st);
-    let done = asking::write(st, image, 0, page, line, 0, 64, data);
+    let done = transactions::write(st, image, 0, page, line, 0, 64, data);
     run_whole(image, stores, done.state)
 }
 
 // Commits where the journal is full.
 pub fn commit(image: &mut [u8; 84288], stores: &mut u64, st: State) -> State {
     let st = empty_journal(image, stores, st);
-    let done = asking::commit(st, image, 0);
+    let done = transactions::commit(st, image, 0);
     run_whole(image, stores, done.state)
 }

@@ -21,7 +21,7 @@ use Rattle.refinement.specs.Write.{writeSlot}
 use Rattle.refinement.specs.Calls.{beginOf, writeOf, commitOf, readRow, readBytes, runOf, runBytes}
 use Rattle.refinement.specs.Mount.{mountCall, formatCall}
 use Rattle.refinement.specs.Run.{exec}
-use Rattle.text.specs.Decimal.{digitsOf}
+use Rattle.decimals.specs.Decimal.{digitsOf}
 use Rattle.text.specs.Fields.{withByte, fields, allDigits, valueFrom, allNumbers, values, lineOf, parsed}
 use Rattle.script.specs.Forms.{formOf}
 use Rattle.script.specs.Listing.{text, printed, input, output}

@@ -6,7 +6,7 @@ use lib.ListN.{length, set, length-append, length-set}
 use native.Mathlib.Omega.{arith}
 use Rattle.words.specs.Words.{over}
 use Rattle.words.proofs.Parts.{length-over, over-over}
-use Rattle.text.proofs.Over.{set-over, set-first}
+use Rattle.words.proofs.Over.{set-over, set-first}
 use Rattle.script.specs.declared.Output.{Output}
 use Rattle.script.specs.Output.{commas, fieldsOf}
 

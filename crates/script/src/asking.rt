@@ -20,7 +20,7 @@ fn ask_write(st: State, image: &[u8], letter: u8, count: usize, numbers: &[u64; 
 {
     let n = count - 5;
     let bytes = forms::data_of(numbers, n);
-    transactions::asking::write(
+    transactions::write(
         st,
         image,
         forms::num(numbers, 0),
@@ -40,11 +40,11 @@ pub fn ask(st: State, image: &[u8], a: Ask, letter: u8, count: usize, numbers: &
     let first = forms::num(numbers, 0);
     match a {
         Ask::Begin => writers::begin(st, first),
-        Ask::Commit => transactions::asking::commit(st, image, first),
+        Ask::Commit => transactions::commit(st, image, first),
         Ask::Abort => writers::abort(st, first),
         Ask::Write => ask_write(st, image, letter, count, numbers),
-        Ask::Consolidate => transactions::asking::consolidate(st, image, first),
-        Ask::Checkpoint => transactions::asking::checkpoint(st, image),
+        Ask::Consolidate => transactions::consolidate(st, image, first),
+        Ask::Checkpoint => transactions::checkpoint(st, image),
         Ask::Mount => making::remount(st, image),
     }
 }

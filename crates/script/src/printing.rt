@@ -26,9 +26,9 @@ fn put_answered(out: &mut [u8], at: usize, letter: u8, number: usize, stores: us
     ensures end { λ r. ⌜ r ≡ at + length (commas (fieldsOf (Answered letter number stores))) ⌝ }
 {
     let a = put_three(out, at, b',', letter, b',');
-    let b = text::decimals::put_decimal(out, a, number as u64);
-    let c = text::decimals::put_byte(out, b, b',');
-    let d = text::decimals::put_decimal(out, c, stores as u64);
+    let b = decimals::put_decimal(out, a, number as u64);
+    let c = decimals::put_byte(out, b, b',');
+    let d = decimals::put_decimal(out, c, stores as u64);
     put_three(out, d, b',', b'-', b'\n')
 }
 
@@ -39,9 +39,9 @@ fn put_shown(out: &mut [u8], at: usize, byte: u8) -> usize
 {
     let a = put_three(out, at, b',', b'R', b',');
     let b = put_three(out, a, b'0', b',', b'0');
-    let c = text::decimals::put_byte(out, b, b',');
-    let d = text::decimals::put_decimal(out, c, byte as u64);
-    text::decimals::put_byte(out, d, b'\n')
+    let c = decimals::put_byte(out, b, b',');
+    let d = decimals::put_decimal(out, c, byte as u64);
+    decimals::put_byte(out, d, b'\n')
 }
 
 fn put_unknown(out: &mut [u8], at: usize) -> usize
@@ -76,6 +76,6 @@ pub fn put_output(out: &mut [u8], at: usize, n: usize, output: Output) -> usize
     ensures bytes { λ _. ⌜ now (out .exit) ≡ over (now (out .entry)) at (outputLine n output) ⌝ }
     ensures end { λ r. ⌜ r ≡ at + length (outputLine n output) ⌝ }
 {
-    let a = text::decimals::put_decimal(out, at, n as u64);
+    let a = decimals::put_decimal(out, at, n as u64);
     put_fields(out, a, output)
 }

@@ -10,8 +10,8 @@ use lib.ListN.{length}
 use borrow.Author.Tests.{eqb-true, le-leb, lt-ltb}
 use Rattle.bounded.proofs.Tests.{caseOn, every-held, held-every}
 use Rattle.text.specs.Fields.{allDigits, valueFrom, isNumber}
-use Rattle.text.specs.Decimal.{digitsOf, decimalOf}
-use Rattle.text.proofs.Printing.{decimal-le, decimal-some}
+use Rattle.decimals.specs.Decimal.{digitsOf, decimalOf}
+use Rattle.decimals.proofs.Printing.{decimal-le, decimal-some}
 
 value-more : (l : List ℕ) (v d : ℕ) → valueFrom v (l ++ d ∷ []) ≡ 10 * valueFrom v l + (d - 48)
 unfolding valueFrom

@@ -14,7 +14,7 @@ use Rattle.words.specs.Words.{over}
 use Rattle.text.specs.declared.Line.{Line}
 use Rattle.text.specs.Fields.{withByte, fields, allDigits, valueFrom, isNumber, allNumbers, values, otherForm, lineOf}
 use Rattle.text.specs.Digits.{takes, closes}
-use Rattle.text.proofs.Over.{set-over, set-first}
+use Rattle.words.proofs.Over.{set-over, set-first}
 
 -- what is read: the letter, `count` numbers, and n digits of value v of the next
 pub record State : Type 0 where

@@ -1,4 +1,2 @@
 pub mod Fields
 pub mod Digits
-pub mod Decimal
-pub mod Pieces

@@ -1,7 +1,5 @@
 // Text of scripts: a line as a letter and numbers, numbers as decimals, and lines cut out of what was read.
-pub mod decimals;
 pub mod parse;
-pub mod pieces;
 
 // A line of a script: one letter, then numbers, each after a comma. A line of another form has letter 0.
 pub struct Line {

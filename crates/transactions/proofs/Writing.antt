@@ -22,15 +22,9 @@ use Rattle.answers.specs.Answers.{outcomeOf}
 use Rattle.answers.specs.declared.Done.{Done}
 use Rattle.refinement.specs.Calls.{quietRows, finishedLine, writeCallRows, writeOf}
 use Rattle.refinement.proofs.Quiet.{Quiet, quiet}
-use Rattle.transactions.specs.declared.finding.Found.{Found}
-use Rattle.transactions.specs.Finding.{WriteFound}
-use Rattle.transactions.proofs.Taking.{pendingFrom, pendingWith, ask-refused, ask-pending}
-
--- row 11: short data, or a page past the last
-pub write-bad : (short : Bool) (st : State) (w p l o n f : ℕ) → short || leb (st .sizes .pages) p ≡ true
-    → 11 ≡ refusal ((short, 11) ∷ writeRows st w p l o n f)
-write-bad true st w p l o n f e = refl
-write-bad false st w p l o n f e = caseOn (ltb 3 w) (λ t. rw t) (λ t. rw (t, e))
+use Rattle.finding.specs.declared.Found.{Found}
+use Rattle.finding.specs.Finding.{WriteFound}
+use Rattle.asking.proofs.Taking.{pendingFrom, pendingWith, ask-refused, ask-pending}
 
 -- what no row of a write tells, with the frame found
 pub write-none : (st : State) (img : List ℕ) (w p l o n : ℕ) (bytes : List ℕ) → refusal (writeCallRows st img w p l o n bytes) ≡ 0

@@ -1,4 +1,81 @@
 // The calls that ask: write, commit, consolidate, checkpoint. None relies on its caller having checked anything; a refused call
 // changes no state and no byte.
-pub mod asking;
-mod finding;
+ghost use mathlib.Core.Path.{_≡_};
+ghost use Rattle.answers.specs.Answers.{outcomeOf};
+ghost use Rattle.refinement.specs.Calls.{writeOf, commitOf, consolidateOf, checkpointOf};
+use answers::Done;
+use state::Op;
+use state::State;
+
+// Asks for a write of the data's first length bytes.
+pub fn write(
+    st: State,
+    image: &[u8],
+    writer: usize,
+    page: usize,
+    line: usize,
+    offset: usize,
+    length: usize,
+    data: &[u8],
+) -> Done
+    ensures { λ r. ⌜ outcomeOf r ≡ writeOf st (now (image .entry)) writer page line offset length (now («data» .entry)) ⌝ }
+{
+    let mut next = st;
+    let pending = next.pending;
+    let found = finding::write_found(
+        next.sizes,
+        next.head,
+        next.tail,
+        next.next,
+        &next.table.page,
+        &next.table.original,
+        &next.table.spare,
+        &next.table.bitmap,
+        &next.table.last,
+        &next.writers.opened,
+        &next.writers.held,
+        pending,
+        image,
+        writer,
+        page,
+        line,
+        offset,
+        length,
+        data,
+    );
+    if found.row != 0 {
+        return answers::refused(found.row, next);
+    }
+    let words = lines::merged_line(image, next.sizes, found.seen, line, offset, data, length);
+    let op = Op::Write {
+        writer,
+        page,
+        line,
+        offset,
+        length,
+    };
+    let pending = asking::pending_from(op, words, found.frame);
+    next.pending = pending;
+    answers::taken(8, next)
+}
+
+// Asks for a commit.
+pub fn commit(st: State, image: &[u8], writer: usize) -> Done
+    ensures { λ r. ⌜ outcomeOf r ≡ commitOf st (now (image .entry)) writer ⌝ }
+{
+    asking::ask(st, image.len(), Op::Commit { writer })
+}
+
+// Asks for a consolidation.
+pub fn consolidate(st: State, image: &[u8], page: usize) -> Done
+    ensures { λ r. ⌜ outcomeOf r ≡ consolidateOf st (now (image .entry)) page ⌝ }
+{
+    asking::ask(st, image.len(), Op::Consolidate { page })
+}
+
+// Asks for a checkpoint.
+pub fn checkpoint(st: State, image: &[u8]) -> Done
+    ensures { λ r. ⌜ outcomeOf r ≡ checkpointOf st (now (image .entry)) ⌝ }
+{
+    asking::ask(st, image.len(), Op::Checkpoint)
+}

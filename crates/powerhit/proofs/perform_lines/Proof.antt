@@ -3,7 +3,7 @@ use mathlib.Core.Path.{_≡_, refl}
 use native.Mathlib.Omega.{arith}
 use lib.ListN.{length}
 use borrow.Author.Needs.{needs}
-use Rattle.text.proofs.Cutting.{end-le, end-ge}
+use Rattle.cutting.proofs.Cutting.{end-le, end-ge}
 use Rattle.powerhit.proofs.perform_lines.Statement.{statement}
 use Rattle.powerhit.proofs.perform_lines.Tie as tie
 

@@ -1,6 +1,6 @@
 use mathlib.Core.Path.{_∙_}
 use native.Mathlib.Omega.{arith}
-use Rattle.text.proofs.Cutting.{end-le}
+use Rattle.cutting.proofs.Cutting.{end-le}
 use borrow.Author.Needs.{needs}
 use Rattle.powerhit.proofs.perform_piece.Statement.{statement}
 use Rattle.powerhit.proofs.perform_piece.Tie as tie

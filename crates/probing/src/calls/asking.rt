@@ -36,7 +36,7 @@ pub fn commit(bench: Bench, image: &[u8], line: Line) -> Turn
     ensures { λ r. ⌜ r ≡ commitTurn bench (now (image .entry)) line ⌝ }
 {
     if line.count == 1 {
-        let done = transactions::asking::commit(bench.st, image, line.numbers[0] as usize);
+        let done = transactions::commit(bench.st, image, line.numbers[0] as usize);
         return calls::called(bench, done);
     }
     editing::other(bench)
@@ -46,7 +46,7 @@ pub fn consolidate(bench: Bench, image: &[u8], line: Line) -> Turn
     ensures { λ r. ⌜ r ≡ consolidateTurn bench (now (image .entry)) line ⌝ }
 {
     if line.count == 1 {
-        let done = transactions::asking::consolidate(bench.st, image, line.numbers[0] as usize);
+        let done = transactions::consolidate(bench.st, image, line.numbers[0] as usize);
         return calls::called(bench, done);
     }
     editing::other(bench)
@@ -56,7 +56,7 @@ pub fn checkpoint(bench: Bench, image: &[u8], line: Line) -> Turn
     ensures { λ r. ⌜ r ≡ checkpointTurn bench (now (image .entry)) line ⌝ }
 {
     if line.count == 0 {
-        let done = transactions::asking::checkpoint(bench.st, image);
+        let done = transactions::checkpoint(bench.st, image);
         return calls::called(bench, done);
     }
     editing::other(bench)
@@ -95,7 +95,7 @@ fn data_of(line: Line, n: usize) -> [u8; 64]
 fn write_with(bench: Bench, image: &[u8], line: Line, data: &[u8]) -> Turn
     ensures { λ r. ⌜ r ≡ writeWith bench (now (image .entry)) line (now («data» .entry)) ⌝ }
 {
-    let done = transactions::asking::write(
+    let done = transactions::write(
         bench.st,
         image,
         line.numbers[0] as usize,

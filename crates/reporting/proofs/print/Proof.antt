@@ -1,6 +1,6 @@
 use native.Mathlib.Omega.{arith}
 use borrow.Author.Needs.{needs}
-use Rattle.text.proofs.Printing.{decimal-le}
+use Rattle.decimals.proofs.Printing.{decimal-le}
 use Rattle.reporting.specs.Text.{printedOf}
 use Rattle.reporting.proofs.Lengths.{said-text}
 use Rattle.reporting.proofs.Puts.{put-then}

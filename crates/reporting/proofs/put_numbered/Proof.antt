@@ -1,7 +1,7 @@
 use native.Mathlib.Omega.{arith}
 use lib.ListN.{length-append}
 use borrow.Author.Needs.{needs}
-use Rattle.text.proofs.Printing.{decimal-le}
+use Rattle.decimals.proofs.Printing.{decimal-le}
 use Rattle.reporting.specs.Text.{field, stateField}
 use Rattle.reporting.proofs.Puts.{put-then, put-as, shown-text}
 use Rattle.reporting.proofs.put_numbered.Statement.{statement}

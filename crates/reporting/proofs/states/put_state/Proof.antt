@@ -4,7 +4,7 @@ use mathlib.Core.Path.{_≡_, ap}
 use native.Mathlib.Omega.{arith}
 use lib.ListN.{length}
 use borrow.Author.Needs.{needs}
-use Rattle.text.proofs.Printing.{decimal-le}
+use Rattle.decimals.proofs.Printing.{decimal-le}
 use Rattle.reporting.specs.Text.{each, field, headerNumbers, slotNumbers, writerNumbers, pendingNumbers}
 use Rattle.reporting.proofs.Lengths.{slots-text, writers-text}
 use Rattle.reporting.proofs.Puts.{put-then, put-as, blanked-four, length-blanked}

@@ -2,8 +2,8 @@ use mathlib.Core.List.{[], _∷_, _++_}
 use Prim.Native.Nat.{_+_, _≤_}
 use native.Mathlib.Omega.{arith}
 use lib.ListN.{length}
-use Rattle.text.specs.Decimal.{decimalOf}
-use Rattle.text.proofs.Printing.{decimal-le}
+use Rattle.decimals.specs.Decimal.{decimalOf}
+use Rattle.decimals.proofs.Printing.{decimal-le}
 use Rattle.script.proofs.Puts.{Put, length-put, put-step, put-then}
 use Rattle.script.proofs.printing.put_answered.Statement.{statement}
 use Rattle.script.proofs.printing.put_answered.Tie as tie

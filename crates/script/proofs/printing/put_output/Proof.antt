@@ -2,8 +2,8 @@ use Prim.Native.Nat.{_+_, _≤_}
 use native.Mathlib.Omega.{arith}
 use lib.ListN.{length}
 use borrow.Author.Needs.{needs}
-use Rattle.text.specs.Decimal.{decimalOf}
-use Rattle.text.proofs.Printing.{decimal-le}
+use Rattle.decimals.specs.Decimal.{decimalOf}
+use Rattle.decimals.proofs.Printing.{decimal-le}
 use Rattle.script.specs.Output.{commas, fieldsOf, outputLine}
 use Rattle.script.proofs.Puts.{Put, put-step, put-last}
 use Rattle.script.proofs.printing.put_output.Statement.{statement}

@@ -2,7 +2,7 @@ use mathlib.Core.List.{[], _∷_, _++_}
 use Prim.Native.Nat.{_+_, _≤_}
 use native.Mathlib.Omega.{arith}
 use lib.ListN.{length}
-use Rattle.text.specs.Decimal.{digitsOf}
+use Rattle.decimals.specs.Decimal.{digitsOf}
 use Rattle.script.proofs.Puts.{Put, length-put, put-step, put-then}
 use Rattle.script.proofs.printing.put_unknown.Statement.{statement}
 use Rattle.script.proofs.printing.put_unknown.Tie as tie

@@ -1,0 +1,123 @@
+// A commit, a consolidation or a checkpoint, asked for: complete where it needs no store, else pending.
+ghost use mathlib.Core.Path.{_≡_};
+ghost use mathlib.Core.Bool.{false};
+ghost use mathlib.Core.List.{_++_};
+ghost use lib.ListN.{replicate};
+ghost use Rattle.bounded.specs.Rows.{refusal};
+ghost use Rattle.state.specs.Parts.{stateOf};
+ghost use Rattle.operations.specs.Operations.{isIdle, opRows};
+ghost use Rattle.answers.specs.Answers.{outcomeOf};
+ghost use Rattle.refinement.specs.Calls.{quietRows, asked};
+use answers::Done;
+use layout::Sizes;
+use state::Op;
+use state::Pending;
+use state::State;
+
+// An operation with none of its stores made, and for a write the finished line and the page's frame.
+pub fn pending_from(op: Op, line: [u64; 8], frame: usize) -> Pending
+    ensures { λ r. ⌜ r ≡ record { op = op; made = 0; line = line; frame = frame } ⌝ }
+{
+    Pending {
+        op,
+        made: 0,
+        line,
+        frame,
+    }
+}
+
+// The first row that turns a commit, a consolidation or a checkpoint back, of an image of n bytes.
+fn ask_row<'a>(
+    z: Sizes,
+    head: usize,
+    tail: usize,
+    next: usize,
+    page: &'a [usize; 16],
+    original: &'a [usize; 16],
+    spare: &'a [usize; 16],
+    bitmap: &'a [u64; 16],
+    last: &'a [usize; 16],
+    opened: &'a [bool; 4],
+    held: &'a [u64; 64],
+    pending: Pending,
+    op: Op,
+    n: usize,
+) -> usize
+    ensures { λ r. ⌜ r ≡ refusal (quietRows (stateOf z head tail next (now (page .entry)) (now (original .entry)) (now (spare .entry)) (now (bitmap .entry)) (now (last .entry)) (now (opened .entry)) (now (held .entry)) pending) n ++ opRows (stateOf z head tail next (now (page .entry)) (now (original .entry)) (now (spare .entry)) (now (bitmap .entry)) (now (last .entry)) (now (opened .entry)) (now (held .entry)) pending) op 0) ⌝ }
+{
+    let row = rows::quiet_row(
+        z,
+        head,
+        tail,
+        next,
+        page,
+        original,
+        spare,
+        bitmap,
+        last,
+        opened,
+        held,
+        pending,
+        n,
+    );
+    if row != 0 {
+        return row;
+    }
+    operations::op_row(
+        z,
+        head,
+        tail,
+        next,
+        page,
+        original,
+        spare,
+        opened,
+        held,
+        op,
+        0,
+    )
+}
+
+// Asks for a commit, a consolidation or a checkpoint.
+pub fn ask(st: State, n: usize, op: Op) -> Done
+    requires { ⌜ isIdle op ≡ false ⌝ }
+    ensures { λ r. ⌜ outcomeOf r ≡ asked (refusal (quietRows st n ++ opRows st op 0)) st op (replicate 8 0) 0 ⌝ }
+{
+    let mut next = st;
+    let pending = next.pending;
+    let row = ask_row(
+        next.sizes,
+        next.head,
+        next.tail,
+        next.next,
+        &next.table.page,
+        &next.table.original,
+        &next.table.spare,
+        &next.table.bitmap,
+        &next.table.last,
+        &next.writers.opened,
+        &next.writers.held,
+        pending,
+        op,
+        n,
+    );
+    if row != 0 {
+        return answers::refused(row, next);
+    }
+    let needed = operations::op_needs(
+        next.sizes,
+        next.head,
+        next.tail,
+        &next.table.page,
+        &next.table.bitmap,
+        &next.table.last,
+        &next.writers.held,
+        op,
+    );
+    let pending = pending_from(op, [0; 8], 0);
+    next.pending = pending;
+    if needed == 0 {
+        return answers::taken(0, stores::complete(next));
+    }
+    answers::taken(needed, next)
+}

@@ -1,0 +1,46 @@
+use mathlib.Core.Path.{refl, sym, _∙_}
+use borrow.Author.Needs.{needs}
+use Rattle.operations.specs.Operations.{writeArgsBad}
+use Rattle.operations.proofs.Taken.{ArgsGood, args-good}
+use Rattle.bounded.proofs.Rows.{none-apply}
+use native.Mathlib.Omega.{arith}
+use Rattle.operations.specs.Operations.{writeRowsOf}
+use Rattle.finding.proofs.frames_found.Statement.{statement}
+use Rattle.finding.proofs.frames_found.Tie as tie
+
+good1 : (c : tie.Else1) → let a = c .before .before .before .before .before .args in ArgsGood (a .z) (a .writer) (a .p) (a .line) (a .offset) (a .length)
+good1 c =
+    let a = c .before .before .before .before .before .args in
+    let rows = writeRowsOf (a .z) (a .next) (a .page .now) (a .original .now) (a .spare .now) (a .opened .now) (a .held .now) (a .writer) (a .p) (c .before .before .before .slot-of .result) (a .line) (a .offset) (a .length) (c .before .before .page-frame .result) in
+    args-good (a .z) (a .writer) (a .p) (a .line) (a .offset) (a .length) (none-apply rows (omega arith) (sym (c .before .write-row .ensures) ∙ c .if1 .left) .0)
+
+slot-of-requires : tie.Need-slot-of-requires
+slot-of-requires c κs = search needs
+
+page-frame-requires : tie.Need-page-frame-requires
+page-frame-requires c κs = search needs
+
+write-row-requires : tie.Need-write-row-requires
+write-row-requires c κs = search needs
+
+returns : tie.Need-returns
+returns c =
+    (rw (c .before .before .page-frame .ensures, c .before .before .before .slot-of .ensures) at (c .before .write-row .ensures), rw (c .before .before .before .slot-of .ensures) at (c .before .before .page-frame .ensures), λ z. absurd (c .if1 .taken z))
+
+seen-frame-requires : tie.Need-seen-frame-requires
+seen-frame-requires c κs = (c .before .before .before .before .before .pre .0, good1 c .writer-low, good1 c .line-low)
+
+returns-2 : tie.Need-returns-2
+returns-2 c =
+    (rw (c .before .before .before .page-frame .ensures, c .before .before .before .before .slot-of .ensures) at (c .before .before .write-row .ensures), rw (c .before .before .before .before .slot-of .ensures) at (c .before .before .before .page-frame .ensures), λ z. rw (c .before .before .before .page-frame .ensures, c .before .before .before .before .slot-of .ensures) at (c .seen-frame .ensures))
+
+pub frames-found-spec : {M : Type 1} → statement M
+frames-found-spec =
+    tie.close
+    (tie.spec
+    slot-of-requires
+    page-frame-requires
+    write-row-requires
+    returns
+    seen-frame-requires
+    returns-2)

@@ -1,0 +1,135 @@
+// What a write finds before it is taken: the row that turns it back, or the frames of its page and its line.
+ghost use Prim.Native.Nat.{_<_, _≤_};
+ghost use lib.ListN.{length as listLength};
+ghost use Rattle.layout.specs.Layout.{Legal, imageLength};
+ghost use Rattle.state.specs.Parts.{stateOf};
+ghost use Rattle.finding.specs.Finding.{FramesFound, WriteFound};
+use layout::Sizes;
+use state::Pending;
+
+// The row, 0 where none turns the write back; then the page's frame and the one that the line is read from.
+pub struct Found {
+    pub row: usize,
+    pub frame: usize,
+    pub seen: usize,
+}
+
+// The rows from 11 on, of a page below P.
+fn frames_found<'a>(
+    z: Sizes,
+    next: usize,
+    page: &'a [usize; 16],
+    original: &'a [usize; 16],
+    spare: &'a [usize; 16],
+    bitmap: &'a [u64; 16],
+    opened: &'a [bool; 4],
+    held: &'a [u64; 64],
+    image: &[u8],
+    writer: usize,
+    p: usize,
+    line: usize,
+    offset: usize,
+    length: usize,
+) -> Found
+    requires { ⌜ Legal z × (next < z .slots) × (p < z .pages) × (imageLength z ≤ listLength (now image)) ⌝ }
+    ensures { λ r. ⌜ FramesFound z next (now (page .entry)) (now (original .entry)) (now (spare .entry)) (now (bitmap .entry)) (now (opened .entry)) (now (held .entry)) (now (image .entry)) writer p line offset length r ⌝ }
+{
+    let s = state::slots::slot_of(z, page, p);
+    let frame = frames::page_frame(z, original, image, p, s);
+    let row = operations::write_row(
+        z,
+        next,
+        page,
+        original,
+        spare,
+        opened,
+        held,
+        writer,
+        p,
+        s,
+        line,
+        offset,
+        length,
+        frame,
+    );
+    if row != 0 {
+        return Found {
+            row,
+            frame,
+            seen: frame,
+        };
+    }
+    let seen = frames::seen_frame(z, original, spare, bitmap, held, writer, p, s, line, frame);
+    Found { row, frame, seen }
+}
+
+// All rows of a write.
+pub fn write_found<'a>(
+    z: Sizes,
+    head: usize,
+    tail: usize,
+    next: usize,
+    page: &'a [usize; 16],
+    original: &'a [usize; 16],
+    spare: &'a [usize; 16],
+    bitmap: &'a [u64; 16],
+    last: &'a [usize; 16],
+    opened: &'a [bool; 4],
+    held: &'a [u64; 64],
+    pending: Pending,
+    image: &[u8],
+    writer: usize,
+    p: usize,
+    line: usize,
+    offset: usize,
+    length: usize,
+    data: &[u8],
+) -> Found
+    ensures { λ r. ⌜ WriteFound (stateOf z head tail next (now (page .entry)) (now (original .entry)) (now (spare .entry)) (now (bitmap .entry)) (now (last .entry)) (now (opened .entry)) (now (held .entry)) pending) (now (image .entry)) writer p line offset length (now («data» .entry)) r ⌝ }
+{
+    let row = rows::quiet_row(
+        z,
+        head,
+        tail,
+        next,
+        page,
+        original,
+        spare,
+        bitmap,
+        last,
+        opened,
+        held,
+        pending,
+        image.len(),
+    );
+    if row != 0 {
+        return Found {
+            row,
+            frame: 0,
+            seen: 0,
+        };
+    }
+    if (data.len() < length) | (p >= z.pages) {
+        return Found {
+            row: 11,
+            frame: 0,
+            seen: 0,
+        };
+    }
+    frames_found(
+        z,
+        next,
+        page,
+        original,
+        spare,
+        bitmap,
+        opened,
+        held,
+        image,
+        writer,
+        p,
+        line,
+        offset,
+        length,
+    )
+}

@@ -1,0 +1,18 @@
+use borrow.Author.Needs.{needs}
+use Rattle.refinement.specs.Calls.{consolidateOf}
+use Rattle.transactions.proofs.consolidate.Statement.{statement}
+use Rattle.transactions.proofs.consolidate.Tie as tie
+
+ask-requires : tie.Need-ask-requires
+ask-requires c κs = search needs
+
+returns : tie.Need-returns
+unfolding consolidateOf
+returns c = c .ask .ensures
+
+pub consolidate-spec : {M : Type 1} → statement M
+consolidate-spec =
+    tie.close
+    (tie.spec
+    ask-requires
+    returns)
