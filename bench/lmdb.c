@@ -5,14 +5,7 @@
 #include <stdlib.h>
 #include <string.h>
 #include <unistd.h>
-#include "round.h"
-
-#ifdef BY_LINE
-enum { RECORD_LINES = 1 };
-#else
-enum { RECORD_LINES = LINES };
-#endif
-enum { RECORDS = PAGES * LINES / RECORD_LINES, SIZE = 64 * RECORD_LINES };
+#include "records.h"
 
 static MDB_env *env;
 static MDB_dbi table;

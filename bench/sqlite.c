@@ -4,14 +4,7 @@
 #include <stdio.h>
 #include <stdlib.h>
 #include <string.h>
-#include "round.h"
-
-#ifdef BY_LINE
-enum { RECORD_LINES = 1 };
-#else
-enum { RECORD_LINES = LINES };
-#endif
-enum { RECORDS = PAGES * LINES / RECORD_LINES, SIZE = 64 * RECORD_LINES };
+#include "records.h"
 
 static sqlite3 *db;
 static sqlite3_stmt *begin, *update, *commit;

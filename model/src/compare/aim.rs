@@ -140,6 +140,23 @@ impl Aim<'_> {
         (offset, length)
     }
 
+    /// A call that both programs have, by its letter; `reopened` percent of the begins are mostly by an open writer.
+    pub fn call(&mut self, letter: u8, reopened: u64) -> String {
+        match letter {
+            b'B' => {
+                let open = self.rng.percent(reopened);
+                format!("B,{}", self.writer(open))
+            }
+            b'C' | b'A' => format!("{},{}", char::from(letter), self.writer(true)),
+            b'W' => {
+                let writer = self.writer(true);
+                self.write(writer)
+            }
+            b'D' => format!("D,{}", self.page(85)),
+            _ => char::from(letter).to_string(),
+        }
+    }
+
     /// A write's line by a given writer.
     pub fn write(&mut self, writer: u64) -> String {
         let (page, line, (offset, length)) = (self.page(40), self.line(), self.span());

@@ -82,21 +82,11 @@ fn any_call(scribe: &mut Scribe) -> String {
         (3, b'X'),
         (5, b'K'),
     ];
-    match aim.rng.weighted(&choices) {
-        b'B' => {
-            let open = aim.rng.percent(20);
-            format!("B,{}", aim.writer(open))
-        }
-        b'C' => format!("C,{}", aim.writer(true)),
-        b'A' => format!("A,{}", aim.writer(true)),
-        b'W' => {
-            let writer = aim.writer(true);
-            aim.write(writer)
-        }
+    let letter = aim.rng.weighted(&choices);
+    match letter {
         b'R' => read(&mut aim),
-        b'D' => format!("D,{}", aim.page(85)),
         b'K' => cut(&mut aim),
-        letter => char::from(letter).to_string(),
+        _ => aim.call(letter, 20),
     }
 }
 

@@ -148,22 +148,12 @@ pub(super) fn any_call(scribe: &mut Scribe) -> String {
         (7, b'G'),
         (3, b'H'),
     ];
-    match aim.rng.weighted(&choices) {
-        b'B' => {
-            let open = aim.rng.percent(15);
-            format!("B,{}", aim.writer(open))
-        }
-        b'C' => format!("C,{}", aim.writer(true)),
-        b'A' => format!("A,{}", aim.writer(true)),
-        b'W' => {
-            let writer = aim.writer(true);
-            aim.write(writer)
-        }
+    let letter = aim.rng.weighted(&choices);
+    match letter {
         b'R' => read(&mut aim),
         b'E' => recall(&mut aim),
-        b'D' => format!("D,{}", aim.page(85)),
         b'N' => format!("N,{}", aim.rng.pick(&[0, 1, 3, 8, 20, HUGE])),
-        letter => char::from(letter).to_string(),
+        _ => aim.call(letter, 15),
     }
 }
 
