@@ -45,7 +45,7 @@ fn ask_row<'a>(
 ) -> usize
     ensures { λ r. ⌜ r ≡ refusal (quietRows (stateOf z head tail next (now (page .entry)) (now (original .entry)) (now (spare .entry)) (now (bitmap .entry)) (now (last .entry)) (now (opened .entry)) (now (held .entry)) pending) n ++ opRows (stateOf z head tail next (now (page .entry)) (now (original .entry)) (now (spare .entry)) (now (bitmap .entry)) (now (last .entry)) (now (opened .entry)) (now (held .entry)) pending) op 0) ⌝ }
 {
-    let row = rows::quiet_row(
+    let row = rows::first_row(
         z,
         head,
         tail,
@@ -59,6 +59,7 @@ fn ask_row<'a>(
         held,
         pending,
         n,
+        false,
     );
     if row != 0 {
         return row;

@@ -87,7 +87,7 @@ pub fn write_found<'a>(
 ) -> Found
     ensures { λ r. ⌜ WriteFound (stateOf z head tail next (now (page .entry)) (now (original .entry)) (now (spare .entry)) (now (bitmap .entry)) (now (last .entry)) (now (opened .entry)) (now (held .entry)) pending) (now (image .entry)) writer p line offset length (now («data» .entry)) r ⌝ }
 {
-    let row = rows::quiet_row(
+    let row = rows::first_row(
         z,
         head,
         tail,
@@ -101,6 +101,7 @@ pub fn write_found<'a>(
         held,
         pending,
         image.len(),
+        false,
     );
     if row != 0 {
         return Found {

@@ -1,8 +1,8 @@
 // Program powerhit: calls as lines of standard input, each answered by a line of standard output (document 01).
 // What a line does and prints is script's. Here the input is cut into lines and the output is collected.
+use executing::Machine;
 use libc::STDIN_FILENO;
 use libc::STDOUT_FILENO;
-use script::Machine;
 use script::performing;
 
 // The program between two pieces of the input.

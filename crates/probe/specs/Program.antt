@@ -2,7 +2,7 @@
 use Prim.Native.Nat.{ℕ}
 use mathlib.Core.List.{List}
 use Rattle.text.specs.Fields.{parsed}
-use Rattle.editing.specs.declared.Bench.{Bench}
+use Rattle.workbench.specs.declared.Bench.{Bench}
 use Rattle.probing.specs.Lines.{turnOf, bufferAfter}
 use Rattle.reporting.specs.Text.{printedOf}
 

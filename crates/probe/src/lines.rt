@@ -2,10 +2,10 @@
 ghost use mathlib.Core.Path.{_≡_};
 ghost use Prim.Native.Nat.{_+_, _≤_};
 ghost use lib.ListN.{length};
-ghost use Rattle.reporting.specs.Text.{Put};
+ghost use Rattle.number_text.specs.Text.{Put};
 ghost use Rattle.probe.specs.Program.{benchAfter, bytesAfter, lineText};
 use crate::Printed;
-use editing::Bench;
+use workbench::Bench;
 
 // Input line n, printed at byte at of the output.
 pub fn perform(
@@ -22,7 +22,7 @@ pub fn perform(
     ensures text { λ r. ⌜ Put (now (out .entry)) at (lineText bench (now (buffer .entry)) (now (line .entry)) n) (now (out .exit)) (r .next) ⌝ }
 {
     let l = text::parse::parse(line, 20);
-    let t = probing::turns::turn(bench, buffer, l);
+    let t = probing::turn(bench, buffer, l);
     let next = reporting::print(out, at, n, l.letter, t);
     let bench = t.bench;
     Printed { bench, next }

@@ -3,7 +3,7 @@
 mod lines;
 mod reading;
 
-use editing::Bench;
+use workbench::Bench;
 
 // What a printed line leaves: the bench after it, and where the next line is printed.
 struct Printed {
@@ -22,7 +22,7 @@ struct Session {
 }
 
 fn started() -> Session {
-    let bench = editing::starting::first_bench();
+    let bench = workbench::starting::first_bench();
     Session {
         bench,
         lines: 0,

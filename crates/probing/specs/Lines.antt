@@ -4,12 +4,14 @@ use mathlib.Core.List.{List, [], _∷_, _++_}
 use lib.Dec.{eqb}
 use lib.ListN.{length, take, drop}
 use Rattle.text.specs.declared.Line.{Line}
-use Rattle.editing.specs.Edits.{lendTurn, byteTurn, byteSet, wordTurn, wordSet, numberTurn, pendingTurn, lineByteTurn}
-use Rattle.editing.specs.Hash.{hashOf}
-use Rattle.editing.specs.Turns.{shown, formed, choose}
-use Rattle.editing.specs.declared.Bench.{Bench}
-use Rattle.editing.specs.declared.Said.the-variants.{Hash, Numbers}
-use Rattle.editing.specs.declared.Turn.{Turn}
+use Rattle.workbench.specs.Turns.{shown, formed, choose}
+use Rattle.workbench.specs.declared.Bench.{Bench}
+use Rattle.workbench.specs.declared.Said.the-variants.{Hash, Numbers}
+use Rattle.workbench.specs.declared.Turn.{Turn}
+use Rattle.hashing.specs.Hash.{hashOf}
+use Rattle.buffer_edits.specs.Edits.{lendTurn, byteTurn, byteSet, wordTurn, wordSet}
+use Rattle.state_edits.specs.Edits.{numberTurn}
+use Rattle.pending_edits.specs.Edits.{pendingTurn, lineByteTurn}
 use Rattle.probing.specs.Calls.{callTurn, callBytes}
 
 -- G prints the state's numbers, H the hash of the whole buffer

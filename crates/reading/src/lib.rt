@@ -20,7 +20,7 @@ pub fn read(
     ensures bytes { λ _. ⌜ now (target .exit) ≡ readBytes st (now (image .entry)) writer page line (now (target .entry)) ⌝ }
 {
     let pending = st.pending;
-    let row = rows::quiet_row(
+    let row = rows::first_row(
         st.sizes,
         st.head,
         st.tail,
@@ -34,6 +34,7 @@ pub fn read(
         &st.writers.held,
         pending,
         image.len(),
+        false,
     );
     if row != 0 {
         return answers::answer_of(row, 0);

@@ -1,16 +1,14 @@
 // What a line prints, put into a buffer; each call gives where the next goes.
-mod numbers;
-mod states;
-
-ghost use mathlib.Core.Path.{_≡_};
 ghost use mathlib.Core.List.{_∷_, _++_};
-ghost use Prim.Native.Nat.{_+_, _*_, _≤_};
+ghost use Prim.Native.Nat.{_+_, _≤_};
 ghost use lib.ListN.{length};
-ghost use Rattle.reporting.specs.Text.{Put, field, dash, otherText, answeredText, shownText, stateField, saidText, printedOf};
-use crate::numbers::put_after;
-use editing::Said;
-use editing::Turn;
+ghost use Rattle.number_text.specs.Text.{Put, field};
+ghost use Rattle.state_text.specs.Numbers.{stateField};
+ghost use Rattle.reporting.specs.Text.{dash, otherText, answeredText, shownText, saidText, printedOf};
+use number_text::put_after;
 use state::State;
+use workbench::Said;
+use workbench::Turn;
 
 // `,-`
 fn put_dash(out: &mut [u8], at: usize) -> usize
@@ -66,7 +64,7 @@ fn put_numbered(out: &mut [u8], at: usize, letter: u8, st: State) -> usize
     ensures { λ r. ⌜ Put (now (out .entry)) at (shownText letter (stateField st)) (now (out .exit)) r ⌝ }
 {
     let next = put_shown(out, at, letter);
-    states::put_state(out, next, st)
+    state_text::put_state(out, next, st)
 }
 
 // A line's fields from its call on.

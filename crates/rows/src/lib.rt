@@ -2,13 +2,14 @@
 ghost use mathlib.Core.Path.{_≡_};
 ghost use Rattle.bounded.specs.Rows.{refusal};
 ghost use Rattle.state.specs.Parts.{stateOf};
-ghost use Rattle.refinement.specs.Calls.{quietRows, busyRows};
+ghost use Rattle.refinement.specs.Calls.{busyRows};
+ghost use Rattle.rows.specs.First.{firstRows};
 use layout::Sizes;
 use state::Pending;
 use state::State;
 
-// The first of rows 8, 4 and 9, of an image of n bytes.
-pub fn quiet_row<'a>(
+// The first of rows 8, 4 and 9, of an image of n bytes; of a busy call, which goes on with what is pending, 8, 4 and 10.
+pub fn first_row<'a>(
     z: Sizes,
     head: usize,
     tail: usize,
@@ -22,8 +23,9 @@ pub fn quiet_row<'a>(
     held: &'a [u64; 64],
     pending: Pending,
     n: usize,
+    busy: bool,
 ) -> usize
-    ensures { λ r. ⌜ r ≡ refusal (quietRows (stateOf z head tail next (now (page .entry)) (now (original .entry)) (now (spare .entry)) (now (bitmap .entry)) (now (last .entry)) (now (opened .entry)) (now (held .entry)) pending) n) ⌝ }
+    ensures { λ r. ⌜ r ≡ refusal (firstRows busy (stateOf z head tail next (now (page .entry)) (now (original .entry)) (now (spare .entry)) (now (bitmap .entry)) (now (last .entry)) (now (opened .entry)) (now (held .entry)) pending) n) ⌝ }
 {
     if !validity::state_ok(
         z,
@@ -45,52 +47,12 @@ pub fn quiet_row<'a>(
         return 4;
     }
     let op = pending.op;
-    if !operations::is_idle(op) {
-        return 9;
-    }
-    0
-}
-
-// The first of rows 8, 4 and 10, of an image of n bytes: the rows of step and run.
-pub fn step_row<'a>(
-    z: Sizes,
-    head: usize,
-    tail: usize,
-    next: usize,
-    page: &'a [usize; 16],
-    original: &'a [usize; 16],
-    spare: &'a [usize; 16],
-    bitmap: &'a [u64; 16],
-    last: &'a [usize; 16],
-    opened: &'a [bool; 4],
-    held: &'a [u64; 64],
-    pending: Pending,
-    n: usize,
-) -> usize
-    ensures { λ r. ⌜ r ≡ refusal (busyRows (stateOf z head tail next (now (page .entry)) (now (original .entry)) (now (spare .entry)) (now (bitmap .entry)) (now (last .entry)) (now (opened .entry)) (now (held .entry)) pending) n) ⌝ }
-{
-    if !validity::state_ok(
-        z,
-        head,
-        tail,
-        next,
-        page,
-        original,
-        spare,
-        bitmap,
-        last,
-        opened,
-        held,
-        pending,
-    ) {
-        return 8;
-    }
-    if n < layout::image_length(z) {
-        return 4;
-    }
-    let op = pending.op;
-    if operations::is_idle(op) {
+    let idle = operations::is_idle(op);
+    if busy & idle {
         return 10;
+    }
+    if !(busy | idle) {
+        return 9;
     }
     0
 }
@@ -100,7 +62,7 @@ pub fn busy_row(st: State, n: usize) -> usize
     ensures { λ r. ⌜ r ≡ refusal (busyRows st n) ⌝ }
 {
     let pending = st.pending;
-    step_row(
+    first_row(
         st.sizes,
         st.head,
         st.tail,
@@ -114,5 +76,6 @@ pub fn busy_row(st: State, n: usize) -> usize
         &st.writers.held,
         pending,
         n,
+        true,
     )
 }

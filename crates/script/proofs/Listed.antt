@@ -23,11 +23,12 @@ use Rattle.refinement.specs.Mount.{mountCall, formatCall}
 use Rattle.refinement.specs.Run.{exec}
 use Rattle.decimals.specs.Decimal.{digitsOf}
 use Rattle.text.specs.Fields.{withByte, fields, allDigits, valueFrom, allNumbers, values, lineOf, parsed}
-use Rattle.script.specs.Forms.{formOf}
+use Rattle.forms.specs.Forms.{formOf}
 use Rattle.script.specs.Listing.{text, printed, input, output}
-use Rattle.script.specs.Output.{outputLine}
+use Rattle.printing.specs.Output.{outputLine}
 use Rattle.script.specs.Performed.{started}
-use Rattle.script.specs.Turns.{formats, finished, shown, turnOf}
+use Rattle.executing.specs.Called.{finished}
+use Rattle.script.specs.Turns.{formats, shown, turnOf}
 
 pub listing : printed 1 started (replicate 12480 0) input ≡ output
 unfolding allBelow someBelow firstBelow one countBelow those upTo countOf eachOnce tab filled leOf bytesOf part over wordAt putWord wordsAt flat freshWords formatted freshTable mountRead mountOf liveRecord recordsOk tableFrom replay frameNames inMask withLine exclusiveOr disjoint others linesIn countLines linesNotIn heldOk othersHold someHold heldSlots copyCount recordedSlots needs freeAfter frameOfSlot framesApart slotsOk lastsOk pendingOk stateOk commitRecord commitAt commitValue closedWriter pageFrame seenFrame stepped steppedBy writeSlot beginOf writeOf commitOf readRow readBytes runOf runBytes mountCall formatCall exec digitsOf withByte fields allDigits valueFrom allNumbers values lineOf parsed formOf text printed outputLine formats finished shown turnOf

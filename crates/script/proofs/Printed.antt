@@ -11,12 +11,12 @@ use Rattle.bounded.proofs.Tests.{caseOn}
 use Rattle.words.specs.Words.{over}
 use Rattle.text.specs.declared.Line.{Line}
 use Rattle.text.specs.Fields.{parsed}
-use Rattle.script.specs.declared.Machine.{Machine}
+use Rattle.executing.specs.declared.Machine.{Machine}
 use Rattle.script.specs.declared.Performed.{Performed}
-use Rattle.script.specs.declared.Turned.{Turned}
-use Rattle.script.specs.Output.{outputLine}
+use Rattle.executing.specs.declared.Turned.{Turned}
+use Rattle.printing.specs.Output.{outputLine}
 use Rattle.script.specs.Performed.{room, Performance, performed}
-use Rattle.script.specs.Turns.{Turn, turnOf}
+use Rattle.script.specs.Turns.{turnOf}
 
 -- the test that no sum wraps in
 pub room-left : (size at : ℕ) → 67 ≤ size → leb at (size - 67) ≡ leb (at + room) size

@@ -16,10 +16,11 @@ use Rattle.answers.specs.Answers.{numberOf, storesOf, outcomeOf}
 use Rattle.refinement.specs.Calls.{readRow, readBytes}
 use Rattle.refinement.specs.Mount.{formatCall}
 use Rattle.refinement.specs.Run.{exec}
-use Rattle.script.specs.declared.Machine.{Machine}
-use Rattle.script.specs.declared.Output.the-variants.{Answered, Shown}
-use Rattle.script.specs.declared.Turned.{Turned}
-use Rattle.script.specs.Turns.{ready, formats, shown}
+use Rattle.executing.specs.declared.Machine.{Machine}
+use Rattle.printing.specs.declared.Output.the-variants.{Answered, Shown}
+use Rattle.executing.specs.declared.Turned.{Turned}
+use Rattle.executing.specs.Called.{ready}
+use Rattle.script.specs.Turns.{formats, shown}
 
 -- a format, of which d came
 module _ (m : Machine) (img after : List ℕ) (z : Sizes) (d : Done) (number : ℕ) (r : Turned) (e : outcomeOf d ≡ formatCall z img) (b : after ≡ formatBytes z img) (h : number ≡ numberOf (d .answer)) where

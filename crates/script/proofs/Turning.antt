@@ -6,14 +6,15 @@ use Rattle.layout.specs.declared.Sizes.{Sizes}
 use Rattle.text.specs.declared.Line.{Line}
 use Rattle.refinement.specs.Calls.{worldOf}
 use Rattle.refinement.specs.Run.{Result, exec}
-use Rattle.script.specs.declared.Ask.{Ask}
-use Rattle.script.specs.declared.Form.{Form}
-use Rattle.script.specs.declared.Form.the-variants.{Formats, Asks, Reads, Cuts}
-use Rattle.script.specs.declared.Machine.{Machine}
-use Rattle.script.specs.declared.Output.{Output}
-use Rattle.script.specs.declared.Turned.{Turned}
-use Rattle.script.specs.Forms.{first, formOf}
-use Rattle.script.specs.Turns.{sizesIn, formats, callOf, finished, shownBy, cuts, turnBy, turnOf}
+use Rattle.forms.specs.declared.Ask.{Ask}
+use Rattle.forms.specs.declared.Form.{Form}
+use Rattle.forms.specs.declared.Form.the-variants.{Formats, Asks, Reads, Cuts}
+use Rattle.executing.specs.declared.Machine.{Machine}
+use Rattle.printing.specs.declared.Output.{Output}
+use Rattle.executing.specs.declared.Turned.{Turned}
+use Rattle.forms.specs.Forms.{first, formOf}
+use Rattle.executing.specs.Called.{callOf, finished}
+use Rattle.script.specs.Turns.{sizesIn, formats, shownBy, cuts, turnBy, turnOf}
 
 -- g is the form that the code found
 module _ (m : Machine) (img : List ℕ) (line : Line) (g : Form) (e : g ≡ formOf (m .formatted) line) where
@@ -31,7 +32,7 @@ module _ (m : Machine) (img : List ℕ) (line : Line) (g : Form) (e : g ≡ form
   by-format z r after h q t b =
       by-form Formats r after h (t ∙ ap (λ (x : Sizes). formats m img x .turned) q) (b ∙ ap (λ (x : Sizes). formats m img x .image) q)
 
-  pub by-call : (a : Ask) (d : Result) (r : Turned) (after : List ℕ) → g ≡ Asks a → d ≡ exec (callOf a line) (worldOf (m .st) img)
+  pub by-call : (a : Ask) (d : Result) (r : Turned) (after : List ℕ) → g ≡ Asks a → d ≡ exec (callOf a (line .count) (line .numbers)) (worldOf (m .st) img)
       → r ≡ finished (line .letter) (m .cut) d .turned → after ≡ finished (line .letter) (m .cut) d .image → Is r after
   by-call a d r after h q t b =
       by-form (Asks a) r after h

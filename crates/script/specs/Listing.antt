@@ -3,8 +3,8 @@ use Prim.Native.Nat.{ℕ, suc}
 use Prim.Native.Char.{code}
 use Prim.Native.String.{String, [] as none, _∷_ as _then_}
 use mathlib.Core.List.{List, [], _∷_}
-use Rattle.script.specs.declared.Machine.{Machine}
-use Rattle.script.specs.Output.{outputLine}
+use Rattle.executing.specs.declared.Machine.{Machine}
+use Rattle.printing.specs.Output.{outputLine}
 use Rattle.script.specs.Performed.{lineTurn}
 
 -- the bytes of a text of ASCII characters

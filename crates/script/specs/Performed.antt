@@ -7,11 +7,12 @@ use lib.ListN.{length}
 use Rattle.words.specs.Words.{over}
 use Rattle.refinement.specs.Mount.{noState}
 use Rattle.text.specs.Fields.{parsed}
-use Rattle.script.specs.declared.Cut.the-variants.{Unset}
-use Rattle.script.specs.declared.Machine.{Machine}
+use Rattle.executing.specs.declared.Cut.the-variants.{Unset}
+use Rattle.executing.specs.declared.Machine.{Machine}
 use Rattle.script.specs.declared.Performed.{Performed}
-use Rattle.script.specs.Output.{outputLine}
-use Rattle.script.specs.Turns.{Turn, turnOf}
+use Rattle.printing.specs.Output.{outputLine}
+use Rattle.executing.specs.Called.{Turn}
+use Rattle.script.specs.Turns.{turnOf}
 
 -- before the first line
 abbrev pub started : Machine

@@ -1,15 +1,14 @@
 // A line's turn.
 ghost use mathlib.Core.Path.{_≡_};
 ghost use Rattle.script.specs.Turns.{sizesIn, formats, shown, shownBy, cuts, turnOf};
-use crate::Cut;
-use crate::Form;
-use crate::Machine;
-use crate::Output;
-use crate::Turned;
-use crate::asking;
-use crate::forms;
-use crate::making;
+use executing::Cut;
+use executing::Machine;
+use executing::Turned;
+use executing::calls;
+use executing::finishing;
+use forms::Form;
 use layout::Sizes;
+use printing::Output;
 use state::State;
 use text::Line;
 
@@ -18,9 +17,9 @@ fn sizes_in(numbers: &[u64; 69]) -> Sizes
     ensures { λ r. ⌜ r ≡ sizesIn (now (numbers .entry)) ⌝ }
 {
     Sizes {
-        pages: forms::num(numbers, 0),
-        slots: forms::num(numbers, 1),
-        places: forms::num(numbers, 2),
+        pages: calling::num(numbers, 0),
+        slots: calling::num(numbers, 1),
+        places: calling::num(numbers, 2),
     }
 }
 
@@ -41,7 +40,7 @@ fn format_turn(m: Machine, image: &mut [u8], z: Sizes) -> Turned
         return Turned { machine: m, output };
     }
     let cut = m.cut;
-    making::answered(d.state, cut, b'F', number, 0)
+    finishing::answered(d.state, cut, b'F', number, 0)
 }
 
 // R: the byte at an offset of a line.
@@ -81,10 +80,10 @@ fn read_shown(st: State, image: &[u8], numbers: &[u64; 69]) -> Output
     read_byte(
         st,
         image,
-        forms::num(numbers, 0),
-        forms::num(numbers, 1),
-        forms::num(numbers, 2),
-        forms::num(numbers, 3),
+        calling::num(numbers, 0),
+        calling::num(numbers, 1),
+        calling::num(numbers, 2),
+        calling::num(numbers, 3),
     )
 }
 
@@ -93,7 +92,7 @@ fn cut_turn(m: Machine, k: usize) -> Turned
     ensures { λ r. ⌜ r ≡ cuts m k ⌝ }
 {
     let st = m.st;
-    making::answered(st, Cut::After(k), b'K', 0, 0)
+    finishing::answered(st, Cut::After(k), b'K', 0, 0)
 }
 
 // The machine and the image after a line, and what it prints.
@@ -107,14 +106,14 @@ pub fn turn(m: Machine, image: &mut [u8], line: Line) -> Turned
         Form::Formats => format_turn(m, image, sizes_in(&line.numbers)),
         Form::Asks(a) => {
             let cut = m.cut;
-            let d = asking::ask(m.st, image, a, letter, count, &line.numbers);
-            making::finish(image, cut, letter, d)
+            let d = calls::ask(m.st, image, a, count, &line.numbers);
+            finishing::finish(image, cut, letter, d)
         }
         Form::Reads => {
             let output = read_shown(m.st, image, &line.numbers);
             Turned { machine: m, output }
         }
-        Form::Cuts => cut_turn(m, forms::num(&line.numbers, 0)),
+        Form::Cuts => cut_turn(m, calling::num(&line.numbers, 0)),
         Form::Other => Turned {
             machine: m,
             output: Output::Unknown,

@@ -3,14 +3,15 @@ ghost use mathlib.Core.Path.{_≡_};
 ghost use Rattle.bounded.specs.Rows.{refusal};
 ghost use Rattle.state.specs.Parts.{stateOf};
 ghost use Rattle.answers.specs.Answers.{outcomeOf};
-ghost use Rattle.refinement.specs.Calls.{beginRows, beginOf, abortRows, abortOf};
+ghost use Rattle.refinement.specs.Calls.{beginOf, abortOf};
+ghost use Rattle.writers.specs.Writers.{writerRows};
 use answers::Done;
 use layout::Sizes;
 use state::Pending;
 use state::State;
 
-// The first row that turns begin back.
-fn begin_row<'a>(
+// The first row that turns back begin, which wants the writer closed, or abort, which wants it open.
+fn writer_row<'a>(
     z: Sizes,
     head: usize,
     tail: usize,
@@ -24,8 +25,9 @@ fn begin_row<'a>(
     held: &'a [u64; 64],
     pending: Pending,
     writer: usize,
+    wanted: bool,
 ) -> usize
-    ensures { λ r. ⌜ r ≡ refusal (beginRows (stateOf z head tail next (now (page .entry)) (now (original .entry)) (now (spare .entry)) (now (bitmap .entry)) (now (last .entry)) (now (opened .entry)) (now (held .entry)) pending) writer) ⌝ }
+    ensures { λ r. ⌜ r ≡ refusal (writerRows wanted (stateOf z head tail next (now (page .entry)) (now (original .entry)) (now (spare .entry)) (now (bitmap .entry)) (now (last .entry)) (now (opened .entry)) (now (held .entry)) pending) writer) ⌝ }
 {
     if !validity::state_ok(
         z,
@@ -50,8 +52,12 @@ fn begin_row<'a>(
     if writer > 3 {
         return 11;
     }
-    if opened[writer] {
+    let open = opened[writer];
+    if !wanted & open {
         return 12;
+    }
+    if wanted & !open {
+        return 13;
     }
     0
 }
@@ -62,7 +68,7 @@ pub fn begin(st: State, writer: usize) -> Done
 {
     let mut next = st;
     let pending = next.pending;
-    let row = begin_row(
+    let row = writer_row(
         next.sizes,
         next.head,
         next.tail,
@@ -76,6 +82,7 @@ pub fn begin(st: State, writer: usize) -> Done
         &next.writers.held,
         pending,
         writer,
+        false,
     );
     if row != 0 {
         return answers::refused(row, next);
@@ -84,60 +91,13 @@ pub fn begin(st: State, writer: usize) -> Done
     answers::taken(0, next)
 }
 
-// The first row that turns abort back.
-fn abort_row<'a>(
-    z: Sizes,
-    head: usize,
-    tail: usize,
-    next: usize,
-    page: &'a [usize; 16],
-    original: &'a [usize; 16],
-    spare: &'a [usize; 16],
-    bitmap: &'a [u64; 16],
-    last: &'a [usize; 16],
-    opened: &'a [bool; 4],
-    held: &'a [u64; 64],
-    pending: Pending,
-    writer: usize,
-) -> usize
-    ensures { λ r. ⌜ r ≡ refusal (abortRows (stateOf z head tail next (now (page .entry)) (now (original .entry)) (now (spare .entry)) (now (bitmap .entry)) (now (last .entry)) (now (opened .entry)) (now (held .entry)) pending) writer) ⌝ }
-{
-    if !validity::state_ok(
-        z,
-        head,
-        tail,
-        next,
-        page,
-        original,
-        spare,
-        bitmap,
-        last,
-        opened,
-        held,
-        pending,
-    ) {
-        return 8;
-    }
-    let op = pending.op;
-    if !operations::is_idle(op) {
-        return 9;
-    }
-    if writer > 3 {
-        return 11;
-    }
-    if !opened[writer] {
-        return 13;
-    }
-    0
-}
-
 // Closes a writer and empties its held lines.
 pub fn abort(st: State, writer: usize) -> Done
     ensures { λ r. ⌜ outcomeOf r ≡ abortOf st writer ⌝ }
 {
     let mut next = st;
     let pending = next.pending;
-    let row = abort_row(
+    let row = writer_row(
         next.sizes,
         next.head,
         next.tail,
@@ -151,6 +111,7 @@ pub fn abort(st: State, writer: usize) -> Done
         &next.writers.held,
         pending,
         writer,
+        true,
     );
     if row != 0 {
         return answers::refused(row, next);

@@ -16,15 +16,15 @@ st c =
     stateOf (a .z) (a .head) (a .tail) (a .next) (a .page .now) (a .original .now) (a .spare .now) (a .bitmap .now) (a .last .now) (a .opened .now) (a .held .now) (a .pending)
 
 quiet1 : (c : tie.Else1) → Quiet (st (c .before .before)) (c .before .before .args .n)
-quiet1 c = quiet (st (c .before .before)) (c .before .before .args .n) _ (c .before .quiet-row .ensures) (c .if1 .left)
+quiet1 c = quiet (st (c .before .before)) (c .before .before .args .n) _ (c .before .first-row .ensures) (c .if1 .left)
 
-quiet-row-requires : tie.Need-quiet-row-requires
-quiet-row-requires c κs = search needs
+first-row-requires : tie.Need-first-row-requires
+first-row-requires c κs = search needs
 
 returns : tie.Need-returns
 returns c =
     let s = c .before .before in
-    rows-first (quietRows (st s) (s .args .n)) (opRows (st s) (s .args .op) 0) _ (c .before .quiet-row .ensures) (c .if1 .taken)
+    rows-first (quietRows (st s) (s .args .n)) (opRows (st s) (s .args .op) 0) _ (c .before .first-row .ensures) (c .if1 .taken)
 
 op-row-requires : tie.Need-op-row-requires
 op-row-requires c κs = let h = ranges-of (st (c .before .before)) (quiet1 c .ok) in (h .legal, h .head-low, h .tail-low, h .live-high, h .next-low)
@@ -38,7 +38,7 @@ pub ask-row-spec : {M : Type 1} → statement M
 ask-row-spec =
     tie.close
     (tie.spec
-    quiet-row-requires
+    first-row-requires
     returns
     op-row-requires
     returns-2)

@@ -36,19 +36,19 @@ abbrev rows : tie.Start → List Row
 rows s = let a = s .args in writeRows (st s) (a .writer) (a .p) (a .line) (a .offset) (a .length) (pageFrame (st s) (a .image .now) (a .p))
 
 quiet1 : (c : tie.Else1) → Quiet (st (c .before .before .before .before)) (length (c .before .before .before .before .args .image .now))
-quiet1 c = quiet (st (c .before .before .before .before)) (length (c .before .before .before .before .args .image .now)) _ (c .before .quiet-row .ensures) (c .if1 .left)
+quiet1 c = quiet (st (c .before .before .before .before)) (length (c .before .before .before .before .args .image .now)) _ (c .before .first-row .ensures) (c .if1 .left)
 
 past2 : (c : tie.Else2) → Past (first (c .before .before .before .before .before .before) ++ ((short (c .before .before .before .before .before .before), 11) ∷ [])) 4
 past2 c =
     let q = quiet1 (c .before .before) .past in (q .0, (q .1 .0, (q .1 .1 .0, (or-left (short (c .before .before .before .before .before .before)) (leb (c .before .before .before .before .before .before .args .z .pages) (c .before .before .before .before .before .before .args .p)) (c .if2 .left), tt))))
 
-quiet-row-requires : tie.Need-quiet-row-requires
-quiet-row-requires c κs = search needs
+first-row-requires : tie.Need-first-row-requires
+first-row-requires c κs = search needs
 
 returns : tie.Need-returns
 returns c =
     let s = c .before .before .before .before in
-    (rows-first (first s) ((short s, 11) ∷ rows s) _ (c .before .quiet-row .ensures) (c .if1 .taken), λ z. absurd (c .if1 .taken z))
+    (rows-first (first s) ((short s, 11) ∷ rows s) _ (c .before .first-row .ensures) (c .if1 .taken), λ z. absurd (c .if1 .taken z))
 
 returns-2 : tie.Need-returns-2
 returns-2 c =
@@ -73,7 +73,7 @@ pub write-found-spec : {M : Type 1} → statement M
 write-found-spec =
     tie.close
     (tie.spec
-    quiet-row-requires
+    first-row-requires
     returns
     returns-2
     frames-found-requires

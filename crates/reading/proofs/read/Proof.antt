@@ -32,7 +32,7 @@ badFrame s =
     frameBad (a .t1 .sizes) (a .t1 .table .page) (a .t1 .table .original) (a .t1 .table .spare) (slotFor (a .t1) (a .page)) (pageFrame (a .t1) (a .image .now) (a .page))
 
 quiet1 : (c : tie.Else1) → Quiet (c .before .before .before .before .before .before .before .before .before .before .before .before .before .before .args .t1) (length (c .before .before .before .before .before .before .before .before .before .before .before .before .before .before .args .image .now))
-quiet1 c = quiet (c .before .before .before .before .before .before .before .before .before .before .before .before .before .before .args .t1) (length (c .before .before .before .before .before .before .before .before .before .before .before .before .before .before .args .image .now)) _ (c .before .quiet-row .ensures) (c .if1 .left)
+quiet1 c = quiet (c .before .before .before .before .before .before .before .before .before .before .before .before .before .before .args .t1) (length (c .before .before .before .before .before .before .before .before .before .before .before .before .before .before .args .image .now)) _ (c .before .first-row .ensures) (c .if1 .left)
 
 past2 : (c : tie.Else2) → Past (rows (c .before .before .before .before .before .before .before .before .before .before .before .before .before .before .before)) 4
 past2 c = let q = quiet1 (c .before) .past in (q .0, (q .1 .0, (q .1 .1 .0, (c .if2 .left, tt))))
@@ -49,8 +49,8 @@ seen3 : (c : tie.Else3) → let a = c .before .before .before .before .before .b
 unfolding pageFrame seenFrame
 seen3 c = c .before .line-found .ensures .1 (c .if3 .left)
 
-quiet-row-requires : tie.Need-quiet-row-requires
-quiet-row-requires c κs = search needs
+first-row-requires : tie.Need-first-row-requires
+first-row-requires c κs = search needs
 
 answer-of-requires : tie.Need-answer-of-requires
 answer-of-requires c κs = search needs
@@ -61,8 +61,8 @@ returns c =
     let a = s .args in
     let first = quietRows (a .t1) (length (a .image .now)) in
     read-refused (a .t1) (a .image .now) (a .writer) (a .page) (a .line) (a .target .now) (c .answer-of .result) _ (c .answer-of .ensures)
-    (rw (c .before .before .quiet-row .ensures) (row-known first (omega arith))) (c .before .if1 .taken)
-    (rows-first first ((bad s, 11) ∷ (badFrame s, 16) ∷ []) _ (c .before .before .quiet-row .ensures) (c .before .if1 .taken))
+    (rw (c .before .before .first-row .ensures) (row-known first (omega arith))) (c .before .if1 .taken)
+    (rows-first first ((bad s, 11) ∷ (badFrame s, 16) ∷ []) _ (c .before .before .first-row .ensures) (c .before .if1 .taken))
 
 returns-2 : tie.Need-returns-2
 returns-2 c =
@@ -110,7 +110,7 @@ pub read-spec : {M : Type 1} → statement M
 read-spec =
     tie.close
     (tie.spec
-    quiet-row-requires
+    first-row-requires
     answer-of-requires
     returns
     returns-2

@@ -1,9 +1,9 @@
 use native.Mathlib.Omega.{arith}
 use borrow.Author.Needs.{needs}
 use Rattle.decimals.proofs.Printing.{decimal-le}
+use Rattle.number_text.proofs.Puts.{put-then}
 use Rattle.reporting.specs.Text.{printedOf}
-use Rattle.reporting.proofs.Lengths.{said-text}
-use Rattle.reporting.proofs.Puts.{put-then}
+use Rattle.reporting.proofs.Texts.{said-text}
 use Rattle.reporting.proofs.print.Statement.{statement}
 use Rattle.reporting.proofs.print.Tie as tie
 

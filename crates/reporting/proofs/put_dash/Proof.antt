@@ -1,6 +1,6 @@
 use native.Mathlib.Omega.{arith}
 use borrow.Author.Needs.{needs}
-use Rattle.reporting.proofs.Puts.{put-then}
+use Rattle.number_text.proofs.Puts.{put-then}
 use Rattle.reporting.proofs.put_dash.Statement.{statement}
 use Rattle.reporting.proofs.put_dash.Tie as tie
 

@@ -2,8 +2,9 @@ use native.Mathlib.Omega.{arith}
 use lib.ListN.{length-append}
 use borrow.Author.Needs.{needs}
 use Rattle.decimals.proofs.Printing.{decimal-le}
-use Rattle.reporting.specs.Text.{field}
-use Rattle.reporting.proofs.Puts.{put-then, put-as, shown-text}
+use Rattle.number_text.specs.Text.{field}
+use Rattle.number_text.proofs.Puts.{put-then, put-as}
+use Rattle.reporting.proofs.Texts.{shown-text}
 use Rattle.reporting.proofs.put_hash.Statement.{statement}
 use Rattle.reporting.proofs.put_hash.Tie as tie
 

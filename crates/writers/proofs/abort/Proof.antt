@@ -14,19 +14,19 @@ abbrev after : tie.Start → State
 after s = withWriters (s .args .st) (closedWriter (s .args .st .sizes) (s .args .st .writers) (s .args .writer))
 
 taken1 : (c : tie.Else1) → let a = c .before .before .before .before .before .before .before .before .before .before .before .before .args in AbortTaken (a .st) (a .writer)
-taken1 c = let a = c .before .before .before .before .before .before .before .before .before .before .before .before .args in abort-taken (a .st) (a .writer) (sym (c .before .abort-row .ensures) ∙ c .if1 .left)
+taken1 c = let a = c .before .before .before .before .before .before .before .before .before .before .before .before .args in abort-taken (a .st) (a .writer) (sym (c .before .writer-row .ensures) ∙ c .if1 .left)
 
-abort-row-requires : tie.Need-abort-row-requires
-abort-row-requires c κs = search needs
+writer-row-requires : tie.Need-writer-row-requires
+writer-row-requires c κs = search needs
 
 refused-requires : tie.Need-refused-requires
-refused-requires c κs = let a = c .before .before .before .before .before .before .before .before .before .before .before .before .args in rw (c .before .abort-row .ensures) (row-known (abortRows (a .st) (a .writer)) (omega arith))
+refused-requires c κs = let a = c .before .before .before .before .before .before .before .before .before .before .before .before .args in rw (c .before .writer-row .ensures) (row-known (abortRows (a .st) (a .writer)) (omega arith))
 
 returns : tie.Need-returns
 unfolding abortOf
 returns c =
     let s = c .before .before .before .before .before .before .before .before .before .before .before .before .before in
-    refused-by (c .refused .result) (abortRows (s .args .st) (s .args .writer)) _ 0 (s .args .st) (after s) (c .before .before .abort-row .ensures) (c .before .if1 .taken) (c .refused .ensures)
+    refused-by (c .refused .result) (abortRows (s .args .st) (s .args .writer)) _ 0 (s .args .st) (after s) (c .before .before .writer-row .ensures) (c .before .if1 .taken) (c .refused .ensures)
 
 set-open-requires : tie.Need-set-open-requires
 set-open-requires c κs = taken1 (c .before) .writer-low
@@ -41,14 +41,14 @@ returns-2 : tie.Need-returns-2
 unfolding abortOf closedWriter
 returns-2 c =
     let s = c .before .before .before .before .before .before .before .before .before .before .before .before .before .before .before .before .before .before in
-    taken-by (c .taken .result) (abortRows (s .args .st) (s .args .writer)) _ 0 (s .args .st) (after s) (c .before .before .before .before .before .before .before .abort-row .ensures) (c .before .before .before .before .before .before .if1 .left)
+    taken-by (c .taken .result) (abortRows (s .args .st) (s .args .writer)) _ 0 (s .args .st) (after s) (c .before .before .before .before .before .before .before .writer-row .ensures) (c .before .before .before .before .before .before .if1 .left)
     (rw (c .before .let-go .ensures, c .before .before .before .before .set-open .ensures) at (c .taken .ensures))
 
 pub abort-spec : {M : Type 1} → statement M
 abort-spec =
     tie.close
     (tie.spec
-    abort-row-requires
+    writer-row-requires
     refused-requires
     returns
     set-open-requires

@@ -1,7 +1,7 @@
 use mathlib.Core.Path.{_≡_, ap, _∙_}
 use borrow.Author.Needs.{needs}
 use Rattle.text.specs.Fields.{parsed}
-use Rattle.editing.specs.declared.Turn.{Turn}
+use Rattle.workbench.specs.declared.Turn.{Turn}
 use Rattle.probing.specs.Lines.{turnOf}
 use Rattle.probe.proofs.lines.perform.Statement.{statement}
 use Rattle.probe.proofs.lines.perform.Tie as tie

@@ -1,7 +1,7 @@
 use mathlib.Core.Path.{refl, sym, _∙_}
 use borrow.Author.Needs.{needs}
-use Rattle.script.specs.declared.Form.the-variants.{Other}
-use Rattle.script.proofs.Formed.{write-data}
+use Rattle.forms.specs.declared.Form.the-variants.{Other}
+use Rattle.forms.proofs.Formed.{write-data}
 use Rattle.script.proofs.Turning.{by-form, by-format, by-call, by-read, by-cut}
 use Rattle.script.proofs.turns.turn.Statement.{statement}
 use Rattle.script.proofs.turns.turn.Tie as tie

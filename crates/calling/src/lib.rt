@@ -1,0 +1,96 @@
+// What powerhit's and probe's lines share in making a call: a write by a line's numbers, and the stores that an answer tells.
+ghost use mathlib.Core.Path.{_≡_};
+ghost use mathlib.Core.Bool.{true};
+ghost use Prim.Native.Nat.{_<_, _≤_};
+ghost use lib.ListN.{replicate};
+ghost use Rattle.bounded.specs.Tab.{filled};
+ghost use Rattle.answers.specs.Answers.{storesOf, outcomeOf};
+ghost use Rattle.calling.specs.WriteLine.{num, datum, areBytes, hasData, writeBy};
+use answers::Answer;
+use answers::Done;
+use state::State;
+
+// Number i of a line.
+pub fn num(numbers: &[u64; 69], i: usize) -> usize
+    requires { ⌜ i < 69 ⌝ }
+    ensures { λ r. ⌜ r ≡ num (now (numbers .entry)) i ⌝ }
+{
+    whole(numbers[i])
+}
+
+fn whole(x: u64) -> usize
+    ensures { λ r. ⌜ r ≡ x ⌝ }
+{
+    x as usize
+}
+
+// Whether the n numbers after the first five are bytes.
+fn all_bytes(numbers: &[u64; 69], n: usize) -> bool
+    requires { ⌜ n ≤ 64 ⌝ }
+    ensures { λ r. ⌜ r ≡ areBytes n (now (numbers .entry)) ⌝ }
+{
+    let mut i = 0;
+    while i < n {
+        if numbers[5 + i] > 255 {
+            return false;
+        }
+        i += 1;
+    }
+    true
+}
+
+// Whether the numbers are a write's: five, then at most 64 bytes.
+pub fn has_data(count: usize, numbers: &[u64; 69]) -> bool
+    ensures { λ r. ⌜ r ≡ hasData count (now (numbers .entry)) ⌝ }
+{
+    if count < 5 {
+        return false;
+    }
+    if count > 69 {
+        return false;
+    }
+    all_bytes(numbers, count - 5)
+}
+
+// The n bytes after the first five numbers.
+fn data_of(numbers: &[u64; 69], n: usize) -> [u8; 64]
+    requires { ⌜ (n ≤ 64) × (areBytes n (now numbers) ≡ true) ⌝ }
+    ensures { λ r. ⌜ r ≡ filled n (datum (now (numbers .entry))) (replicate 64 0) ⌝ }
+{
+    let mut bytes = [0u8; 64];
+    let mut i = 0;
+    while i < n {
+        bytes[i] = numbers[5 + i] as u8;
+        i += 1;
+    }
+    bytes
+}
+
+// The write that a line's numbers ask for, its stores not yet made.
+pub fn write(st: State, image: &[u8], count: usize, numbers: &[u64; 69]) -> Done
+    requires { ⌜ hasData count (now numbers) ≡ true ⌝ }
+    ensures { λ r. ⌜ outcomeOf r ≡ writeBy st (now (image .entry)) count (now (numbers .entry)) ⌝ }
+{
+    let n = count - 5;
+    let bytes = data_of(numbers, n);
+    transactions::write(
+        st,
+        image,
+        num(numbers, 0),
+        num(numbers, 1),
+        num(numbers, 2),
+        num(numbers, 3),
+        num(numbers, 4),
+        &bytes[..n],
+    )
+}
+
+// The stores that a taken call needs or made.
+pub fn stores_of(a: Answer) -> usize
+    ensures { λ r. ⌜ r ≡ storesOf a ⌝ }
+{
+    let Answer::Taken(n) = a else {
+        return 0;
+    };
+    n
+}

@@ -1,3 +1,0 @@
-pub mod Forms
-pub mod LineByte
-pub mod Hashes

@@ -1,0 +1,113 @@
+use mathlib.Core.Path.{ap, _∙_}
+use borrow.Author.Needs.{needs}
+use Rattle.refinement.specs.Calls.{worldOf, beginOf, abortOf, commitOf, consolidateOf}
+use Rattle.refinement.specs.Run.{Result, exec}
+use Rattle.refinement.specs.Stores.{World}
+use Rattle.forms.specs.declared.Ask.the-variants.{Begin, Commit, Abort, Write, Consolidate, Checkpoint, Mount}
+use Rattle.calling.specs.WriteLine.{writeBy}
+use Rattle.executing.proofs.Finished.{as-told, outcome-told}
+use Rattle.executing.proofs.calls.ask.Statement.{statement}
+use Rattle.executing.proofs.calls.ask.Tie as tie
+
+abbrev world : tie.Start → World
+world s = worldOf (s .args .st) (s .args .image .now)
+
+num-requires : tie.Need-num-requires
+num-requires c κs = search needs
+
+enum-told : tie.Need-enum-told
+enum-told c = search needs
+
+begin-requires : tie.Need-begin-requires
+begin-requires c κs = search needs
+
+enum-told-2 : tie.Need-enum-told-2
+enum-told-2 c = search needs
+
+commit-requires : tie.Need-commit-requires
+commit-requires c κs = search needs
+
+enum-told-3 : tie.Need-enum-told-3
+enum-told-3 c = search needs
+
+abort-requires : tie.Need-abort-requires
+abort-requires c κs = search needs
+
+enum-told-4 : tie.Need-enum-told-4
+enum-told-4 c = search needs
+
+write-requires : tie.Need-write-requires
+write-requires c κs = c .before .before .before .before .pre (c .enum-told4 .given .1)
+
+enum-told-5 : tie.Need-enum-told-5
+enum-told-5 c = search needs
+
+consolidate-requires : tie.Need-consolidate-requires
+consolidate-requires c κs = search needs
+
+enum-told-6 : tie.Need-enum-told-6
+enum-told-6 c = search needs
+
+checkpoint-requires : tie.Need-checkpoint-requires
+checkpoint-requires c κs = search needs
+
+enum-told-7 : tie.Need-enum-told-7
+enum-told-7 c = search needs
+
+remount-requires : tie.Need-remount-requires
+remount-requires c κs = search needs
+
+returns : tie.Need-returns
+unfolding exec
+returns c = let s = c .before .before .before .before .before in as-told (s .args .a) Begin (s .args .count) (s .args .numbers .now) (world s) _ (c .before .enum-told .given .1) (outcome-told (c .begin .result) _ (s .args .image .now) (c .begin .ensures ∙ ap (beginOf (s .args .st)) (c .before .before .before .num .ensures)))
+
+returns-2 : tie.Need-returns-2
+unfolding exec
+returns-2 c = let s = c .before .before .before .before .before in as-told (s .args .a) Commit (s .args .count) (s .args .numbers .now) (world s) _ (c .before .enum-told2 .given .1) (outcome-told (c .commit .result) _ (s .args .image .now) (c .commit .ensures ∙ ap (commitOf (s .args .st) (s .args .image .now)) (c .before .before .before .num .ensures)))
+
+returns-3 : tie.Need-returns-3
+unfolding exec
+returns-3 c = let s = c .before .before .before .before .before in as-told (s .args .a) Abort (s .args .count) (s .args .numbers .now) (world s) _ (c .before .enum-told3 .given .1) (outcome-told (c .abort .result) _ (s .args .image .now) (c .abort .ensures ∙ ap (abortOf (s .args .st)) (c .before .before .before .num .ensures)))
+
+returns-4 : tie.Need-returns-4
+unfolding exec
+returns-4 c = let s = c .before .before .before .before .before in as-told (s .args .a) Write (s .args .count) (s .args .numbers .now) (world s) _ (c .before .enum-told4 .given .1) (outcome-told (c .write .result) (writeBy (s .args .st) (s .args .image .now) (s .args .count) (s .args .numbers .now)) (s .args .image .now) (c .write .ensures))
+
+returns-5 : tie.Need-returns-5
+unfolding exec
+returns-5 c = let s = c .before .before .before .before .before in as-told (s .args .a) Consolidate (s .args .count) (s .args .numbers .now) (world s) _ (c .before .enum-told5 .given .1) (outcome-told (c .consolidate .result) _ (s .args .image .now) (c .consolidate .ensures ∙ ap (consolidateOf (s .args .st) (s .args .image .now)) (c .before .before .before .num .ensures)))
+
+returns-6 : tie.Need-returns-6
+unfolding exec
+returns-6 c = let s = c .before .before .before .before .before in as-told (s .args .a) Checkpoint (s .args .count) (s .args .numbers .now) (world s) _ (c .before .enum-told6 .given .1) (outcome-told (c .checkpoint .result) _ (s .args .image .now) (c .checkpoint .ensures))
+
+returns-7 : tie.Need-returns-7
+unfolding exec
+returns-7 c = let s = c .before .before .before .before .before in as-told (s .args .a) Mount (s .args .count) (s .args .numbers .now) (world s) _ (c .before .enum-told7 .given .1) (c .remount .ensures)
+
+pub ask-spec : {M : Type 1} → statement M
+ask-spec =
+    tie.close
+    (tie.spec
+    num-requires
+    enum-told
+    begin-requires
+    enum-told-2
+    commit-requires
+    enum-told-3
+    abort-requires
+    enum-told-4
+    write-requires
+    enum-told-5
+    consolidate-requires
+    enum-told-6
+    checkpoint-requires
+    enum-told-7
+    remount-requires
+    returns
+    returns-2
+    returns-3
+    returns-4
+    returns-5
+    returns-6
+    returns-7)

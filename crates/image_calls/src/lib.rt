@@ -1,0 +1,58 @@
+// Format, mount, step and run: F, M, S and N.
+ghost use mathlib.Core.Path.{_≡_};
+ghost use Rattle.image_calls.specs.Calls.{formatTurn, formatted, mountTurn, stepTurn, steppedBytes, runTurn, ranBytes};
+use layout::Sizes;
+use mounting;
+use stepping;
+use text::Line;
+use workbench::Bench;
+use workbench::Turn;
+use workbench::calling;
+
+pub fn format(bench: Bench, image: &mut [u8], line: Line) -> Turn
+    ensures turn { λ r. ⌜ r ≡ formatTurn bench (now (image .entry)) line ⌝ }
+    ensures bytes { λ _. ⌜ now (image .exit) ≡ formatted (now (image .entry)) line ⌝ }
+{
+    if line.count == 3 {
+        let sizes = Sizes {
+            pages: line.numbers[0] as usize,
+            slots: line.numbers[1] as usize,
+            places: line.numbers[2] as usize,
+        };
+        let done = mounting::format(image, sizes);
+        return calling::replacing(bench, done);
+    }
+    workbench::other(bench)
+}
+
+pub fn mount(bench: Bench, image: &[u8], line: Line) -> Turn
+    ensures { λ r. ⌜ r ≡ mountTurn bench (now (image .entry)) line ⌝ }
+{
+    if line.count == 0 {
+        let done = mounting::mount(image);
+        return calling::replacing(bench, done);
+    }
+    workbench::other(bench)
+}
+
+pub fn step(bench: Bench, image: &mut [u8], line: Line) -> Turn
+    ensures turn { λ r. ⌜ r ≡ stepTurn bench (now (image .entry)) line ⌝ }
+    ensures bytes { λ _. ⌜ now (image .exit) ≡ steppedBytes bench (now (image .entry)) line ⌝ }
+{
+    if line.count == 0 {
+        let done = stepping::step(bench.st, image);
+        return calling::called(bench, done);
+    }
+    workbench::other(bench)
+}
+
+pub fn run(bench: Bench, image: &mut [u8], line: Line) -> Turn
+    ensures turn { λ r. ⌜ r ≡ runTurn bench (now (image .entry)) line ⌝ }
+    ensures bytes { λ _. ⌜ now (image .exit) ≡ ranBytes bench (now (image .entry)) line ⌝ }
+{
+    if line.count == 1 {
+        let done = stepping::run(bench.st, image, line.numbers[0] as usize);
+        return calling::called(bench, done);
+    }
+    workbench::other(bench)
+}

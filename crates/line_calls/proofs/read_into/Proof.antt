@@ -1,0 +1,59 @@
+use Prim.Native.Nat.{_≤_}
+use mathlib.Core.Path.{_≡_, sym, ap₂, _∙_}
+use native.Mathlib.Omega.{arith}
+use lib.ListN.{length}
+use borrow.Author.Needs.{needs}
+use Rattle.refinement.specs.Calls.{readRow}
+use Rattle.workbench.specs.Turns.{arg}
+use Rattle.line_calls.specs.Calls.{lineSaid}
+use Rattle.line_calls.proofs.Targets.{read-long}
+use Rattle.line_calls.proofs.read_into.Statement.{statement}
+use Rattle.line_calls.proofs.read_into.Tie as tie
+
+-- the number that the read answered
+row : (c : tie.After-number-of) → let a = c .before .before .before .before .before .before .before .before .before .before .args in c .number-of .result ≡ readRow (a .bench .st) (a .image .now) (arg (a .t3) 0) (arg (a .t3) 1) (arg (a .t3) 2) (a .target .now)
+row c = c .number-of .ensures ∙ c .before .before .before .read .ensures .0 .0
+
+-- a taken read's target has 64 bytes
+long : (c : tie.After-number-of) → c .number-of .result ≡ 0 → 64 ≤ length (c .before .before .before .read .last .1 .1 .1 .1 .1 .0)
+long c z =
+    let a = c .before .before .before .before .before .before .before .before .before .before .args in
+    let h : 64 ≤ length (a .target .now) = read-long (a .bench .st) (a .image .now) (arg (a .t3) 0) (arg (a .t3) 1) (arg (a .t3) 2) (a .target .now) (sym (row c) ∙ z) in
+    omega (arith, c .before .before .before .read .kept .1 .1 .1 .1 .1 .0)
+
+element-copy-out-read : tie.Need-element-copy-out-read
+element-copy-out-read c = search needs
+
+element-copy-out-read-2 : tie.Need-element-copy-out-read-2
+element-copy-out-read-2 c = search needs
+
+element-copy-out-read-3 : tie.Need-element-copy-out-read-3
+element-copy-out-read-3 c = search needs
+
+read-requires : tie.Need-read-requires
+read-requires c κs = search needs
+
+number-of-requires : tie.Need-number-of-requires
+number-of-requires c κs = search needs
+
+said-requires : tie.Need-said-requires
+said-requires c κs = long (c .before)
+
+same-length : tie.Need-same-length
+same-length c = search needs
+
+returns : tie.Need-returns
+returns c = c .said .ensures ∙ ap₂ lineSaid (row (c .before .before)) (c .before .before .before .before .before .read .ensures .1)
+
+pub read-into-spec : {M : Type 1} → statement M
+read-into-spec =
+    tie.close
+    (tie.spec
+    element-copy-out-read
+    element-copy-out-read-2
+    element-copy-out-read-3
+    read-requires
+    number-of-requires
+    said-requires
+    same-length
+    returns)

@@ -1,0 +1,33 @@
+-- How many numbers a pending operation has.
+use Prim.Native.Nat.{ℕ, _≤_}
+use mathlib.Core.List.{List}
+use mathlib.Core.Path.{_≡_, refl}
+use native.Mathlib.Omega.{arith}
+use lib.ListN.{length, getD, length-append}
+use Rattle.words.proofs.Bytes.{length-bytes}
+use Rattle.state.specs.declared.Op.the-variants.{Idle, Write, Commit, Consolidate, Checkpoint}
+use Rattle.state.specs.declared.Op.{Op}
+use Rattle.state.specs.declared.Pending.{Pending}
+use Rattle.number_text.proofs.Puts.{length-each}
+use Rattle.pending_text.specs.Numbers.{lineBytes, opNumbers, finishedNumbers, pendingNumbers}
+
+pub line-bytes : (words : List ℕ) (i : ℕ) → length (lineBytes words i) ≤ 8
+line-bytes words i = omega (arith, length-bytes 8 (getD words i 0))
+
+pub length-op : (op : Op) (made frame : ℕ) → length (opNumbers op made frame) ≡ 8
+length-op Idle made frame = refl
+length-op (Write w p l o n) made frame = refl
+length-op (Commit w) made frame = refl
+length-op (Consolidate p) made frame = refl
+length-op Checkpoint made frame = refl
+
+finished-long : (op : Op) (words : List ℕ) → length (finishedNumbers op words) ≤ 64
+finished-long Idle words = omega arith
+finished-long (Write w p l o n) words = length-each 8 (lineBytes words) (line-bytes words) 8
+finished-long (Commit w) words = omega arith
+finished-long (Consolidate p) words = omega arith
+finished-long Checkpoint words = omega arith
+
+pub pending-long : (p : Pending) → length (pendingNumbers p) ≤ 72
+pending-long p =
+    omega (arith, length-append (opNumbers (p .op) (p .made) (p .frame)) (finishedNumbers (p .op) (p .line)), length-op (p .op) (p .made) (p .frame), finished-long (p .op) (p .line))

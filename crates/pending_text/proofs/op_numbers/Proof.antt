@@ -1,0 +1,51 @@
+use mathlib.Core.Path.{sym, ap}
+use borrow.Author.Needs.{needs}
+use Rattle.state.specs.declared.Op.{Op}
+use Rattle.pending_text.specs.Numbers.{opNumbers}
+use Rattle.pending_text.proofs.op_numbers.Statement.{statement}
+use Rattle.pending_text.proofs.op_numbers.Tie as tie
+
+enum-told : tie.Need-enum-told
+enum-told c = search needs
+
+enum-known-op : tie.Need-enum-known-op
+enum-known-op c = search needs
+
+enum-known-op-2 : tie.Need-enum-known-op-2
+enum-known-op-2 c = search needs
+
+enum-known-op-3 : tie.Need-enum-known-op-3
+enum-known-op-3 c = search needs
+
+enum-told-2 : tie.Need-enum-told-2
+enum-told-2 c = search needs
+
+returns : tie.Need-returns
+returns c = search needs
+
+returns-2 : tie.Need-returns-2
+returns-2 c = sym (ap (λ (o : Op). opNumbers o (c .before .before .before .args .made) (c .before .before .before .args .frame)) (c .before .op .given .1))
+
+returns-3 : tie.Need-returns-3
+returns-3 c = sym (ap (λ (o : Op). opNumbers o (c .before .before .before .args .made) (c .before .before .before .args .frame)) (c .before .op2 .given .1))
+
+returns-4 : tie.Need-returns-4
+returns-4 c = sym (ap (λ (o : Op). opNumbers o (c .before .before .before .args .made) (c .before .before .before .args .frame)) (c .before .op3 .given .1))
+
+returns-5 : tie.Need-returns-5
+returns-5 c = sym (ap (λ (o : Op). opNumbers o (c .before .before .args .made) (c .before .before .args .frame)) (c .enum-told2 .given .1))
+
+pub op-numbers-spec : {M : Type 1} → statement M
+op-numbers-spec =
+    tie.close
+    (tie.spec
+    enum-told
+    enum-known-op
+    enum-known-op-2
+    enum-known-op-3
+    enum-told-2
+    returns
+    returns-2
+    returns-3
+    returns-4
+    returns-5)

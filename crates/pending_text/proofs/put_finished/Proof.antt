@@ -1,0 +1,62 @@
+use borrow.Author.Needs.{needs}
+use Rattle.number_text.specs.Text.{blanked}
+use Rattle.number_text.proofs.Puts.{put-none}
+use Rattle.pending_text.proofs.put_finished.Statement.{statement}
+use Rattle.pending_text.proofs.put_finished.Tie as tie
+
+enum-told : tie.Need-enum-told
+enum-told c = search needs
+
+enum-told-2 : tie.Need-enum-told-2
+enum-told-2 c = search needs
+
+put-line-requires : tie.Need-put-line-requires
+put-line-requires c κs = search needs
+
+enum-told-3 : tie.Need-enum-told-3
+enum-told-3 c = search needs
+
+enum-told-4 : tie.Need-enum-told-4
+enum-told-4 c = search needs
+
+enum-told-5 : tie.Need-enum-told-5
+enum-told-5 c = search needs
+
+returns : tie.Need-returns
+unfolding blanked
+returns c = rw (c .enum-told .given .1) (put-none (c .before .before .before .args .out .now) (c .before .before .before .args .at))
+
+same-length : tie.Need-same-length
+same-length c = search needs
+
+returns-2 : tie.Need-returns-2
+returns-2 c = rw (c .before .before .before .before .enum-told2 .given .1) (c .before .before .put-line .ensures)
+
+returns-3 : tie.Need-returns-3
+unfolding blanked
+returns-3 c = rw (c .enum-told3 .given .1) (put-none (c .before .before .before .args .out .now) (c .before .before .before .args .at))
+
+returns-4 : tie.Need-returns-4
+unfolding blanked
+returns-4 c = rw (c .enum-told4 .given .1) (put-none (c .before .before .before .args .out .now) (c .before .before .before .args .at))
+
+returns-5 : tie.Need-returns-5
+unfolding blanked
+returns-5 c = rw (c .enum-told5 .given .1) (put-none (c .before .before .before .args .out .now) (c .before .before .before .args .at))
+
+pub put-finished-spec : {M : Type 1} → statement M
+put-finished-spec =
+    tie.close
+    (tie.spec
+    enum-told
+    enum-told-2
+    put-line-requires
+    enum-told-3
+    enum-told-4
+    enum-told-5
+    returns
+    same-length
+    returns-2
+    returns-3
+    returns-4
+    returns-5)

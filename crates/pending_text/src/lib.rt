@@ -1,0 +1,106 @@
+// The numbers of the pending operation, each after a blank.
+ghost use mathlib.Core.Path.{_≡_};
+ghost use Prim.Native.Nat.{_+_, _<_, _≤_};
+ghost use lib.ListN.{length};
+ghost use Rattle.words.specs.Words.{bytesOf};
+ghost use Rattle.number_text.specs.Text.{Put, blanked};
+ghost use Rattle.pending_text.specs.Numbers.{opNumbers, lineNumbers, finishedNumbers, pendingNumbers};
+use state::Op;
+use state::Pending;
+
+fn op_numbers(op: Op, made: usize, frame: usize) -> [u64; 8]
+    ensures { λ r. ⌜ r ≡ opNumbers op made frame ⌝ }
+{
+    let m = made as u64;
+    match op {
+        Op::Idle => [0; 8],
+        Op::Write {
+            writer,
+            page,
+            line,
+            offset,
+            length,
+        } => [
+            1,
+            writer as u64,
+            page as u64,
+            line as u64,
+            offset as u64,
+            length as u64,
+            m,
+            frame as u64,
+        ],
+        Op::Commit { writer } => [2, writer as u64, 0, 0, 0, 0, m, 0],
+        Op::Consolidate { page } => [3, page as u64, 0, 0, 0, 0, m, 0],
+        Op::Checkpoint => [4, 0, 0, 0, 0, 0, m, 0],
+    }
+}
+
+// The bytes of a word, the lowest first.
+fn byte_numbers(v: u64) -> [u64; 8]
+    ensures { λ r. ⌜ r ≡ bytesOf 8 v ⌝ }
+{
+    let v1 = v / 256;
+    let v2 = v1 / 256;
+    let v3 = v2 / 256;
+    let v4 = v3 / 256;
+    let v5 = v4 / 256;
+    let v6 = v5 / 256;
+    let v7 = v6 / 256;
+    [
+        v % 256,
+        v1 % 256,
+        v2 % 256,
+        v3 % 256,
+        v4 % 256,
+        v5 % 256,
+        v6 % 256,
+        v7 % 256,
+    ]
+}
+
+// The 64 bytes of a line of words.
+fn put_line(out: &mut [u8], at: usize, line: [u64; 8]) -> usize
+    requires { ⌜ at + 1344 ≤ length (now out) ⌝ }
+    ensures { λ r. ⌜ Put (now (out .entry)) at (blanked (lineNumbers line)) (now (out .exit)) r ⌝ }
+{
+    let mut next = at;
+    let mut i = 0;
+    while i < 8 {
+        let bytes = byte_numbers(line[i]);
+        next = number_text::put_numbers(out, next, &bytes);
+        i += 1;
+    }
+    next
+}
+
+// For a write its finished line.
+fn put_finished(out: &mut [u8], at: usize, op: Op, line: [u64; 8]) -> usize
+    requires { ⌜ at + 1344 ≤ length (now out) ⌝ }
+    ensures { λ r. ⌜ Put (now (out .entry)) at (blanked (finishedNumbers op line)) (now (out .exit)) r ⌝ }
+{
+    match op {
+        Op::Idle => at,
+        Op::Write {
+            writer: _,
+            page: _,
+            line: _,
+            offset: _,
+            length: _,
+        } => put_line(out, at, line),
+        Op::Commit { writer: _ } => at,
+        Op::Consolidate { page: _ } => at,
+        Op::Checkpoint => at,
+    }
+}
+
+pub fn put_pending(out: &mut [u8], at: usize, p: Pending) -> usize
+    requires { ⌜ at + 1512 ≤ length (now out) ⌝ }
+    ensures { λ r. ⌜ Put (now (out .entry)) at (blanked (pendingNumbers p)) (now (out .exit)) r ⌝ }
+{
+    let op = p.op;
+    let eight = op_numbers(op, p.made, p.frame);
+    let next = number_text::put_numbers(out, at, &eight);
+    let line = p.line;
+    put_finished(out, next, op, line)
+}

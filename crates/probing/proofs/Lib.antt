@@ -1,4 +1,0 @@
-pub mod Stored
-pub mod Taken
-pub mod Targets
-pub mod Written

@@ -1,0 +1,50 @@
+use Prim.Native.Nat.{ℕ}
+use mathlib.Core.List.{List, [], _++_, append-nil}
+use mathlib.Core.Path.{_≡_, sym, ap}
+use native.Mathlib.Omega.{arith}
+use lib.ListN.{take, drop, drop-of-length-le}
+use lib.Seq.{length-take-le, take-all}
+use borrow.Author.Needs.{needs}
+use Rattle.probing.proofs.call_lent.Statement.{statement}
+use Rattle.probing.proofs.call_lent.Tie as tie
+
+slice-relend-prefix-call : tie.Need-slice-relend-prefix-call
+slice-relend-prefix-call c = search needs
+
+slice-aggregate-call : tie.Need-slice-aggregate-call
+slice-aggregate-call c = sym (length-take-le (c .before .before .before .args .bench .lent) (c .before .before .before .args .buffer .now) (omega (arith, c .before .if1 .taken)))
+
+call-requires : tie.Need-call-requires
+call-requires c κs = search needs
+
+same-length : tie.Need-same-length
+same-length c = search needs
+
+returns : tie.Need-returns
+returns c = (c .before .before .call .ensures .0, ap (λ (l : List ℕ). l ++ drop (c .before .before .before .before .before .before .args .bench .lent) (c .before .before .before .before .before .before .args .buffer .now)) (c .before .before .call .ensures .1))
+
+call-requires-2 : tie.Need-call-requires-2
+call-requires-2 c κs = search needs
+
+same-length-2 : tie.Need-same-length-2
+same-length-2 c = search needs
+
+returns-2 : tie.Need-returns-2
+returns-2 c =
+    let a = c .before .before .before .before .before .before .args in
+    let all : take (a .bench .lent) (a .buffer .now) ≡ a .buffer .now = take-all (a .bench .lent) (a .buffer .now) (c .before .before .before .before .if1 .left) in
+    let none : drop (a .bench .lent) (a .buffer .now) ≡ [] = drop-of-length-le (a .buffer .now) (c .before .before .before .before .if1 .left) in
+    rw (all, none, append-nil) (c .before .before .call2 .ensures .0, c .before .before .call2 .ensures .1)
+
+pub call-lent-spec : {M : Type 1} → statement M
+call-lent-spec =
+    tie.close
+    (tie.spec
+    slice-relend-prefix-call
+    slice-aggregate-call
+    call-requires
+    same-length
+    returns
+    call-requires-2
+    same-length-2
+    returns-2)

@@ -1,0 +1,110 @@
+use mathlib.Core.Path.{sym}
+use lib.ListN.{take-append-drop}
+use borrow.Author.Needs.{needs}
+use borrow.Author.Tests.{ne-eqb}
+use Rattle.probing.specs.Calls.{callBytes}
+use Rattle.probing.specs.Lines.{turnOf, bufferAfter}
+use Rattle.probing.proofs.turn.Statement.{statement}
+use Rattle.probing.proofs.turn.Tie as tie
+
+lend-requires : tie.Need-lend-requires
+lend-requires c κs = search needs
+
+set-byte-requires : tie.Need-set-byte-requires
+set-byte-requires c κs = search needs
+
+set-word-requires : tie.Need-set-word-requires
+set-word-requires c κs = search needs
+
+set-number-requires : tie.Need-set-number-requires
+set-number-requires c κs = search needs
+
+set-pending-requires : tie.Need-set-pending-requires
+set-pending-requires c κs = search needs
+
+set-line-byte-requires : tie.Need-set-line-byte-requires
+set-line-byte-requires c κs = search needs
+
+show-numbers-requires : tie.Need-show-numbers-requires
+show-numbers-requires c κs = search needs
+
+show-hash-requires : tie.Need-show-hash-requires
+show-hash-requires c κs = search needs
+
+call-lent-requires : tie.Need-call-lent-requires
+call-lent-requires c κs = search needs
+
+returns : tie.Need-returns
+unfolding turnOf bufferAfter callBytes
+returns c = rw (c .before .match .keys1) (c .lend .ensures, sym (take-append-drop (c .before .before .before .args .bench .lent) (c .before .before .before .args .buffer .now)))
+
+same-length : tie.Need-same-length
+same-length c = search needs
+
+returns-2 : tie.Need-returns-2
+unfolding turnOf bufferAfter
+returns-2 c = rw (c .before .before .before .before .match .keys2) (c .before .before .set-byte .ensures .0, c .before .before .set-byte .ensures .1)
+
+same-length-2 : tie.Need-same-length-2
+same-length-2 c = search needs
+
+returns-3 : tie.Need-returns-3
+unfolding turnOf bufferAfter
+returns-3 c = rw (c .before .before .before .before .match .keys3) (c .before .before .set-word .ensures .0, c .before .before .set-word .ensures .1)
+
+returns-4 : tie.Need-returns-4
+unfolding turnOf bufferAfter callBytes
+returns-4 c = rw (c .before .match .keys4) (c .set-number .ensures, sym (take-append-drop (c .before .before .before .args .bench .lent) (c .before .before .before .args .buffer .now)))
+
+returns-5 : tie.Need-returns-5
+unfolding turnOf bufferAfter callBytes
+returns-5 c = rw (c .before .match .keys5) (c .set-pending .ensures, sym (take-append-drop (c .before .before .before .args .bench .lent) (c .before .before .before .args .buffer .now)))
+
+returns-6 : tie.Need-returns-6
+unfolding turnOf bufferAfter callBytes
+returns-6 c = rw (c .before .match .keys6) (c .set-line-byte .ensures, sym (take-append-drop (c .before .before .before .args .bench .lent) (c .before .before .before .args .buffer .now)))
+
+returns-7 : tie.Need-returns-7
+unfolding turnOf bufferAfter callBytes
+returns-7 c = rw (c .before .match .keys7) (c .show-numbers .ensures, sym (take-append-drop (c .before .before .before .args .bench .lent) (c .before .before .before .args .buffer .now)))
+
+same-length-3 : tie.Need-same-length-3
+same-length-3 c = search needs
+
+returns-8 : tie.Need-returns-8
+unfolding turnOf bufferAfter callBytes
+returns-8 c = rw (c .before .before .match .keys8) (c .show-hash .ensures, sym (take-append-drop (c .before .before .before .before .args .bench .lent) (c .before .before .before .before .args .buffer .now)))
+
+same-length-4 : tie.Need-same-length-4
+same-length-4 c = search needs
+
+returns-9 : tie.Need-returns-9
+unfolding turnOf bufferAfter
+returns-9 c = let r = c .before .before .before .before .match .rest in rw (ne-eqb _ 76 (r .0 .0 .0 .0 .0 .0 .0 .1), ne-eqb _ 89 (r .0 .0 .0 .0 .0 .0 .1), ne-eqb _ 85 (r .0 .0 .0 .0 .0 .1), ne-eqb _ 84 (r .0 .0 .0 .0 .1), ne-eqb _ 79 (r .0 .0 .0 .1), ne-eqb _ 81 (r .0 .0 .1), ne-eqb _ 71 (r .0 .1), ne-eqb _ 72 (r .1)) (c .before .before .call-lent .ensures .0, c .before .before .call-lent .ensures .1)
+
+pub turn-spec : {M : Type 1} → statement M
+turn-spec =
+    tie.close
+    (tie.spec
+    lend-requires
+    set-byte-requires
+    set-word-requires
+    set-number-requires
+    set-pending-requires
+    set-line-byte-requires
+    show-numbers-requires
+    show-hash-requires
+    call-lent-requires
+    returns
+    same-length
+    returns-2
+    same-length-2
+    returns-3
+    returns-4
+    returns-5
+    returns-6
+    returns-7
+    same-length-3
+    returns-8
+    same-length-4
+    returns-9)

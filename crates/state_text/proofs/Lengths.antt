@@ -1,0 +1,60 @@
+-- How many numbers a state has, and how long their text is: what the room in the buffer is reckoned from.
+use Prim.Native.Nat.{ℕ, _+_, _-_, _*_, _≤_, min}
+use mathlib.Core.Bool.{false}
+use mathlib.Core.List.{List, _++_}
+use mathlib.Core.Path.{_≡_, ap}
+use native.Mathlib.Omega.{arith}
+use lib.ListN.{length, take, drop, getD, length-append, length-take}
+use Rattle.bounded.specs.Below.{one}
+use Rattle.bounded.proofs.Tab.{length-tab}
+use Rattle.words.specs.Words.{part}
+use Rattle.replay.specs.declared.Table.{Table}
+use Rattle.state.specs.declared.State.{State}
+use Rattle.state.specs.declared.Writers.{Writers}
+use Rattle.decimals.proofs.Printing.{decimal-le}
+use Rattle.number_text.specs.Text.{each, blanked, field}
+use Rattle.number_text.proofs.Puts.{length-each, length-blanked}
+use Rattle.pending_text.specs.Numbers.{pendingNumbers}
+use Rattle.pending_text.proofs.Lengths.{pending-long}
+use Rattle.state_text.specs.Numbers.{slotNumbers, openNumbers, heldNumbers, writerNumbers, headerNumbers, numbersPastP, stateField}
+
+-- ---- numbers
+
+pub slots-long : (t : Table) (n : ℕ) → length (each n (slotNumbers t)) ≤ 5 * n
+slots-long t n = length-each 5 (slotNumbers t) (λ j. omega arith) n
+
+pub length-open : (ws : Writers) → length (openNumbers ws) ≡ 4
+length-open ws = length-tab 4 (λ w. one (getD (ws .opened) w false))
+
+-- a part that is lent, said by its place and length
+pub part-lent : (l : List ℕ) (a n : ℕ) → take (a + n - a) (drop a l) ≡ part l a n
+unfolding part
+part-lent l a n =
+    let e : a + n - a ≡ n = omega arith in
+    ap (λ (k : ℕ). take k (drop a l)) e
+
+pub held-short : (held : List ℕ) (n : ℕ) → n ≤ 16 → (w : ℕ) → length (heldNumbers held n w) ≤ 16
+unfolding part
+held-short held n h w = omega (arith, length-take n (drop (16 * w) held))
+
+writers-long : (ws : Writers) (n : ℕ) → n ≤ 16 → length (writerNumbers ws n) ≤ 68
+writers-long ws n h =
+    let held = each 4 (heldNumbers (ws .held) n) in
+    omega (arith, length-append (openNumbers ws) held, length-open ws, length-each 16 (heldNumbers (ws .held) n) (held-short (ws .held) n h) 4)
+
+-- ---- text: a number has at most 20 digits, and a mark stands before it
+
+pub slots-text : (t : Table) (n : ℕ) → n ≤ 16 → length (blanked (each n (slotNumbers t))) ≤ 1680
+slots-text t n h = omega (arith, length-blanked (each n (slotNumbers t)), slots-long t n)
+
+pub writers-text : (ws : Writers) (n : ℕ) → n ≤ 16 → length (blanked (writerNumbers ws n)) ≤ 1428
+writers-text ws n h = omega (arith, length-blanked (writerNumbers ws n), writers-long ws n h)
+
+pub state-text : (st : State) → length (stateField st) ≤ 4746
+state-text st =
+    let n = min (st .sizes .slots) 16 in
+    let h : n ≤ 16 = omega arith in
+    let s = each n (slotNumbers (st .table)) in
+    let w = writerNumbers (st .writers) n in
+    let p = pendingNumbers (st .pending) in
+    omega (arith, length-append (field (st .sizes .pages)) (blanked (numbersPastP st)), decimal-le (st .sizes .pages), length-blanked (numbersPastP st), length-append (headerNumbers st) (s ++ (w ++ p)), length-append s (w ++ p), length-append w p, slots-long (st .table) n, writers-long (st .writers) n h, pending-long (st .pending))

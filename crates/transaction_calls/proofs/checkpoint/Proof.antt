@@ -1,0 +1,23 @@
+use borrow.Author.Needs.{needs}
+use borrow.Author.Tests.{ne-eqb}
+use Rattle.transaction_calls.proofs.checkpoint.Statement.{statement}
+use Rattle.transaction_calls.proofs.checkpoint.Tie as tie
+
+checkpoint-requires : tie.Need-checkpoint-requires
+checkpoint-requires c κs = search needs
+
+called-requires : tie.Need-called-requires
+called-requires c κs = search needs
+
+returns : tie.Need-returns
+returns c = rw (c .before .before .if1 .taken, ← c .before .checkpoint .ensures) (c .called .ensures)
+
+other-requires : tie.Need-other-requires
+other-requires c κs = search needs
+
+returns-2 : tie.Need-returns-2
+returns-2 c = rw (ne-eqb _ 0 (c .before .if1 .left)) (c .other .ensures)
+
+pub checkpoint-spec : {M : Type 1} → statement M
+checkpoint-spec =
+    tie.close (tie.spec checkpoint-requires called-requires returns other-requires returns-2)

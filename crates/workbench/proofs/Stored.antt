@@ -1,0 +1,29 @@
+-- The stores of an answer.
+use Prim.Native.Nat.{ℕ}
+use mathlib.Core.Path.{_≡_, refl}
+use Rattle.answers.specs.Answers.{storesOf}
+use Rattle.answers.specs.declared.Answer.the-variants.{Taken, ImageTooShort, UnknownLayout, SizesOutOfRange, BufferTooShort, BadPositions, BadRecord, BadSlots, BadState, OperationPending, NothingPending, BadArgument, WriterOpen, WriterNotOpen, LineHeld, NoFreeSlot, BadFrame, PageWithoutSlot, PageHeld, JournalFull}
+use Rattle.answers.specs.declared.Answer.{Answer}
+
+-- an answer that is not taken has none
+pub stores-none : (a : Answer) → ((n : ℕ) → a ≡ Taken n → ⊥) → 0 ≡ storesOf a
+stores-none (Taken n) h = absurd (h n refl)
+stores-none ImageTooShort h = refl
+stores-none UnknownLayout h = refl
+stores-none SizesOutOfRange h = refl
+stores-none BufferTooShort h = refl
+stores-none BadPositions h = refl
+stores-none BadRecord h = refl
+stores-none BadSlots h = refl
+stores-none BadState h = refl
+stores-none OperationPending h = refl
+stores-none NothingPending h = refl
+stores-none BadArgument h = refl
+stores-none WriterOpen h = refl
+stores-none WriterNotOpen h = refl
+stores-none LineHeld h = refl
+stores-none NoFreeSlot h = refl
+stores-none BadFrame h = refl
+stores-none PageWithoutSlot h = refl
+stores-none PageHeld h = refl
+stores-none JournalFull h = refl

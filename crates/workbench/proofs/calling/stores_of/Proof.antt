@@ -1,0 +1,20 @@
+use mathlib.Core.List.{[], _∷_}
+use mathlib.Core.Path.{sym, ap}
+use types.Run.{miss}
+use borrow.Author.Needs.{needs}
+use Rattle.answers.specs.Answers.{storesOf}
+use Rattle.workbench.proofs.Stored.{stores-none}
+use Rattle.workbench.proofs.calling.stores_of.Statement.{statement}
+use Rattle.workbench.proofs.calling.stores_of.Tie as tie
+
+enum-known-a : tie.Need-enum-known-a
+enum-known-a c = search needs
+
+returns : tie.Need-returns
+returns c = sym (ap storesOf (c .before .a .given .1))
+
+returns-2 : tie.Need-returns-2
+returns-2 c = stores-none (c .before .args .a) (λ n e. miss (1 ∷ 2 ∷ 3 ∷ 4 ∷ 5 ∷ 6 ∷ 7 ∷ 8 ∷ 9 ∷ 10 ∷ 11 ∷ 12 ∷ 13 ∷ 14 ∷ 15 ∷ 16 ∷ 17 ∷ 18 ∷ 19 ∷ []) 0 tt (rw e at (c .match .keys2)))
+
+pub stores-of-spec : {M : Type 1} → statement M
+stores-of-spec = tie.close (tie.spec enum-known-a returns returns-2)
