@@ -11,10 +11,7 @@ use borrow.Author.Tests.{leb-true}
 use Rattle.bounded.specs.Tab.{tab, filled}
 use Rattle.bounded.proofs.Tab.{length-tab, getD-tab, length-filled, getD-filled}
 use Rattle.bounded.proofs.Tests.{every-held}
-use Rattle.calling.specs.WriteLine.{num, datum, areBytes, hasData, dataOf, writeBy}
-use Rattle.state.specs.declared.State.{State}
-use Rattle.refinement.specs.Outcome.{Outcome}
-use Rattle.refinement.specs.Calls.{writeOf}
+use Rattle.calling.specs.WriteLine.{datum, areBytes, hasData, dataOf}
 
 pub record Data (count : ℕ) (numbers : List ℕ) : Type 0 where
   pub five : 5 ≤ count
@@ -40,12 +37,8 @@ module _ (count : ℕ) (numbers bytes : List ℕ) (e : bytes ≡ filled (count -
   pub length-bytes : length bytes ≡ 64
   length-bytes = ap length e ∙ length-filled (count - 5) (datum numbers) (replicate 64 0)
 
-  -- a write with those bytes is the one that the numbers ask for
-  pub write-copied : (r : Outcome) (st : State) (img : List ℕ) (w p l o n : ℕ) → count ≤ 69
-      → w ≡ num numbers 0 → p ≡ num numbers 1 → l ≡ num numbers 2 → o ≡ num numbers 3 → n ≡ num numbers 4
-      → r ≡ writeOf st img w p l o n (take (count - 5) bytes) → r ≡ writeBy st img count numbers
-  write-copied r st img w p l o n h hw hp hl ho hn q =
+  -- the bytes that the array starts with are the data
+  pub data-copied : count ≤ 69 → take (count - 5) bytes ≡ dataOf count numbers
+  data-copied h =
       let k : count - 5 ≤ 64 = omega arith in
-      let t : take (count - 5) bytes ≡ dataOf count numbers =
-      ap (take (count - 5)) e ∙ take-filled (count - 5) (datum numbers) (replicate 64 0) k in
-      rw (← hw, ← hp, ← hl, ← ho, ← hn, ← t) q
+      ap (take (count - 5)) e ∙ take-filled (count - 5) (datum numbers) (replicate 64 0) k

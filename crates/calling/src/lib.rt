@@ -1,28 +1,14 @@
 // What powerhit's and probe's lines share in making a call: a write by a line's numbers, and the stores that an answer tells.
 ghost use mathlib.Core.Path.{_≡_};
 ghost use mathlib.Core.Bool.{true};
-ghost use Prim.Native.Nat.{_<_, _≤_};
+ghost use Prim.Native.Nat.{_≤_};
 ghost use lib.ListN.{replicate};
 ghost use Rattle.bounded.specs.Tab.{filled};
 ghost use Rattle.answers.specs.Answers.{storesOf, outcomeOf};
-ghost use Rattle.calling.specs.WriteLine.{num, datum, areBytes, hasData, writeBy};
+ghost use Rattle.calling.specs.WriteLine.{datum, areBytes, hasData, writeBy};
 use answers::Answer;
 use answers::Done;
 use state::State;
-
-// Number i of a line.
-pub fn num(numbers: &[u64; 69], i: usize) -> usize
-    requires { ⌜ i < 69 ⌝ }
-    ensures { λ r. ⌜ r ≡ num (now (numbers .entry)) i ⌝ }
-{
-    whole(numbers[i])
-}
-
-fn whole(x: u64) -> usize
-    ensures { λ r. ⌜ r ≡ x ⌝ }
-{
-    x as usize
-}
 
 // Whether the n numbers after the first five are bytes.
 fn all_bytes(numbers: &[u64; 69], n: usize) -> bool
@@ -76,11 +62,11 @@ pub fn write(st: State, image: &[u8], count: usize, numbers: &[u64; 69]) -> Done
     transactions::write(
         st,
         image,
-        num(numbers, 0),
-        num(numbers, 1),
-        num(numbers, 2),
-        num(numbers, 3),
-        num(numbers, 4),
+        numbers[0] as usize,
+        numbers[1] as usize,
+        numbers[2] as usize,
+        numbers[3] as usize,
+        numbers[4] as usize,
         &bytes[..n],
     )
 }
@@ -89,8 +75,8 @@ pub fn write(st: State, image: &[u8], count: usize, numbers: &[u64; 69]) -> Done
 pub fn stores_of(a: Answer) -> usize
     ensures { λ r. ⌜ r ≡ storesOf a ⌝ }
 {
-    let Answer::Taken(n) = a else {
+    let Answer::Taken(stores) = a else {
         return 0;
     };
-    n
+    stores
 }

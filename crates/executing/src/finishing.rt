@@ -8,7 +8,7 @@ ghost use Rattle.executing.specs.Called.{budget, afterCut, ready, finish
 use crate::Cut;
 use crate::Machine;
 use crate::Turned;
-use crate::calls;
+use crate::remounting;
 use answers::Done;
 use printing::Output;
 use state::State;
@@ -30,7 +30,7 @@ fn after_cut(cut: Cut, st: State, image: &[u8]) -> State
     match cut {
         Cut::Unset => st,
         Cut::After(_) => {
-            let d = calls::remount(st, image);
+            let d = remounting::remount(st, image);
             d.state
         }
     }

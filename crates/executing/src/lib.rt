@@ -1,6 +1,7 @@
 // The call that a line of powerhit's script asks for, and the stores that it needs: all of them, or under a K at most k, and then a mount.
 pub mod calls;
 pub mod finishing;
+mod remounting;
 
 use printing::Output;
 use state::State;

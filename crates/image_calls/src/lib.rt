@@ -7,7 +7,7 @@ use stepping;
 use text::Line;
 use workbench::Bench;
 use workbench::Turn;
-use workbench::calling;
+use workbench::calls;
 
 pub fn format(bench: Bench, image: &mut [u8], line: Line) -> Turn
     ensures turn { λ r. ⌜ r ≡ formatTurn bench (now (image .entry)) line ⌝ }
@@ -20,7 +20,7 @@ pub fn format(bench: Bench, image: &mut [u8], line: Line) -> Turn
             places: line.numbers[2] as usize,
         };
         let done = mounting::format(image, sizes);
-        return calling::replacing(bench, done);
+        return calls::replacing(bench, done);
     }
     workbench::other(bench)
 }
@@ -30,7 +30,7 @@ pub fn mount(bench: Bench, image: &[u8], line: Line) -> Turn
 {
     if line.count == 0 {
         let done = mounting::mount(image);
-        return calling::replacing(bench, done);
+        return calls::replacing(bench, done);
     }
     workbench::other(bench)
 }
@@ -41,7 +41,7 @@ pub fn step(bench: Bench, image: &mut [u8], line: Line) -> Turn
 {
     if line.count == 0 {
         let done = stepping::step(bench.st, image);
-        return calling::called(bench, done);
+        return calls::called(bench, done);
     }
     workbench::other(bench)
 }
@@ -52,7 +52,7 @@ pub fn run(bench: Bench, image: &mut [u8], line: Line) -> Turn
 {
     if line.count == 1 {
         let done = stepping::run(bench.st, image, line.numbers[0] as usize);
-        return calling::called(bench, done);
+        return calls::called(bench, done);
     }
     workbench::other(bench)
 }

@@ -1,6 +1,6 @@
 // Program powerhit's lines performed on the calls: a line's turn, and the line that it prints.
 pub mod performing;
-pub mod turns;
+mod turns;
 
 use executing::Machine;
 

@@ -17,9 +17,9 @@ fn sizes_in(numbers: &[u64; 69]) -> Sizes
     ensures { λ r. ⌜ r ≡ sizesIn (now (numbers .entry)) ⌝ }
 {
     Sizes {
-        pages: calling::num(numbers, 0),
-        slots: calling::num(numbers, 1),
-        places: calling::num(numbers, 2),
+        pages: numbers[0] as usize,
+        slots: numbers[1] as usize,
+        places: numbers[2] as usize,
     }
 }
 
@@ -80,10 +80,10 @@ fn read_shown(st: State, image: &[u8], numbers: &[u64; 69]) -> Output
     read_byte(
         st,
         image,
-        calling::num(numbers, 0),
-        calling::num(numbers, 1),
-        calling::num(numbers, 2),
-        calling::num(numbers, 3),
+        numbers[0] as usize,
+        numbers[1] as usize,
+        numbers[2] as usize,
+        numbers[3] as usize,
     )
 }
 
@@ -113,7 +113,7 @@ pub fn turn(m: Machine, image: &mut [u8], line: Line) -> Turned
             let output = read_shown(m.st, image, &line.numbers);
             Turned { machine: m, output }
         }
-        Form::Cuts => cut_turn(m, calling::num(&line.numbers, 0)),
+        Form::Cuts => cut_turn(m, line.numbers[0] as usize),
         Form::Other => Turned {
             machine: m,
             output: Output::Unknown,

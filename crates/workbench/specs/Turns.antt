@@ -3,12 +3,13 @@ use Prim.Native.Nat.{ℕ}
 use mathlib.Core.Bool.{Bool, false, cond}
 use mathlib.Core.List.{List, [], _∷_}
 use lib.Dec.{eqb}
-use lib.ListN.{getD, replicate}
+use lib.ListN.{replicate}
 use Rattle.replay.specs.declared.Table.{Table}
 use Rattle.state.specs.declared.State.{State}
 use Rattle.refinement.specs.Settled.{noPending}
 use Rattle.refinement.specs.Outcome.{Outcome}
 use Rattle.text.specs.declared.Line.{Line}
+use Rattle.calling.specs.WriteLine.{num}
 use Rattle.workbench.specs.declared.Bench.{Bench}
 use Rattle.workbench.specs.declared.Said.the-variants.{OtherForm, Answered}
 use Rattle.workbench.specs.declared.Said.{Said}
@@ -35,7 +36,7 @@ firstBench =
 
 -- number i of a line
 abbrev pub arg : Line → ℕ → ℕ
-arg line i = getD (line .numbers) i 0
+arg line i = num (line .numbers) i
 
 -- the bench with another state
 abbrev pub withState : Bench → State → Bench

@@ -1,5 +1,5 @@
 // What probe's lines work on, and what each leaves and prints.
-pub mod calling;
+pub mod calls;
 pub mod starting;
 
 ghost use mathlib.Core.Path.{_≡_};

@@ -4,7 +4,7 @@ use lib.ListN.{length}
 use lib.Seq.{length-take-le}
 use native.Mathlib.Omega.{arith}
 use borrow.Author.Needs.{needs}
-use Rattle.calling.proofs.Copied.{Data, data-told, length-bytes, write-copied}
+use Rattle.calling.proofs.Copied.{Data, data-told, length-bytes, data-copied}
 use Rattle.calling.proofs.write.Statement.{statement}
 use Rattle.calling.proofs.write.Tie as tie
 
@@ -17,20 +17,20 @@ sub-n c = known (c .before) .five
 data-of-requires : tie.Need-data-of-requires
 data-of-requires c κs = let k = known (c .before) in (omega (arith, k .most), k .bytes)
 
-num-requires : tie.Need-num-requires
-num-requires c κs = search needs
+element-copy-out-write : tie.Need-element-copy-out-write
+element-copy-out-write c = search needs
 
-num-requires-2 : tie.Need-num-requires-2
-num-requires-2 c κs = search needs
+element-copy-out-write-2 : tie.Need-element-copy-out-write-2
+element-copy-out-write-2 c = search needs
 
-num-requires-3 : tie.Need-num-requires-3
-num-requires-3 c κs = search needs
+element-copy-out-write-3 : tie.Need-element-copy-out-write-3
+element-copy-out-write-3 c = search needs
 
-num-requires-4 : tie.Need-num-requires-4
-num-requires-4 c κs = search needs
+element-copy-out-write-4 : tie.Need-element-copy-out-write-4
+element-copy-out-write-4 c = search needs
 
-num-requires-5 : tie.Need-num-requires-5
-num-requires-5 c κs = search needs
+element-copy-out-write-5 : tie.Need-element-copy-out-write-5
+element-copy-out-write-5 c = search needs
 
 -- the array holds the data
 fits : (c : tie.After-data-of) → c .before .before .args .count - 5 ≤ length (c .data-of .result)
@@ -51,9 +51,7 @@ returns : tie.Need-returns
 returns c =
     let d = c .before .before .before .before .before .before .before in
     let s = d .before .before in
-    write-copied (s .args .count) (s .args .numbers .now) (d .data-of .result) (d .data-of .ensures) _ (s .args .st) (s .args .image .now) _ _ _ _ _ (known s .most)
-    (c .before .before .before .before .before .before .num .ensures) (c .before .before .before .before .before .num2 .ensures)
-    (c .before .before .before .before .num3 .ensures) (c .before .before .before .num4 .ensures) (c .before .before .num5 .ensures) (c .write .ensures)
+    rw (← data-copied (s .args .count) (s .args .numbers .now) (d .data-of .result) (d .data-of .ensures) (known s .most)) (c .write .ensures)
 
 pub write-spec : {M : Type 1} → statement M
 write-spec =
@@ -61,11 +59,11 @@ write-spec =
     (tie.spec
     sub-n
     data-of-requires
-    num-requires
-    num-requires-2
-    num-requires-3
-    num-requires-4
-    num-requires-5
+    element-copy-out-write
+    element-copy-out-write-2
+    element-copy-out-write-3
+    element-copy-out-write-4
+    element-copy-out-write-5
     array-share-prefix-bytes
     slice-aggregate-write
     write-requires

@@ -12,8 +12,8 @@ use Rattle.executing.proofs.calls.ask.Tie as tie
 abbrev world : tie.Start → World
 world s = worldOf (s .args .st) (s .args .image .now)
 
-num-requires : tie.Need-num-requires
-num-requires c κs = search needs
+element-copy-out-first : tie.Need-element-copy-out-first
+element-copy-out-first c = search needs
 
 enum-told : tie.Need-enum-told
 enum-told c = search needs
@@ -59,15 +59,15 @@ remount-requires c κs = search needs
 
 returns : tie.Need-returns
 unfolding exec
-returns c = let s = c .before .before .before .before .before in as-told (s .args .a) Begin (s .args .count) (s .args .numbers .now) (world s) _ (c .before .enum-told .given .1) (outcome-told (c .begin .result) _ (s .args .image .now) (c .begin .ensures ∙ ap (beginOf (s .args .st)) (c .before .before .before .num .ensures)))
+returns c = let s = c .before .before .before .before .before in as-told (s .args .a) Begin (s .args .count) (s .args .numbers .now) (world s) _ (c .before .enum-told .given .1) (outcome-told (c .begin .result) _ (s .args .image .now) (c .begin .ensures))
 
 returns-2 : tie.Need-returns-2
 unfolding exec
-returns-2 c = let s = c .before .before .before .before .before in as-told (s .args .a) Commit (s .args .count) (s .args .numbers .now) (world s) _ (c .before .enum-told2 .given .1) (outcome-told (c .commit .result) _ (s .args .image .now) (c .commit .ensures ∙ ap (commitOf (s .args .st) (s .args .image .now)) (c .before .before .before .num .ensures)))
+returns-2 c = let s = c .before .before .before .before .before in as-told (s .args .a) Commit (s .args .count) (s .args .numbers .now) (world s) _ (c .before .enum-told2 .given .1) (outcome-told (c .commit .result) _ (s .args .image .now) (c .commit .ensures))
 
 returns-3 : tie.Need-returns-3
 unfolding exec
-returns-3 c = let s = c .before .before .before .before .before in as-told (s .args .a) Abort (s .args .count) (s .args .numbers .now) (world s) _ (c .before .enum-told3 .given .1) (outcome-told (c .abort .result) _ (s .args .image .now) (c .abort .ensures ∙ ap (abortOf (s .args .st)) (c .before .before .before .num .ensures)))
+returns-3 c = let s = c .before .before .before .before .before in as-told (s .args .a) Abort (s .args .count) (s .args .numbers .now) (world s) _ (c .before .enum-told3 .given .1) (outcome-told (c .abort .result) _ (s .args .image .now) (c .abort .ensures))
 
 returns-4 : tie.Need-returns-4
 unfolding exec
@@ -75,7 +75,7 @@ returns-4 c = let s = c .before .before .before .before .before in as-told (s .a
 
 returns-5 : tie.Need-returns-5
 unfolding exec
-returns-5 c = let s = c .before .before .before .before .before in as-told (s .args .a) Consolidate (s .args .count) (s .args .numbers .now) (world s) _ (c .before .enum-told5 .given .1) (outcome-told (c .consolidate .result) _ (s .args .image .now) (c .consolidate .ensures ∙ ap (consolidateOf (s .args .st) (s .args .image .now)) (c .before .before .before .num .ensures)))
+returns-5 c = let s = c .before .before .before .before .before in as-told (s .args .a) Consolidate (s .args .count) (s .args .numbers .now) (world s) _ (c .before .enum-told5 .given .1) (outcome-told (c .consolidate .result) _ (s .args .image .now) (c .consolidate .ensures))
 
 returns-6 : tie.Need-returns-6
 unfolding exec
@@ -89,7 +89,7 @@ pub ask-spec : {M : Type 1} → statement M
 ask-spec =
     tie.close
     (tie.spec
-    num-requires
+    element-copy-out-first
     enum-told
     begin-requires
     enum-told-2

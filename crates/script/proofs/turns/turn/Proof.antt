@@ -1,6 +1,7 @@
 use mathlib.Core.Path.{refl, sym, _∙_}
 use borrow.Author.Needs.{needs}
 use Rattle.forms.specs.declared.Form.the-variants.{Other}
+use Rattle.forms.specs.Forms.{first}
 use Rattle.forms.proofs.Formed.{write-data}
 use Rattle.script.proofs.Turning.{by-form, by-format, by-call, by-read, by-cut}
 use Rattle.script.proofs.turns.turn.Statement.{statement}
@@ -36,8 +37,8 @@ read-shown-requires c κs = search needs
 enum-told-3 : tie.Need-enum-told-3
 enum-told-3 c = search needs
 
-num-requires : tie.Need-num-requires
-num-requires c κs = search needs
+element-copy-out-cut-turn : tie.Need-element-copy-out-cut-turn
+element-copy-out-cut-turn c = search needs
 
 cut-turn-requires : tie.Need-cut-turn-requires
 cut-turn-requires c κs = search needs
@@ -73,8 +74,9 @@ returns-3 c =
 
 returns-4 : tie.Need-returns-4
 returns-4 c =
-    let a = c .before .before .before .before .before .before .before .before .before .before .args in
-    by-cut (a .m) (a .image .now) (a .t3) (c .before .before .before .before .before .before .form-of .result) (c .before .before .before .before .before .before .form-of .ensures) (c .before .num .result) _ (c .before .before .before .before .enum-told3 .given .1) (c .before .num .ensures) (c .cut-turn .ensures)
+    let f = c .before .before .before .before in
+    let a = f .before .before .before .before .args in
+    by-cut (a .m) (a .image .now) (a .t3) (f .form-of .result) (f .form-of .ensures) (first (a .t3)) _ (c .before .before .enum-told3 .given .1) refl (c .cut-turn .ensures)
 
 returns-5 : tie.Need-returns-5
 returns-5 c =
@@ -95,7 +97,7 @@ turn-spec =
     enum-told-2
     read-shown-requires
     enum-told-3
-    num-requires
+    element-copy-out-cut-turn
     cut-turn-requires
     enum-told-4
     same-length

@@ -1,7 +1,7 @@
 use borrow.Author.Needs.{needs}
 use Rattle.executing.proofs.Finished.{mount-taken, mount-refused}
-use Rattle.executing.proofs.calls.remount.Statement.{statement}
-use Rattle.executing.proofs.calls.remount.Tie as tie
+use Rattle.executing.proofs.remounting.remount.Statement.{statement}
+use Rattle.executing.proofs.remounting.remount.Tie as tie
 
 mount-requires : tie.Need-mount-requires
 mount-requires c κs = search needs

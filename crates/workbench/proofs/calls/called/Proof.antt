@@ -1,6 +1,6 @@
 use borrow.Author.Needs.{needs}
-use Rattle.workbench.proofs.calling.called.Statement.{statement}
-use Rattle.workbench.proofs.calling.called.Tie as tie
+use Rattle.workbench.proofs.calls.called.Statement.{statement}
+use Rattle.workbench.proofs.calls.called.Tie as tie
 
 number-of-requires : tie.Need-number-of-requires
 number-of-requires c κs = search needs

@@ -1,7 +1,7 @@
 use borrow.Author.Needs.{needs}
 use Rattle.workbench.proofs.Taken.{replaced, kept}
-use Rattle.workbench.proofs.calling.replacing.Statement.{statement}
-use Rattle.workbench.proofs.calling.replacing.Tie as tie
+use Rattle.workbench.proofs.calls.replacing.Statement.{statement}
+use Rattle.workbench.proofs.calls.replacing.Tie as tie
 
 number-of-requires : tie.Need-number-of-requires
 number-of-requires c κs = search needs
