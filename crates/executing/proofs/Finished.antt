@@ -2,7 +2,7 @@
 use Prim.Native.Nat.{ℕ}
 use mathlib.Core.Bool.{false}
 use mathlib.Core.List.{List}
-use mathlib.Core.Path.{_≡_, refl, sym, ap, subst, _∙_}
+use mathlib.Core.Path.{_≡_, sym, ap, subst, _∙_}
 use lib.Dec.{eqb}
 use borrow.Author.Tests.{ne-eqb}
 use Rattle.state.specs.declared.State.{State}
@@ -11,19 +11,14 @@ use Rattle.refinement.specs.Outcome.{Outcome}
 use Rattle.answers.specs.Answers.{numberOf, storesOf, outcomeOf}
 use Rattle.refinement.specs.Calls.{worldOf, runOf, runBytes}
 use Rattle.refinement.specs.Mount.{mountCall}
-use Rattle.refinement.specs.Run.{Result, result, replaces, exec, mount}
-use Rattle.refinement.specs.Stores.{World}
-use Rattle.forms.specs.declared.Ask.{Ask}
+use Rattle.refinement.specs.Run.{result, replaces, exec, mount}
 use Rattle.executing.specs.declared.Cut.{Cut}
 use Rattle.executing.specs.declared.Cut.the-variants.{Unset}
 use Rattle.printing.specs.declared.Output.the-variants.{Answered}
 use Rattle.executing.specs.declared.Turned.{Turned}
-use Rattle.executing.specs.Called.{callOf, ready, budget, afterCut, finished}
+use Rattle.executing.specs.Called.{ready, budget, afterCut, finished}
 
--- a call asked for, as it was told
-pub as-told : (a b : Ask) (count : ℕ) (numbers : List ℕ) (v : World) (x : Result) → a ≡ b → x ≡ exec (callOf b count numbers) v → x ≡ exec (callOf a count numbers) v
-as-told a b count numbers v x e h = rw e h
-
+-- a call that came to what is defined
 pub outcome-told : (d : Done) (o : Outcome) (img : List ℕ) → outcomeOf d ≡ o → result (outcomeOf d) img ≡ result o img
 outcome-told d o img e = ap (λ (x : Outcome). result x img) e
 

@@ -1,5 +1,5 @@
 -- The laws of a table of forms: a form that applies after others that do not, and none.
-use Prim.Native.Nat.{ℕ, zero, suc, _+_, _<_}
+use Prim.Native.Nat.{ℕ, zero, suc, _<_}
 use mathlib.Core.Bool.{Bool, true, false, _&&_}
 use mathlib.Core.List.{List, [], _∷_}
 use mathlib.Core.Path.{_≡_, refl, sym, ap, _∙_}
@@ -83,11 +83,13 @@ first-tells (f ∷ fs) q h e =
     (λ y. tells (writes (f .1)) (f .0) q (h .0) (rw y at e) y)
     (λ n. first-tells fs q (h .1) (rw n at e))
 
--- a line that asks for a write gives its data
-pub write-data : (formatted : Bool) (line : Line) (a : Ask) → Asks a ≡ formOf formatted line → a ≡ Write → hasData (line .count) (line .numbers) ≡ true
+-- g is the form that the code found: a line that asks for a write gives its data
+pub write-data : (formatted : Bool) (line : Line) (g : Form) (a : Ask) → g ≡ formOf formatted line → g ≡ Asks a → a ≡ Write
+    → hasData (line .count) (line .numbers) ≡ true
 unfolding formOf
-write-data formatted line a e w =
+write-data formatted line g a e h w =
     let w-line = is line "W" in
     let has = hasData (line .count) (line .numbers) in
-    let g : writes (firstForm (forms formatted line)) ≡ true = ap writes (sym e ∙ ap Asks w) in
-    and-right w-line has (first-tells (forms formatted line) (w-line && has) (tt, (tt, (tt, (tt, (tt, (refl, (tt, (tt, (tt, (tt, (tt, tt))))))))))) g)
+    let f : writes (firstForm (forms formatted line)) ≡ true = ap writes (sym e ∙ h ∙ ap Asks w) in
+    let tells = first-tells (forms formatted line) (w-line && has) (tt, (tt, (tt, (tt, (tt, (refl, (tt, (tt, (tt, (tt, (tt, tt))))))))))) f in
+    and-right w-line has tells

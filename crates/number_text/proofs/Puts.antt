@@ -10,9 +10,8 @@ use lib.Seq.{take-suc, take-all}
 use Rattle.bounded.proofs.Below.{ends}
 use Rattle.words.specs.Words.{over}
 use Rattle.words.proofs.Parts.{over-nil, over-over}
-use Rattle.decimals.specs.Decimal.{decimalOf}
 use Rattle.decimals.proofs.Printing.{decimal-le}
-use Rattle.number_text.specs.Text.{Put, each, blanked}
+use Rattle.number_text.specs.Text.{Put, each, blank, blanked}
 
 -- ---- one text after the other
 
@@ -30,20 +29,20 @@ put-as {l} {xs} {ys} {m} {a} {b} e p = subst (λ (t : List ℕ). Put l a t m b) 
 
 -- ---- the numbers of a list, each after a blank
 
-blanked-one : (v : ℕ) → blanked (v ∷ []) ≡ 32 ∷ decimalOf v
+blanked-one : (v : ℕ) → blanked (v ∷ []) ≡ blank v
 unfolding blanked
-blanked-one v = append-nil (32 ∷ decimalOf v)
+blanked-one v = append-nil (blank v)
 
 pub blanked-append : (xs ys : List ℕ) → blanked (xs ++ ys) ≡ blanked xs ++ blanked ys
 unfolding blanked
 blanked-append [] ys = refl
 blanked-append (x ∷ xs) ys =
-    ap (λ (t : List ℕ). (32 ∷ decimalOf x) ++ t) (blanked-append xs ys) ∙ sym (append-assoc (32 ∷ decimalOf x) (blanked xs) (blanked ys))
+    ap (λ (t : List ℕ). blank x ++ t) (blanked-append xs ys) ∙ sym (append-assoc (blank x) (blanked xs) (blanked ys))
 
 pub length-blanked : (xs : List ℕ) → length (blanked xs) ≤ 21 * length xs
 unfolding blanked
 length-blanked [] = omega arith
-length-blanked (x ∷ xs) = omega (arith, length-append (32 ∷ decimalOf x) (blanked xs), decimal-le x, length-blanked xs)
+length-blanked (x ∷ xs) = omega (arith, length-append (blank x) (blanked xs), decimal-le x, length-blanked xs)
 
 -- four lists of them
 pub blanked-four : (a b c d : List ℕ) → blanked a ++ (blanked b ++ (blanked c ++ blanked d)) ≡ blanked (a ++ (b ++ (c ++ d)))
@@ -58,11 +57,11 @@ module _ {l m : List ℕ} {a b : ℕ} (xs : List ℕ) (i : ℕ) (p : Put l a (bl
   pub numbers-at : b ≤ a + 21 * i
   numbers-at = omega (arith, length-blanked (take i xs), length-take i xs)
 
-  pub numbers-turn : {k : List ℕ} {c : ℕ} → Put m b (32 ∷ decimalOf (getD xs i 0)) k c → i < length xs → a + 21 * length xs ≤ length l
+  pub numbers-turn : {k : List ℕ} {c : ℕ} → Put m b (blank (getD xs i 0)) k c → i < length xs → a + 21 * length xs ≤ length l
       → Put l a (blanked (take (i + 1) xs)) k c
   numbers-turn q h r =
       let x = getD xs i 0 in
-      let e : blanked (take (i + 1) xs) ≡ blanked (take i xs) ++ (32 ∷ decimalOf x) =
+      let e : blanked (take (i + 1) xs) ≡ blanked (take i xs) ++ blank x =
       ap blanked (rw add-one (take-suc xs i 0 h)) ∙ blanked-append (take i xs) (x ∷ []) ∙ ap (λ (t : List ℕ). blanked (take i xs) ++ t) (blanked-one x) in
       put-as (sym e) (put-then p q (omega (arith, numbers-at)))
 

@@ -1,5 +1,6 @@
--- Text laid over a buffer, and numbers in decimals, each after a comma or a blank: 44 is a comma, 32 a blank.
+-- Text laid over a buffer, and numbers in decimals, each after a comma or a blank.
 use Prim.Native.Nat.{ℕ, zero, suc, _+_}
+use Prim.Native.Char.{code}
 use mathlib.Core.List.{List, [], _∷_, _++_}
 use mathlib.Core.Path.{_≡_}
 use lib.ListN.{length}
@@ -16,11 +17,15 @@ unfoldable pub each : ℕ → (ℕ → List ℕ) → List ℕ
 each zero f = []
 each (suc n) f = each n f ++ f n
 
--- decimals, each after a blank
+-- a number after a blank
+abbrev pub blank : ℕ → List ℕ
+blank v = code " " ∷ decimalOf v
+
+-- numbers, each after a blank
 unfoldable pub blanked : List ℕ → List ℕ
 blanked [] = []
-blanked (v ∷ vs) = (32 ∷ decimalOf v) ++ blanked vs
+blanked (v ∷ vs) = blank v ++ blanked vs
 
 -- a field after its comma
 abbrev pub field : ℕ → List ℕ
-field v = 44 ∷ decimalOf v
+field v = code "," ∷ decimalOf v

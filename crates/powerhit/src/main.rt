@@ -62,10 +62,7 @@ fn perform_lines(
     from: usize,
     out: &mut [u8],
 ) -> Session {
-    if !s.ok {
-        return s;
-    }
-    if from > piece.len() {
+    if !s.ok | (from > piece.len()) {
         return s;
     }
     let mut machine = s.machine;

@@ -1,5 +1,6 @@
 -- A line performed (PROBE.md): its turn, and the buffer after it. The calls are lent the buffer's first `lent` bytes; the others stay.
 use Prim.Native.Nat.{ℕ}
+use Prim.Native.Char.{code}
 use mathlib.Core.List.{List, [], _∷_, _++_}
 use lib.Dec.{eqb}
 use lib.ListN.{length, take, drop}
@@ -21,18 +22,18 @@ numbersTurn b line = formed (eqb (line .count) 0) b (shown b Numbers)
 abbrev pub hashTurn : Bench → List ℕ → Line → Turn
 hashTurn b buffer line = formed (eqb (line .count) 0) b (shown b (Hash (hashOf buffer)))
 
--- L 76, Y 89, U 85, T 84, O 79, Q 81, G 71, H 72
+-- by its letter; one of another letter is a call
 unfoldable pub turnOf : Bench → List ℕ → Line → Turn
 turnOf b buffer line =
     choose (line .letter)
-    ((76, lendTurn b (length buffer) line)
-    ∷ (89, byteTurn b (length buffer) line)
-    ∷ (85, wordTurn b (length buffer) line)
-    ∷ (84, numberTurn b line)
-    ∷ (79, pendingTurn b line)
-    ∷ (81, lineByteTurn b line)
-    ∷ (71, numbersTurn b line)
-    ∷ (72, hashTurn b buffer line)
+    ((code "L", lendTurn b (length buffer) line)
+    ∷ (code "Y", byteTurn b (length buffer) line)
+    ∷ (code "U", wordTurn b (length buffer) line)
+    ∷ (code "T", numberTurn b line)
+    ∷ (code "O", pendingTurn b line)
+    ∷ (code "Q", lineByteTurn b line)
+    ∷ (code "G", numbersTurn b line)
+    ∷ (code "H", hashTurn b buffer line)
     ∷ [])
     (callTurn b (take (b .lent) buffer) line)
 
@@ -40,5 +41,5 @@ turnOf b buffer line =
 unfoldable pub bufferAfter : Bench → List ℕ → Line → List ℕ
 bufferAfter b buffer line =
     choose (line .letter)
-    ((89, byteSet buffer line) ∷ (85, wordSet buffer line) ∷ [])
+    ((code "Y", byteSet buffer line) ∷ (code "U", wordSet buffer line) ∷ [])
     (callBytes b (take (b .lent) buffer) line ++ drop (b .lent) buffer)

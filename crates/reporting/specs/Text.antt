@@ -1,6 +1,6 @@
 -- What a line prints: its number, its call, the answer, a count and a last field, parted by commas, and a newline.
--- 44 is a comma, 45 a dash, 63 a question mark, 10 a newline.
 use Prim.Native.Nat.{ℕ}
+use Prim.Native.Char.{code}
 use mathlib.Core.List.{List, [], _∷_, _++_}
 use Rattle.state.specs.declared.State.{State}
 use Rattle.decimals.specs.Decimal.{decimalOf}
@@ -11,11 +11,11 @@ use Rattle.number_text.specs.Text.{field}
 use Rattle.state_text.specs.Numbers.{stateField}
 
 abbrev pub dash : List ℕ
-dash = 44 ∷ 45 ∷ []
+dash = code "," ∷ code "-" ∷ []
 
 -- a line's fields from its call on: answer, count and last field
 abbrev pub otherText : List ℕ
-otherText = 63 ∷ 44 ∷ 63 ∷ (field 0 ++ dash)
+otherText = code "?" ∷ code "," ∷ code "?" ∷ (field 0 ++ dash)
 
 abbrev pub answeredText : ℕ → ℕ → ℕ → List ℕ
 answeredText letter number count = letter ∷ (field number ++ (field count ++ dash))
@@ -30,4 +30,4 @@ saidText letter (Hash h) st = shownText letter (field h)
 saidText letter Numbers st = shownText letter (stateField st)
 
 unfoldable pub printedOf : ℕ → ℕ → Turn → List ℕ
-printedOf n letter t = decimalOf n ++ (44 ∷ (saidText letter (t .said) (t .bench .st) ++ (10 ∷ [])))
+printedOf n letter t = decimalOf n ++ (code "," ∷ (saidText letter (t .said) (t .bench .st) ++ (code "\n" ∷ [])))

@@ -1,8 +1,8 @@
 -- A line performed, with room for what it prints and without.
 use Prim.Native.Nat.{ℕ, _+_, _-_, _≤_}
-use mathlib.Core.Bool.{Bool, true, false}
+use mathlib.Core.Bool.{true, false}
 use mathlib.Core.List.{List}
-use mathlib.Core.Path.{_≡_, refl, sym, ap, _∙_}
+use mathlib.Core.Path.{_≡_, refl, sym, _∙_}
 use lib.Dec.{leb}
 use lib.ListN.{length}
 use native.Mathlib.Omega.{arith}
@@ -15,7 +15,7 @@ use Rattle.executing.specs.declared.Machine.{Machine}
 use Rattle.script.specs.declared.Performed.{Performed}
 use Rattle.executing.specs.declared.Turned.{Turned}
 use Rattle.printing.specs.Output.{outputLine}
-use Rattle.script.specs.Performed.{room, Performance, performed}
+use Rattle.script.specs.Performed.{room, performed}
 use Rattle.script.specs.Turns.{turnOf}
 
 -- the test that no sum wraps in

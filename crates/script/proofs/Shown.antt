@@ -1,9 +1,9 @@
 -- What F and R come to.
 use Prim.Native.Nat.{ℕ, _<_, _≤_}
-use mathlib.Core.Bool.{Bool, true, false}
+use mathlib.Core.Bool.{true, false}
 use mathlib.Core.List.{List}
-use mathlib.Core.Path.{_≡_, refl, sym, ap, _∙_}
-use lib.Dec.{eqb, ltb}
+use mathlib.Core.Path.{_≡_, sym, ap, _∙_}
+use lib.Dec.{eqb}
 use lib.ListN.{getD, replicate}
 use borrow.Author.Tests.{ne-eqb, lt-ltb, le-ltb}
 use Rattle.layout.specs.declared.Sizes.{Sizes}
@@ -12,7 +12,7 @@ use Rattle.state.specs.declared.State.{State}
 use Rattle.answers.specs.declared.Answer.{Answer}
 use Rattle.answers.specs.declared.Done.{Done}
 use Rattle.refinement.specs.Outcome.{Outcome}
-use Rattle.answers.specs.Answers.{numberOf, storesOf, outcomeOf}
+use Rattle.answers.specs.Answers.{numberOf, outcomeOf}
 use Rattle.refinement.specs.Calls.{readRow, readBytes}
 use Rattle.refinement.specs.Mount.{formatCall}
 use Rattle.refinement.specs.Run.{exec}
@@ -23,7 +23,8 @@ use Rattle.executing.specs.Called.{ready}
 use Rattle.script.specs.Turns.{formats, shown}
 
 -- a format, of which d came
-module _ (m : Machine) (img after : List ℕ) (z : Sizes) (d : Done) (number : ℕ) (r : Turned) (e : outcomeOf d ≡ formatCall z img) (b : after ≡ formatBytes z img) (h : number ≡ numberOf (d .answer)) where
+module _ (m : Machine) (img after : List ℕ) (z : Sizes) (d : Done) (number : ℕ) (r : Turned)
+    (e : outcomeOf d ≡ formatCall z img) (b : after ≡ formatBytes z img) (h : number ≡ numberOf (d .answer)) where
   number-called : number ≡ formatCall z img .number
   number-called = h ∙ ap (λ (o : Outcome). o .number) e
 

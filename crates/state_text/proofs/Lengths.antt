@@ -57,4 +57,9 @@ state-text st =
     let s = each n (slotNumbers (st .table)) in
     let w = writerNumbers (st .writers) n in
     let p = pendingNumbers (st .pending) in
-    omega (arith, length-append (field (st .sizes .pages)) (blanked (numbersPastP st)), decimal-le (st .sizes .pages), length-blanked (numbersPastP st), length-append (headerNumbers st) (s ++ (w ++ p)), length-append s (w ++ p), length-append w p, slots-long (st .table) n, writers-long (st .writers) n h, pending-long (st .pending))
+    let three = length-append (headerNumbers st) (s ++ (w ++ p)) in
+    let two = length-append s (w ++ p) in
+    let one = length-append w p in
+    let page = length-append (field (st .sizes .pages)) (blanked (numbersPastP st)) in
+    let text = length-blanked (numbersPastP st) in
+    omega (arith, three, two, one, slots-long (st .table) n, writers-long (st .writers) n h, pending-long (st .pending), page, decimal-le (st .sizes .pages), text)

@@ -1,4 +1,5 @@
 use borrow.Author.Needs.{needs}
+use Rattle.workbench.proofs.Formed.{has-form, has-not}
 use Rattle.buffer_edits.proofs.lend.Statement.{statement}
 use Rattle.buffer_edits.proofs.lend.Tie as tie
 
@@ -9,13 +10,13 @@ edited-requires : tie.Need-edited-requires
 edited-requires c κs = search needs
 
 returns : tie.Need-returns
-returns c = rw (c .before .before .if1 .taken) (c .edited .ensures)
+returns c = has-form _ _ _ _ (c .before .before .if1 .taken) (c .edited .ensures)
 
 other-requires : tie.Need-other-requires
 other-requires c κs = search needs
 
 returns-2 : tie.Need-returns-2
-returns-2 c = rw (c .before .if1 .left) (c .other .ensures)
+returns-2 c = has-not _ _ _ _ (c .before .if1 .left) (c .other .ensures)
 
 pub lend-spec : {M : Type 1} → statement M
 lend-spec =

@@ -1,5 +1,5 @@
 use mathlib.Core.List.{[], _∷_}
-use mathlib.Core.Path.{sym, ap, subst}
+use mathlib.Core.Path.{sym, ap}
 use types.Run.{miss}
 use borrow.Author.Needs.{needs}
 use Rattle.answers.specs.Answers.{storesOf}

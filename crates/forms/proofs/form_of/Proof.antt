@@ -28,8 +28,11 @@ past5 : (c : tie.Else5) → Past (table (c .before .before .before .before .befo
 past5 c = past-more (table (c .before .before .before .before .before)) 4 (past4 (c .before)) (c .if5 .left)
 
 -- the test of a write's line is what the code found
-write-test : (c : tie.After-has-data) → test (table (c .before .before .before .before .before .before)) 5 ≡ eqb (c .before .before .before .before .before .before .args .letter) 87 && c .has-data .result
-write-test c = let letter = c .before .before .before .before .before .before .args .letter in ap (λ (b : Bool). eqb letter 87 && b) (sym (c .has-data .ensures))
+write-test : (c : tie.After-has-data)
+    → test (table (c .before .before .before .before .before .before)) 5 ≡ eqb (c .before .before .before .before .before .before .args .letter) 87 && c .has-data .result
+write-test c =
+    let letter = c .before .before .before .before .before .before .args .letter in
+    ap (λ (b : Bool). eqb letter 87 && b) (sym (c .has-data .ensures))
 
 past6 : (c : tie.Else6) → Past (table (c .before .before .before .before .before .before .before)) 6
 past6 c = past-more (table (c .before .before .before .before .before .before .before)) 5 (past5 (c .before .before)) (write-test (c .before) ∙ c .if6 .left)

@@ -1,6 +1,8 @@
-use mathlib.Core.Path.{refl}
+use mathlib.Core.Path.{refl, _∙_}
 use borrow.Author.Needs.{needs}
-use borrow.Author.Tests.{ne-eqb}
+use borrow.Author.Tests.{eq-eqb, ne-eqb}
+use Rattle.bounded.proofs.Tests.{row-yes}
+use Rattle.workbench.proofs.Formed.{has-replaced}
 use Rattle.image_calls.proofs.format.Statement.{statement}
 use Rattle.image_calls.proofs.format.Tie as tie
 
@@ -23,7 +25,10 @@ same-length : tie.Need-same-length
 same-length c = search needs
 
 returns : tie.Need-returns
-returns c = rw (c .before .before .before .before .before .before .before .before .if1 .taken, ← c .before .before .before .format .ensures .0) (c .replacing .ensures, c .before .before .before .format .ensures .1)
+returns c =
+    let form = eq-eqb _ 3 (c .before .before .before .before .before .before .before .before .if1 .taken) in
+    let done = c .before .before .before .format .ensures in
+    (has-replaced _ _ _ _ _ form (done .0) (c .replacing .ensures), done .1 ∙ row-yes _ _ _ form)
 
 other-requires : tie.Need-other-requires
 other-requires c κs = search needs

@@ -1,6 +1,8 @@
-use mathlib.Core.Path.{refl}
+use mathlib.Core.Path.{refl, _∙_}
 use borrow.Author.Needs.{needs}
-use borrow.Author.Tests.{ne-eqb}
+use borrow.Author.Tests.{eq-eqb, ne-eqb}
+use Rattle.bounded.proofs.Tests.{row-yes}
+use Rattle.workbench.proofs.Formed.{has-called}
 use Rattle.image_calls.proofs.run.Statement.{statement}
 use Rattle.image_calls.proofs.run.Tie as tie
 
@@ -17,7 +19,10 @@ same-length : tie.Need-same-length
 same-length c = search needs
 
 returns : tie.Need-returns
-returns c = rw (c .before .before .before .before .before .before .if1 .taken, ← c .before .before .before .run .ensures .0) (c .called .ensures, c .before .before .before .run .ensures .1)
+returns c =
+    let form = eq-eqb _ 1 (c .before .before .before .before .before .before .if1 .taken) in
+    let done = c .before .before .before .run .ensures in
+    (has-called _ _ _ _ _ form (done .0) (c .called .ensures), done .1 ∙ row-yes _ _ _ form)
 
 other-requires : tie.Need-other-requires
 other-requires c κs = search needs

@@ -29,7 +29,13 @@ edited-requires : tie.Need-edited-requires
 edited-requires c κs = search needs
 
 returns : tie.Need-returns
-returns c = rw (← c .before .before .before .before .before .before .is-write .ensures, c .before .before .before .before .before .if1 .taken, ← c .before .before .before .with-line-byte .ensures, ← c .before .before .with-pending .ensures, ← c .before .with-state .ensures) (c .edited .ensures)
+returns c =
+    let write = c .before .before .before .before .before .before .is-write .ensures in
+    let form = c .before .before .before .before .before .if1 .taken in
+    let line = c .before .before .before .with-line-byte .ensures in
+    let pending = c .before .before .with-pending .ensures in
+    let state = c .before .with-state .ensures in
+    rw (← write, form, ← line, ← pending, ← state) (c .edited .ensures)
 
 other-requires : tie.Need-other-requires
 other-requires c κs = search needs

@@ -1,8 +1,12 @@
 use Prim.Native.Nat.{_+_, _-_, _≤_}
+use mathlib.Core.Bool.{not}
 use mathlib.Core.Path.{_≡_, refl}
 use native.Mathlib.Omega.{arith}
+use lib.Dec.{ltb}
 use lib.ListN.{length}
 use borrow.Author.Needs.{needs}
+use borrow.Author.Tests.{ltb-false}
+use Rattle.bounded.proofs.Tests.{or-right}
 use Rattle.cutting.proofs.Cutting.{end-le, end-ge}
 use Rattle.powerhit.proofs.perform_lines.Statement.{statement}
 use Rattle.powerhit.proofs.perform_lines.Tie as tie
@@ -17,17 +21,17 @@ abbrev μ-loop : tie.MeasureT-loop
 returns : tie.Need-returns Inv-loop μ-loop
 returns c = search needs
 
-returns-2 : tie.Need-returns-2 Inv-loop μ-loop
-returns-2 c = search needs
-
 line-end-requires : tie.Need-line-end-requires Inv-loop μ-loop
 line-end-requires c κs = search needs
 
 loop-holds : tie.Need-loop-holds Inv-loop μ-loop
 loop-holds c =
-    let l = c .before .before .before .before .before .before .before .before .args .piece .now in
-    let f = c .before .before .before .before .before .before .before .before .args .from in
-    (refl, refl, omega (arith, end-ge l f (c .before .before .if2 .left), c .line-end .ensures), omega (arith, end-le l f, c .line-end .ensures))
+    let s = c .before .before .before .before .before .before .before in
+    let l = s .args .piece .now in
+    let f = s .args .from in
+    let inside : f ≤ length l =
+    ltb-false (length l) f (or-right (not (s .args .s .ok)) (ltb (length l) f) (c .before .before .if1 .left)) in
+    (refl, refl, omega (arith, end-ge l f inside, c .line-end .ensures), omega (arith, end-le l f, c .line-end .ensures))
 
 write-out-requires : tie.Need-write-out-requires Inv-loop μ-loop
 write-out-requires c κs = search needs
@@ -41,8 +45,8 @@ same-length c = search needs
 same-length-2 : tie.Need-same-length-2 Inv-loop μ-loop
 same-length-2 c = search needs
 
-returns-3 : tie.Need-returns-3 Inv-loop μ-loop
-returns-3 c = search needs
+returns-2 : tie.Need-returns-2 Inv-loop μ-loop
+returns-2 c = search needs
 
 wrapping-add-usize-requires : tie.Need-wrapping-add-usize-requires Inv-loop μ-loop
 wrapping-add-usize-requires c κs = search needs
@@ -60,7 +64,10 @@ perform-requires : tie.Need-perform-requires Inv-loop μ-loop
 perform-requires c κs = search needs
 
 add-start : tie.Need-add-start Inv-loop μ-loop
-add-start c = omega (arith, c .before .before .before .before .before .before .before .before .before .before .before .loop-test .taken, c .before .before .before .before .before .before .before .before .before .before .before .before .before .before .before .before .before .before .before .before .before .good .1 .1 .0)
+add-start c =
+    let test = c .before .before .before .before .before .before .before .before .before .before .before .loop-test in
+    let s = c .before .before .before .before .before .before .before .before .before .before .before .before .before .before .before .before .before .before .before .before in
+    omega (arith, test .taken, s .good .1 .1 .0)
 
 line-end-requires-2 : tie.Need-line-end-requires-2 Inv-loop μ-loop
 line-end-requires-2 c κs = search needs
@@ -70,9 +77,12 @@ loop-less c = search needs
 
 loop-again : tie.Need-loop-again Inv-loop μ-loop
 loop-again c =
-    let l = c .before .before .before .before .before .before .before .before .before .before .before .before .before .before .before .before .before .before .before .before .before .before .args .piece .now in
-    let e = c .before .before .before .before .before .before .before .before .before .before .before .before .before .loop .end in
-    (search needs, search needs, omega (arith, end-ge l (e + 1) (omega (arith, c .before .before .before .before .before .before .before .before .before .before .before .before .loop-test .taken)), c .line-end2 .ensures), omega (arith, end-le l (e + 1), c .line-end2 .ensures))
+    let test = c .before .before .before .before .before .before .before .before .before .before .before .before .loop-test in
+    let turn = c .before .before .before .before .before .before .before .before .before .before .before .before .before in
+    let e = turn .loop .end in
+    let l = turn .before .before .before .before .before .before .before .before .args .piece .now in
+    let some : e + 1 ≤ length l = omega (arith, test .taken) in
+    (search needs, search needs, omega (arith, end-ge l (e + 1) some, c .line-end2 .ensures), omega (arith, end-le l (e + 1), c .line-end2 .ensures))
 
 same-length-3 : tie.Need-same-length-3 Inv-loop μ-loop
 same-length-3 c = search needs
@@ -80,8 +90,8 @@ same-length-3 c = search needs
 same-length-4 : tie.Need-same-length-4 Inv-loop μ-loop
 same-length-4 c = search needs
 
-returns-4 : tie.Need-returns-4 Inv-loop μ-loop
-returns-4 c = search needs
+returns-3 : tie.Need-returns-3 Inv-loop μ-loop
+returns-3 c = search needs
 
 pub perform-lines-spec : {M : Type 1} → statement M
 perform-lines-spec =
@@ -90,14 +100,13 @@ perform-lines-spec =
     Inv-loop
     μ-loop
     returns
-    returns-2
     line-end-requires
     loop-holds
     write-out-requires
     stopped-requires
     same-length
     same-length-2
-    returns-3
+    returns-2
     wrapping-add-usize-requires
     sub-perform
     part-perform-start
@@ -109,4 +118,4 @@ perform-lines-spec =
     loop-again
     same-length-3
     same-length-4
-    returns-4)
+    returns-3)

@@ -21,7 +21,11 @@ perform-kept-requires : tie.Need-perform-kept-requires
 perform-kept-requires c κs = search needs
 
 add-perform-lines : tie.Need-add-perform-lines
-add-perform-lines c = omega (arith, end-le (c .before .before .before .before .before .before .before .before .before .before .before .before .before .before .before .before .before .before .before .before .before .args .piece .now) 0, c .before .before .before .before .before .before .before .before .before .before .before .before .before .before .before .before .line-end .ensures, c .before .before .before .before .before .before .before .before .before .before .before .before .before .before .before .before .before .before .before .before .before .good .1 .1 .1 .0, c .before .before .before .before .before .before .before .before .before .before .before .if1 .left)
+add-perform-lines c =
+    let else = c .before .before .before .before .before .before .before .before .before .before .before in
+    let found = else .before .before .before .before .before in
+    let s = found .before .before .before .before .before in
+    omega (arith, end-le (s .args .piece .now) 0, found .line-end .ensures, s .good .1 .1 .1 .0, else .if1 .left)
 
 perform-lines-requires : tie.Need-perform-lines-requires
 perform-lines-requires c κs = search needs
@@ -33,7 +37,11 @@ same-length-2 : tie.Need-same-length-2
 same-length-2 c = search needs
 
 same-length-3 : tie.Need-same-length-3
-same-length-3 c = c .before .before .keep2 .kept .0 ∙ c .before .before .before .before .before .before .before .before .before .before .before .before .before .before .before .before .before .perform-kept .kept .1 .1 .0 ∙ c .before .before .before .before .before .before .before .before .before .before .before .before .before .before .before .before .before .before .before .before .before .before .before .before .keep .kept .0
+same-length-3 c =
+    let kept = c .before .before in
+    let performed = kept .before .before .before .before .before .before .before .before .before .before .before .before .before .before .before in
+    let begun = performed .before .before .before .before .before .before .before in
+    kept .keep2 .kept .0 ∙ performed .perform-kept .kept .1 .1 .0 ∙ begun .keep .kept .0
 
 same-length-4 : tie.Need-same-length-4
 same-length-4 c = search needs

@@ -1,44 +1,47 @@
-use mathlib.Core.Path.{refl}
 use native.Mathlib.Omega.{arith}
-use lib.ListN.{length-set}
 use borrow.Author.Needs.{needs}
-use Rattle.printing.proofs.Puts.{put-three as three-put}
+use Rattle.number_text.proofs.Puts.{put-then}
+use Rattle.printing.proofs.Puts.{as-put}
 use Rattle.printing.proofs.put_three.Statement.{statement}
 use Rattle.printing.proofs.put_three.Tie as tie
 
-slice-write-out : tie.Need-slice-write-out
-slice-write-out c = omega arith
+put-byte-requires : tie.Need-put-byte-requires
+put-byte-requires c κs = search needs
 
-add-out : tie.Need-add-out
-add-out c = omega arith
+put-byte-requires-2 : tie.Need-put-byte-requires-2
+put-byte-requires-2 c κs =
+    let s = c .before .before .before .before .before .before in
+    let first = c .before .before .before .put-byte in
+    omega arith
 
-slice-write-out-2 : tie.Need-slice-write-out-2
-slice-write-out-2 c = simp length-set (omega arith)
-
-add-out-2 : tie.Need-add-out-2
-add-out-2 c = omega arith
-
-slice-write-out-3 : tie.Need-slice-write-out-3
-slice-write-out-3 c = simp length-set (omega arith)
-
-add-result : tie.Need-add-result
-add-result c = omega arith
+put-byte-requires-3 : tie.Need-put-byte-requires-3
+put-byte-requires-3 c κs =
+    let s = c .before .before .before .before .before .before .before .before .before .before in
+    let first = c .before .before .before .before .before .before .before .put-byte in
+    let second = c .before .before .before .put-byte2 in
+    omega arith
 
 same-length : tie.Need-same-length
-same-length c = simp length-set
+same-length c = search needs
 
 returns : tie.Need-returns
-returns c = (three-put (c .args .out .now) (c .args .at) (c .args .a) (c .args .b) (c .args .c) (c .pre), refl)
+returns c =
+    let s = c .before .before .before .before .before .before .before .before .before .before .before .before .before in
+    let first = c .before .before .before .before .before .before .before .before .before .before .put-byte in
+    let second = c .before .before .before .before .before .before .put-byte2 in
+    let third = c .before .before .put-byte3 in
+    put-then (as-put (first .ensures))
+    (put-then (as-put (second .ensures))
+    (as-put (third .ensures))
+    (omega arith))
+    (omega arith)
 
 pub put-three-spec : {M : Type 1} → statement M
 put-three-spec =
     tie.close
     (tie.spec
-    slice-write-out
-    add-out
-    slice-write-out-2
-    add-out-2
-    slice-write-out-3
-    add-result
+    put-byte-requires
+    put-byte-requires-2
+    put-byte-requires-3
     same-length
     returns)

@@ -80,7 +80,18 @@ same-length-4 c = search needs
 
 returns-9 : tie.Need-returns-9
 unfolding turnOf bufferAfter
-returns-9 c = let r = c .before .before .before .before .match .rest in rw (ne-eqb _ 76 (r .0 .0 .0 .0 .0 .0 .0 .1), ne-eqb _ 89 (r .0 .0 .0 .0 .0 .0 .1), ne-eqb _ 85 (r .0 .0 .0 .0 .0 .1), ne-eqb _ 84 (r .0 .0 .0 .0 .1), ne-eqb _ 79 (r .0 .0 .0 .1), ne-eqb _ 81 (r .0 .0 .1), ne-eqb _ 71 (r .0 .1), ne-eqb _ 72 (r .1)) (c .before .before .call-lent .ensures .0, c .before .before .call-lent .ensures .1)
+returns-9 c =
+    let r = c .before .before .before .before .match .rest in
+    let l = ne-eqb _ 76 (r .0 .0 .0 .0 .0 .0 .0 .1) in
+    let y = ne-eqb _ 89 (r .0 .0 .0 .0 .0 .0 .1) in
+    let u = ne-eqb _ 85 (r .0 .0 .0 .0 .0 .1) in
+    let t = ne-eqb _ 84 (r .0 .0 .0 .0 .1) in
+    let o = ne-eqb _ 79 (r .0 .0 .0 .1) in
+    let q = ne-eqb _ 81 (r .0 .0 .1) in
+    let g = ne-eqb _ 71 (r .0 .1) in
+    let h = ne-eqb _ 72 (r .1) in
+    let call = c .before .before .call-lent in
+    rw (l, y, u, t, o, q, g, h) (call .ensures .0, call .ensures .1)
 
 pub turn-spec : {M : Type 1} → statement M
 turn-spec =

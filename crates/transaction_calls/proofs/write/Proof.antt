@@ -1,5 +1,6 @@
 use mathlib.Core.Path.{sym, _∙_}
 use borrow.Author.Needs.{needs}
+use Rattle.workbench.proofs.Formed.{has-called, has-not}
 use Rattle.transaction_calls.proofs.write.Statement.{statement}
 use Rattle.transaction_calls.proofs.write.Tie as tie
 
@@ -15,7 +16,7 @@ called-requires c κs = search needs
 returns : tie.Need-returns
 returns c =
     let form = sym (c .before .before .before .before .before .has-data .ensures) ∙ c .before .before .before .before .if1 .taken in
-    rw (form, ← c .before .write .ensures) (c .called .ensures)
+    has-called _ _ _ _ _ form (c .before .write .ensures) (c .called .ensures)
 
 other-requires : tie.Need-other-requires
 other-requires c κs = search needs
@@ -23,7 +24,7 @@ other-requires c κs = search needs
 returns-2 : tie.Need-returns-2
 returns-2 c =
     let form = sym (c .before .before .has-data .ensures) ∙ c .before .if1 .left in
-    rw form (c .other .ensures)
+    has-not _ _ _ _ form (c .other .ensures)
 
 pub write-spec : {M : Type 1} → statement M
 write-spec =

@@ -39,11 +39,18 @@ add-from c = omega (arith, c .before .before .before .before .before .before .if
 
 loop-less : tie.Need-loop-less Inv-loop μ-loop
 loop-less c =
-    let e = end-after (c .before .before .before .before .before .before .before .before .before .before .before .before .before .before .before .before .before .args .piece .now) (c .before .before .before .before .before .before .before .before .before .before .before .before .before .loop .from) (c .before .before .before .before .before .before .before .before .before .before .before .before .loop-test .taken) in
-    omega (arith, c .before .before .before .before .before .before .if1 .left, c .before .before .before .before .before .before .before .before .before .before .before .before .loop-test .taken, c .before .before .before .before .before .before .before .before .before .before .before .line-end .ensures, e)
+    let more = c .before .before .before .before .before .before .if1 .left in
+    let found = c .before .before .before .before .before .before .before .before .before .before .before in
+    let test = found .before .loop-test .taken in
+    let from = found .before .before .loop .from in
+    let e = end-after (found .before .before .before .before .before .before .args .piece .now) from test in
+    omega (arith, more, test, found .line-end .ensures, e)
 
 loop-again : tie.Need-loop-again Inv-loop μ-loop
-loop-again c = (c .before .before .perform-kept .kept .1 .0 ∙ c .before .before .before .before .before .before .before .before .before .before .before .before .before .loop .inv .0, c .before .before .before .before .before .before .before .before .before .keep .kept .0 ∙ c .before .before .before .before .before .before .before .before .before .before .before .before .before .loop .inv .1)
+loop-again c =
+    let kept = c .before .before .before .before .before .before .before .before .before in
+    let inv = kept .before .before .before .before .loop .inv in
+    (c .before .before .perform-kept .kept .1 .0 ∙ inv .0, kept .keep .kept .0 ∙ inv .1)
 
 same-length-3 : tie.Need-same-length-3 Inv-loop μ-loop
 same-length-3 c = c .before .loop .inv .0

@@ -124,7 +124,21 @@ returns-12 c = rw (c .before .before .match .keys12) (c .recall .ensures, refl)
 
 returns-13 : tie.Need-returns-13
 unfolding callTurn callBytes
-returns-13 c = let r = c .before .match .rest in rw (ne-eqb _ 70 (r .0 .0 .0 .0 .0 .0 .0 .0 .0 .0 .0 .1), ne-eqb _ 77 (r .0 .0 .0 .0 .0 .0 .0 .0 .0 .0 .1), ne-eqb _ 66 (r .0 .0 .0 .0 .0 .0 .0 .0 .0 .1), ne-eqb _ 65 (r .0 .0 .0 .0 .0 .0 .0 .0 .1), ne-eqb _ 67 (r .0 .0 .0 .0 .0 .0 .0 .1), ne-eqb _ 68 (r .0 .0 .0 .0 .0 .0 .1), ne-eqb _ 80 (r .0 .0 .0 .0 .0 .1), ne-eqb _ 87 (r .0 .0 .0 .0 .1), ne-eqb _ 83 (r .0 .0 .0 .1), ne-eqb _ 78 (r .0 .0 .1), ne-eqb _ 82 (r .0 .1), ne-eqb _ 69 (r .1)) (c .other .ensures, refl)
+returns-13 c =
+    let rest = c .before .match .rest in
+    let f = ne-eqb _ 70 (rest .0 .0 .0 .0 .0 .0 .0 .0 .0 .0 .0 .1) in
+    let m = ne-eqb _ 77 (rest .0 .0 .0 .0 .0 .0 .0 .0 .0 .0 .1) in
+    let b = ne-eqb _ 66 (rest .0 .0 .0 .0 .0 .0 .0 .0 .0 .1) in
+    let a = ne-eqb _ 65 (rest .0 .0 .0 .0 .0 .0 .0 .0 .1) in
+    let cm = ne-eqb _ 67 (rest .0 .0 .0 .0 .0 .0 .0 .1) in
+    let d = ne-eqb _ 68 (rest .0 .0 .0 .0 .0 .0 .1) in
+    let p = ne-eqb _ 80 (rest .0 .0 .0 .0 .0 .1) in
+    let w = ne-eqb _ 87 (rest .0 .0 .0 .0 .1) in
+    let s = ne-eqb _ 83 (rest .0 .0 .0 .1) in
+    let n = ne-eqb _ 78 (rest .0 .0 .1) in
+    let r = ne-eqb _ 82 (rest .0 .1) in
+    let e = ne-eqb _ 69 (rest .1) in
+    rw (f, m, b, a, cm, d, p, w, s, n, r, e) (c .other .ensures, refl)
 
 pub call-spec : {M : Type 1} → statement M
 call-spec =

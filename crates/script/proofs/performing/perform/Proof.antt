@@ -1,6 +1,11 @@
-use mathlib.Core.Path.{sym, _∙_}
+use Prim.Native.Nat.{_+_}
+use mathlib.Core.Bool.{true}
+use mathlib.Core.Path.{_≡_, sym, _∙_}
+use lib.Dec.{leb}
+use lib.ListN.{length}
 use borrow.Author.Needs.{needs}
 use borrow.Author.Tests.{leb-true, not-true, not-false}
+use Rattle.script.specs.Performed.{room}
 use Rattle.script.proofs.Printed.{perform-none, perform-done}
 use Rattle.script.proofs.performing.perform.Statement.{statement}
 use Rattle.script.proofs.performing.perform.Tie as tie
@@ -11,7 +16,8 @@ has-room-requires c κs = search needs
 returns : tie.Need-returns
 returns c =
     let a = c .before .before .before .before .before .args in
-    perform-none (a .m) (a .image .now) (a .n) (a .line .now) (a .out .now) (a .at) (sym (c .before .has-room .ensures) ∙ not-true _ (c .if1 .taken))
+    let none = sym (c .before .has-room .ensures) ∙ not-true _ (c .if1 .taken) in
+    perform-none (a .m) (a .image .now) (a .n) (a .line .now) (a .out .now) (a .at) none
 
 parse-requires : tie.Need-parse-requires
 parse-requires c κs = search needs
@@ -19,8 +25,12 @@ parse-requires c κs = search needs
 turn-requires : tie.Need-turn-requires
 turn-requires c κs = search needs
 
+-- the test found room
+room-found : (c : tie.Else1) → leb (c .before .before .before .before .before .args .at + room) (length (c .before .before .before .before .before .args .out .now)) ≡ true
+room-found c = sym (c .before .has-room .ensures) ∙ not-false _ (c .if1 .left)
+
 put-output-requires : tie.Need-put-output-requires
-put-output-requires c κs = leb-true _ _ (sym (c .before .before .before .before .before .before .before .before .has-room .ensures) ∙ not-false _ (c .before .before .before .before .before .before .before .if1 .left))
+put-output-requires c κs = leb-true _ _ (room-found (c .before .before .before .before .before .before .before))
 
 same-length : tie.Need-same-length
 same-length c = search needs
@@ -30,9 +40,13 @@ same-length-2 c = search needs
 
 returns-2 : tie.Need-returns-2
 returns-2 c =
+    let printed = c .before .before .put-output in
+    let turned = c .before .before .before .before .before .before .before .turn in
+    let read = c .before .before .before .before .before .before .before .before .parse in
     let a = c .before .before .before .before .before .before .before .before .before .before .before .before .before .before .before .args in
-    perform-done (a .m) (a .image .now) (a .n) (a .line .now) (a .out .now) (a .at) (c .before .before .before .before .before .before .before .before .parse .result) (c .before .before .before .before .before .before .before .turn .result) _ _ _
-    (sym (c .before .before .before .before .before .before .before .before .before .before .before .has-room .ensures) ∙ not-false _ (c .before .before .before .before .before .before .before .before .before .before .if1 .left)) (c .before .before .before .before .before .before .before .before .parse .ensures) (c .before .before .before .before .before .before .before .turn .ensures .0) (c .before .before .before .before .before .before .before .turn .ensures .1) (c .before .before .put-output .ensures .0) (c .before .before .put-output .ensures .1)
+    perform-done (a .m) (a .image .now) (a .n) (a .line .now) (a .out .now) (a .at) (read .result) (turned .result) _ _ _
+    (room-found (c .before .before .before .before .before .before .before .before .before .before))
+    (read .ensures) (turned .ensures .0) (turned .ensures .1) (printed .ensures .laid) (printed .ensures .place)
 
 pub perform-spec : {M : Type 1} → statement M
 perform-spec =

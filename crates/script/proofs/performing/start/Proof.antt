@@ -1,4 +1,3 @@
-use mathlib.Core.Path.{refl}
 use borrow.Author.Needs.{needs}
 use Rattle.script.proofs.performing.start.Statement.{statement}
 use Rattle.script.proofs.performing.start.Tie as tie

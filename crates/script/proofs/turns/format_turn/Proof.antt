@@ -15,8 +15,10 @@ same-length c = search needs
 
 returns : tie.Need-returns
 returns c =
+    let number = c .before .number-of in
+    let format = c .before .before .before .before .format in
     let a = c .before .before .before .before .before .before .before .args in
-    format-refused (a .m) (a .image .now) _ (a .z) (c .before .before .before .before .format .result) _ _ (c .before .before .before .before .format .ensures .0) (c .before .before .before .before .format .ensures .1) (c .before .number-of .ensures) (c .if1 .taken) refl
+    format-refused (a .m) (a .image .now) _ (a .z) (format .result) _ _ (format .ensures .0) (format .ensures .1) (number .ensures) (c .if1 .taken) refl
 
 answered-requires : tie.Need-answered-requires
 answered-requires c κs = search needs
@@ -26,8 +28,11 @@ same-length-2 c = search needs
 
 returns-2 : tie.Need-returns-2
 returns-2 c =
+    let number = c .before .before .number-of in
+    let format = c .before .before .before .before .before .format in
     let a = c .before .before .before .before .before .before .before .before .args in
-    format-taken (a .m) (a .image .now) _ (a .z) (c .before .before .before .before .before .format .result) _ _ (c .before .before .before .before .before .format .ensures .0) (c .before .before .before .before .before .format .ensures .1) (c .before .before .number-of .ensures) (c .before .if1 .left) (c .answered .ensures)
+    format-taken (a .m) (a .image .now) _ (a .z) (format .result) _ _ (format .ensures .0) (format .ensures .1) (number .ensures)
+    (c .before .if1 .left) (c .answered .ensures)
 
 pub format-turn-spec : {M : Type 1} → statement M
 format-turn-spec =

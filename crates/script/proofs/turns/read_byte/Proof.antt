@@ -1,4 +1,3 @@
-use native.Mathlib.Omega.{arith}
 use borrow.Author.Needs.{needs}
 use Rattle.script.proofs.Shown.{shown-refused, shown-past, shown-byte}
 use Rattle.script.proofs.turns.read_byte.Statement.{statement}
@@ -15,21 +14,30 @@ number-of-requires c κs = search needs
 
 returns : tie.Need-returns
 returns c =
+    let number = c .before .number-of in
+    let read = c .before .before .before .read in
     let a = c .before .before .before .before .before .before .args in
-    shown-refused (a .st) (a .image .now) (a .writer) (a .page) (a .line) (a .offset) (c .before .before .before .read .result) _ (c .before .number-of .ensures) (c .before .before .before .read .ensures .0 .0) (c .if1 .taken)
+    shown-refused (a .st) (a .image .now) (a .writer) (a .page) (a .line) (a .offset) (read .result) _
+    (number .ensures) (read .ensures .0 .0) (c .if1 .taken)
 
 returns-2 : tie.Need-returns-2
 returns-2 c =
+    let number = c .before .before .number-of in
+    let read = c .before .before .before .before .read in
     let a = c .before .before .before .before .before .before .before .args in
-    shown-past (a .st) (a .image .now) (a .writer) (a .page) (a .line) (a .offset) (c .before .before .before .before .read .result) _ (c .before .before .number-of .ensures) (c .before .before .before .before .read .ensures .0 .0) (c .before .if1 .left) (c .if2 .taken)
+    shown-past (a .st) (a .image .now) (a .writer) (a .page) (a .line) (a .offset) (read .result) _
+    (number .ensures) (read .ensures .0 .0) (c .before .if1 .left) (c .if2 .taken)
 
 array-read-t15 : tie.Need-array-read-t15
 array-read-t15 c = search needs
 
 returns-3 : tie.Need-returns-3
 returns-3 c =
+    let number = c .before .before .number-of in
+    let read = c .before .before .before .before .read in
     let a = c .before .before .before .before .before .before .before .args in
-    shown-byte (a .st) (a .image .now) (a .writer) (a .page) (a .line) (a .offset) (c .before .before .before .before .read .result) _ (c .before .before .number-of .ensures) (c .before .before .before .before .read .ensures .0 .0) _ (c .before .before .before .before .read .ensures .1) (c .before .if1 .left) (c .if2 .left)
+    shown-byte (a .st) (a .image .now) (a .writer) (a .page) (a .line) (a .offset) (read .result) _
+    (number .ensures) (read .ensures .0 .0) _ (read .ensures .1) (c .before .if1 .left) (c .if2 .left)
 
 pub read-byte-spec : {M : Type 1} → statement M
 read-byte-spec =

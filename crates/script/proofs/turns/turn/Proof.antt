@@ -1,4 +1,4 @@
-use mathlib.Core.Path.{refl, sym, _∙_}
+use mathlib.Core.Path.{refl}
 use borrow.Author.Needs.{needs}
 use Rattle.forms.specs.declared.Form.the-variants.{Other}
 use Rattle.forms.specs.Forms.{first}
@@ -23,7 +23,11 @@ enum-known-a : tie.Need-enum-known-a
 enum-known-a c = search needs
 
 ask-requires : tie.Need-ask-requires
-ask-requires c κs = write-data (c .before .before .before .before .before .before .before .before .before .before .args .m .formatted) (c .before .before .before .before .before .before .before .before .before .before .args .t3) (c .before .before .before .before .a .given .0 .0) (sym (c .before .before .before .before .a .given .1) ∙ c .before .before .before .before .before .before .form-of .ensures)
+ask-requires c κs =
+    let asked = c .before .before .before .before .a in
+    let form = c .before .before .before .before .before .before .form-of in
+    let a = c .before .before .before .before .before .before .before .before .before .before .args in
+    write-data (a .m .formatted) (a .t3) (form .result) (asked .given .0 .0) (form .ensures) (asked .given .1)
 
 finish-requires : tie.Need-finish-requires
 finish-requires c κs = search needs
@@ -51,37 +55,46 @@ same-length c = search needs
 
 returns : tie.Need-returns
 returns c =
+    let turned = c .before .before .format-turn in
+    let sizes = c .before .before .before .sizes-in in
+    let form = c .before .before .before .before .before .before .before .before .before .form-of in
     let a = c .before .before .before .before .before .before .before .before .before .before .before .before .before .args in
-    by-format (a .m) (a .image .now) (a .t3) (c .before .before .before .before .before .before .before .before .before .form-of .result) (c .before .before .before .before .before .before .before .before .before .form-of .ensures) (c .before .before .before .sizes-in .result) _ _ (c .before .before .before .before .before .before .before .enum-told .given .1)
-    (c .before .before .before .sizes-in .ensures) (c .before .before .format-turn .ensures .0) (c .before .before .format-turn .ensures .1)
+    by-format (a .m) (a .image .now) (a .t3) (form .result) (form .ensures) (sizes .result) _ _ (c .before .before .before .before .before .before .before .enum-told .given .1)
+    (sizes .ensures) (turned .ensures .0) (turned .ensures .1)
 
 same-length-2 : tie.Need-same-length-2
 same-length-2 c = search needs
 
 returns-2 : tie.Need-returns-2
 returns-2 c =
+    let finished = c .before .before .finish in
+    let called = c .before .before .before .before .ask in
+    let asked = c .before .before .before .before .before .before .before .before .before .a in
+    let form = c .before .before .before .before .before .before .before .before .before .before .before .form-of in
     let a = c .before .before .before .before .before .before .before .before .before .before .before .before .before .before .before .args in
-    by-call (a .m) (a .image .now) (a .t3) (c .before .before .before .before .before .before .before .before .before .before .before .form-of .result) (c .before .before .before .before .before .before .before .before .before .before .before .form-of .ensures) (c .before .before .before .before .before .before .before .before .before .a .given .0 .0) _ _ _ (c .before .before .before .before .before .before .before .before .before .a .given .1)
-    (c .before .before .before .before .ask .ensures) (c .before .before .finish .ensures .0) (c .before .before .finish .ensures .1)
+    by-call (a .m) (a .image .now) (a .t3) (form .result) (form .ensures) (asked .given .0 .0) _ _ _ (asked .given .1)
+    (called .ensures) (finished .ensures .0) (finished .ensures .1)
 
 same-length-3 : tie.Need-same-length-3
 same-length-3 c = search needs
 
 returns-3 : tie.Need-returns-3
 returns-3 c =
+    let form = c .before .before .before .before .before .before .form-of in
     let a = c .before .before .before .before .before .before .before .before .before .before .args in
-    by-read (a .m) (a .image .now) (a .t3) (c .before .before .before .before .before .before .form-of .result) (c .before .before .before .before .before .before .form-of .ensures) (c .read-shown .result) (c .before .before .before .before .enum-told2 .given .1) (c .read-shown .ensures)
+    by-read (a .m) (a .image .now) (a .t3) (form .result) (form .ensures) (c .read-shown .result) (c .before .before .before .before .enum-told2 .given .1) (c .read-shown .ensures)
 
 returns-4 : tie.Need-returns-4
 returns-4 c =
-    let f = c .before .before .before .before in
-    let a = f .before .before .before .before .args in
-    by-cut (a .m) (a .image .now) (a .t3) (f .form-of .result) (f .form-of .ensures) (first (a .t3)) _ (c .before .before .enum-told3 .given .1) refl (c .cut-turn .ensures)
+    let form = c .before .before .before .before .form-of in
+    let a = c .before .before .before .before .before .before .before .before .args in
+    by-cut (a .m) (a .image .now) (a .t3) (form .result) (form .ensures) (first (a .t3)) _ (c .before .before .enum-told3 .given .1) refl (c .cut-turn .ensures)
 
 returns-5 : tie.Need-returns-5
 returns-5 c =
+    let form = c .before .before .form-of in
     let a = c .before .before .before .before .before .before .args in
-    by-form (a .m) (a .image .now) (a .t3) (c .before .before .form-of .result) (c .before .before .form-of .ensures) Other _ _ (c .enum-told4 .given .1) refl refl
+    by-form (a .m) (a .image .now) (a .t3) (form .result) (form .ensures) Other _ _ (c .enum-told4 .given .1) refl refl
 
 pub turn-spec : {M : Type 1} → statement M
 turn-spec =
