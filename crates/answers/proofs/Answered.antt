@@ -75,3 +75,12 @@ refused-known a row st l e =
     let n : numberOf a ≡ row = ap numberOf e ∙ k .0 in
     let s : storesOf a ≡ 0 = ap storesOf e ∙ k .1 in
     caseOn (eqb row 0) (λ t. rw (t, n, s)) (λ t. rw (t, n, s))
+
+-- the answer with a row's number, or taken with n stores
+pub answer-known : (a : Answer) (row n : ℕ) (st : State) → row ≤ 19 → a ≡ asAnswer row n → outcomeOf (record { answer = a; state = st }) ≡ answered row st n st
+answer-known a row n st l e =
+    caseOn (eqb row 0)
+    (λ t. let z = eqb-true row 0 t in rw (z, rw z at e))
+    (λ t.
+    let f : a ≡ asAnswer row 0 = rw t (rw t at e) in
+    rw t (rw t at (refused-known a row st l f)))

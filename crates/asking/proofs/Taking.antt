@@ -53,11 +53,11 @@ pendingWith st p =
     record { sizes = st .sizes; head = st .head; tail = st .tail; next = st .next; table = st .table; writers = st .writers; pending = p }
 
 -- what completing it requires
-pub ask-ready : (st : State) (op : Op) (line : List ℕ) (frame : ℕ) (p : Pending) → p ≡ pendingFrom op line frame → Ranged st → refusal (opRows st op frame) ≡ 0
-    → Ranged (pendingWith st p) × (refusal (opRows (pendingWith st p) (p .op) (p .frame)) ≡ 0)
-ask-ready st op line frame p e h r =
-    subst (λ (q : Pending). Ranged (pendingWith st q) × (refusal (opRows (pendingWith st q) (q .op) (q .frame)) ≡ 0)) (sym e)
-    (ranged-asked st op line frame h, r)
+pub ask-ready : (st : State) (op : Op) (line : List ℕ) (frame : ℕ) (p : Pending) → p ≡ pendingFrom op line frame → Ranged st → refusal (opRows st op frame) ≡ 0 → isIdle op ≡ false
+    → Ranged (pendingWith st p) × (refusal (opRows (pendingWith st p) (p .op) (p .frame)) ≡ 0) × (isIdle (p .op) ≡ false)
+ask-ready st op line frame p e h r i =
+    subst (λ (q : Pending). Ranged (pendingWith st q) × (refusal (opRows (pendingWith st q) (q .op) (q .frame)) ≡ 0) × (isIdle (q .op) ≡ false)) (sym e)
+    (ranged-asked st op line frame h, r, i)
 
 -- each number of the rows of a commit, a consolidation or a checkpoint is an answer's
 pub ask-known : (st : State) (n : ℕ) (op : Op) → refusal (quietRows st n ++ opRows st op 0) ≤ 19

@@ -118,7 +118,7 @@ pub fn ask(st: State, n: usize, op: Op) -> Done
     let pending = pending_from(op, [0; 8], 0);
     next.pending = pending;
     if needed == 0 {
-        return answers::taken(0, stores::complete(next));
+        return answers::taken(0, stores::completed(next));
     }
     answers::taken(needed, next)
 }

@@ -6,10 +6,8 @@ ghost use Rattle.bounded.specs.Tab.{filled};
 ghost use Rattle.layout.specs.Layout.{Legal, recordWord, imageLength};
 ghost use Rattle.replay.specs.Table.{noPosition};
 ghost use Rattle.operations.specs.Operations.{recordedSlots};
-ghost use Rattle.refinement.specs.Checkpoint.{checkpointStores, slotCopies, checkpointing, withoutLasts};
-ghost use Rattle.refinement.specs.Settled.{settled};
+ghost use Rattle.refinement.specs.Checkpoint.{checkpointStores, slotCopies, checkpointing};
 use layout::Sizes;
-use state::State;
 
 // The j-th slot that has a live record, rising, or 0 where there is none.
 fn recorded_slot(z: Sizes, last: &[usize; 16], j: usize) -> usize
@@ -94,8 +92,8 @@ pub fn make_checkpoint_stores(
     }
 }
 
-// No slot has a live record any more.
-fn forget(last: &mut [usize; 16], z: Sizes)
+// What a checkpoint leaves when it is complete: no slot has a live record any more.
+pub fn complete_checkpoint(last: &mut [usize; 16], z: Sizes)
     requires { ⌜ Legal z ⌝ }
     ensures { λ _. ⌜ now (last .exit) ≡ filled (z .slots) (λ s. noPosition) (now (last .entry)) ⌝ }
 {
@@ -104,17 +102,4 @@ fn forget(last: &mut [usize; 16], z: Sizes)
         last[s] = 18446744073709551615;
         s += 1;
     }
-}
-
-// The state when a checkpoint is complete.
-pub fn checkpoint_completed(mut st: State) -> State
-    requires { ⌜ Legal (st .sizes) ⌝ }
-    ensures { λ r. ⌜ r ≡ settled st (st .head) (st .head) (st .next) (withoutLasts (st .sizes) (st .table)) (st .writers) ⌝ }
-{
-    let z = st.sizes;
-    let idle = settled::no_pending();
-    forget(&mut st.table.last, z);
-    st.tail = st.head;
-    st.pending = idle;
-    st
 }

@@ -3,18 +3,14 @@ ghost use mathlib.Core.Path.{_≡_};
 ghost use mathlib.Core.Bool.{true, false};
 ghost use Prim.Native.Nat.{_+_, _*_, _<_, _≤_};
 ghost use lib.ListN.{length, getD, set};
-ghost use Rattle.bounded.specs.Below.{upTo};
 ghost use Rattle.layout.specs.Layout.{Legal, recordWord, imageLength};
 ghost use Rattle.journal.specs.Records.{position};
 ghost use Rattle.replay.specs.Table.{slotsOfArrays, slotsShaped};
-ghost use Rattle.state.specs.Held.{heldSlots};
-ghost use Rattle.operations.specs.Operations.{Ranged};
-ghost use Rattle.refinement.specs.Commit.{committing, commitRecord, commitStores, commitHead, bitmapsAfter, lastsAfter, commitTable, closedWriter};
-ghost use Rattle.refinement.specs.Settled.{settled};
+ghost use Rattle.state.specs.Held.{heldSlots, letGo};
+ghost use Rattle.refinement.specs.Commit.{committing, commitRecord, commitStores, bitmapsAfter, lastsAfter};
 use journal::Record;
 use journal::Slot;
 use layout::Sizes;
-use state::State;
 
 // The j-th slot that writer w holds lines of, rising, or 0 where there is none.
 fn held_slot(z: Sizes, held: &[u64; 64], w: usize, j: usize) -> usize
@@ -183,42 +179,29 @@ fn commit_lasts<'a>(
     out
 }
 
-// Empties what a writer holds.
-fn release(held: &mut [u64; 64], z: Sizes, w: usize)
-    requires { ⌜ Legal z × (w < 4) ⌝ }
-    ensures { λ _. ⌜ now (held .exit) ≡ upTo (z .slots) (λ s h. set h (16 * w + s) 0) (now (held .entry)) ⌝ }
+// What a commit leaves when it is complete: its slots' bitmaps and last positions, and the writer closed. Says the head.
+pub fn complete_commit(
+    z: Sizes,
+    head: usize,
+    bitmap: &mut [u64; 16],
+    last: &mut [usize; 16],
+    opened: &mut [bool; 4],
+    held: &mut [u64; 64],
+    w: usize,
+) -> usize
+    requires { ⌜ Legal z × (head < 2 * z .places) × (w < 4) ⌝ }
+    ensures head { λ r. ⌜ r ≡ position z head (length (heldSlots z (now (held .entry)) w)) ⌝ }
+    ensures bitmap { λ _. ⌜ now (bitmap .exit) ≡ bitmapsAfter z (now (bitmap .entry)) (now (held .entry)) w (length (heldSlots z (now (held .entry)) w)) ⌝ }
+    ensures last { λ _. ⌜ now (last .exit) ≡ lastsAfter z head (now (last .entry)) (now (held .entry)) w (length (heldSlots z (now (held .entry)) w)) ⌝ }
+    ensures opened { λ _. ⌜ now (opened .exit) ≡ set (now (opened .entry)) w false ⌝ }
+    ensures held { λ _. ⌜ now (held .exit) ≡ letGo z (now (held .entry)) w ⌝ }
 {
-    let mut s = 0;
-    while s < z.slots {
-        held[16 * w + s] = 0;
-        s += 1;
-    }
-}
-
-// Closes a writer.
-fn close(opened: &mut [bool; 4], w: usize)
-    requires { ⌜ w < 4 ⌝ }
-    ensures { λ _. ⌜ now (opened .exit) ≡ set (now (opened .entry)) w false ⌝ }
-{
-    opened[w] = false;
-}
-
-// The state when a commit is complete.
-pub fn commit_completed(mut st: State, writer: usize) -> State
-    requires { ⌜ Ranged st × (writer < 4) ⌝ }
-    ensures { λ r. ⌜ r ≡ settled st (commitHead st writer) (st .tail) (st .next) (commitTable st writer) (closedWriter (st .sizes) (st .writers) writer) ⌝ }
-{
-    let z = st.sizes;
-    let head = st.head;
-    let n = state::held::held_count(z, &st.writers.held, writer);
-    let bitmap = commit_bitmaps(z, &st.table.bitmap, &st.writers.held, writer, n);
-    let last = commit_lasts(z, head, &st.table.last, &st.writers.held, writer, n);
-    let idle = settled::no_pending();
-    settled::put_masks(&mut st.table.bitmap, bitmap);
-    settled::put_all(&mut st.table.last, last);
-    release(&mut st.writers.held, z, writer);
-    close(&mut st.writers.opened, writer);
-    st.head = journal::records::position(z, head, n);
-    st.pending = idle;
-    st
+    let n = state::held::held_count(z, held, w);
+    let bitmaps = commit_bitmaps(z, bitmap, held, w, n);
+    let lasts = commit_lasts(z, head, last, held, w, n);
+    settled::put_masks(bitmap, bitmaps);
+    settled::put_all(last, lasts);
+    state::held::let_go(z, held, w);
+    state::held::set_open(opened, w, false);
+    journal::records::position(z, head, n)
 }

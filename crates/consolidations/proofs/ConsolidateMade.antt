@@ -18,7 +18,9 @@ use Rattle.journal.specs.declared.Record.{Record}
 use Rattle.replay.specs.declared.Table.{Table}
 use Rattle.journal.specs.Records.{position, wordOfRecord}
 use Rattle.journal.specs.Slots.{freeSlot}
-use Rattle.replay.specs.Table.{slotIn}
+use Rattle.replay.specs.Table.{slotIn, slotsOfArrays}
+use Rattle.state.specs.Slots.{slotOfPage}
+use Rattle.consolidations.specs.Completed.{freedSlot}
 use Rattle.state.specs.declared.State.{State}
 use Rattle.state.specs.declared.Pending.{Pending}
 use Rattle.operations.specs.Operations.{Ranged, slotFor}
@@ -104,6 +106,12 @@ pub consolidate-stores-of : (st : State) (p from n : ℕ) (img : List ℕ)
     ≡ consolidateStores st p from n img
 unfolding consolidateAt consolidateValue freeingRecord
 consolidate-stores-of st p from n img = refl
+
+-- the slot as the code frees it
+pub slot-freed : (z : Sizes) (page original spare bitmap : List ℕ) (p s f : ℕ) (t v : Slot) → s ≡ slotOfPage z page p → t ≡ slotIn (slotsOfArrays page original spare bitmap) s
+    → f ≡ copyFrom t → v ≡ freeSlot f → v ≡ freedSlot z page original spare bitmap p
+slot-freed z page original spare bitmap p s f t v a b c d =
+    d ∙ ap freeSlot (c ∙ ap copyFrom (b ∙ ap (λ (k : ℕ). slotIn (slotsOfArrays page original spare bitmap) k) a))
 
 -- the state after the last store: the slot's words and last record are put
 pub consolidate-done : (st : State) (p s f q : ℕ) (t v : Slot) (i : Pending) (page original spare bitmap last : List ℕ) → Ranged st

@@ -2,19 +2,18 @@
 ghost use mathlib.Core.Path.{_≡_};
 ghost use mathlib.Core.Bool.{true};
 ghost use Prim.Native.Nat.{_+_, _*_, _/_, _%_, _<_, _≤_};
-ghost use lib.ListN.{length, getD};
+ghost use lib.ListN.{length, getD, set};
+ghost use Rattle.state.specs.Slots.{slotOfPage};
 ghost use Rattle.layout.specs.Layout.{Legal, frames, imageLength};
 ghost use Rattle.journal.specs.Slots.{freeSlot};
 ghost use Rattle.journal.specs.Records.{position};
-ghost use Rattle.operations.specs.Operations.{Ranged, slotted};
 ghost use Rattle.refinement.specs.Frames.{pageSlot};
 ghost use Rattle.pieces.specs.Pieces.{Fits, lineCopies};
-ghost use Rattle.refinement.specs.Consolidate.{copyTo, copyFrom, copyLines, copyStoreCount, consolidationStores, Consolidates, consolidateStores, consolidating, consolidateTable};
-ghost use Rattle.refinement.specs.Settled.{settled};
+ghost use Rattle.refinement.specs.Consolidate.{copyTo, copyFrom, copyLines, copyStoreCount, consolidationStores, Consolidates, consolidateStores, consolidating};
+ghost use Rattle.consolidations.specs.Completed.{freedSlot};
 use journal::Record;
 use journal::Slot;
 use layout::Sizes;
-use state::State;
 
 // The frame that lines go to: the original where at most 32 are in the spare, else the spare.
 fn copy_to(t: Slot) -> usize
@@ -144,29 +143,32 @@ pub fn make_consolidate_stores<'a>(
     make_pieces(image, z, head, t, e, p, from, n);
 }
 
-// The state when a consolidation is complete.
-pub fn consolidate_completed(mut st: State, page: usize) -> State
-    requires { ⌜ Ranged st × (slotted st page ≡ true) ⌝ }
-    ensures { λ r. ⌜ r ≡ settled st (position (st .sizes) (st .head) 1) (st .tail) (st .next) (consolidateTable st page) (st .writers) ⌝ }
+// What a consolidation leaves when it is complete: the page's slot is free. Says the head.
+pub fn complete_consolidate(
+    z: Sizes,
+    head: usize,
+    page: &mut [usize; 16],
+    original: &mut [usize; 16],
+    spare: &mut [usize; 16],
+    bitmap: &mut [u64; 16],
+    last: &mut [usize; 16],
+    p: usize,
+) -> usize
+    requires { ⌜ Legal z × (head < 2 * z .places) × (slotOfPage z (now page) p < z .slots) ⌝ }
+    ensures head { λ r. ⌜ r ≡ position z head 1 ⌝ }
+    ensures page { λ _. ⌜ now (page .exit) ≡ set (now (page .entry)) (slotOfPage z (now (page .entry)) p) (freedSlot z (now (page .entry)) (now (original .entry)) (now (spare .entry)) (now (bitmap .entry)) p .page) ⌝ }
+    ensures original { λ _. ⌜ now (original .exit) ≡ set (now (original .entry)) (slotOfPage z (now (page .entry)) p) (freedSlot z (now (page .entry)) (now (original .entry)) (now (spare .entry)) (now (bitmap .entry)) p .original) ⌝ }
+    ensures spare { λ _. ⌜ now (spare .exit) ≡ set (now (spare .entry)) (slotOfPage z (now (page .entry)) p) (freedSlot z (now (page .entry)) (now (original .entry)) (now (spare .entry)) (now (bitmap .entry)) p .spare) ⌝ }
+    ensures bitmap { λ _. ⌜ now (bitmap .exit) ≡ set (now (bitmap .entry)) (slotOfPage z (now (page .entry)) p) (freedSlot z (now (page .entry)) (now (original .entry)) (now (spare .entry)) (now (bitmap .entry)) p .bitmap) ⌝ }
+    ensures last { λ _. ⌜ now (last .exit) ≡ set (now (last .entry)) (slotOfPage z (now (page .entry)) p) head ⌝ }
 {
-    let z = st.sizes;
-    let head = st.head;
-    let s = state::slots::slot_of(z, &st.table.page, page);
-    let t = replay::slot_at(
-        &st.table.page,
-        &st.table.original,
-        &st.table.spare,
-        &st.table.bitmap,
-        s,
-    );
+    let s = state::slots::slot_of(z, page, p);
+    let t = replay::slot_at(page, original, spare, bitmap, s);
     let v = journal::slots::free_slot(copy_from(t));
-    let idle = settled::no_pending();
-    settled::put(&mut st.table.page, s, v.page);
-    settled::put(&mut st.table.original, s, v.original);
-    settled::put(&mut st.table.spare, s, v.spare);
-    settled::put_mask(&mut st.table.bitmap, s, v.bitmap);
-    settled::put(&mut st.table.last, s, head);
-    st.head = journal::records::position(z, head, 1);
-    st.pending = idle;
-    st
+    settled::put(page, s, v.page);
+    settled::put(original, s, v.original);
+    settled::put(spare, s, v.spare);
+    settled::put_mask(bitmap, s, v.bitmap);
+    settled::put(last, s, head);
+    journal::records::position(z, head, 1)
 }

@@ -5,10 +5,9 @@ ghost use lib.ListN.{length};
 ghost use Rattle.bounded.specs.Rows.{refusal};
 ghost use Rattle.layout.specs.Layout.{Legal};
 ghost use Rattle.journal.specs.Records.{liveCount};
-ghost use Rattle.operations.specs.Operations.{isIdle, Ranged, Asked, writeArgsBad, lineTaken, noneFree, frameBad, writeRowsOf, commitRowsOf, consolidateRowsOf, opRowsOf, opRows, commitNeeds, copyCount, consolidateNeeds, recordedSlots, checkpointNeeds, needsOf, needs};
+ghost use Rattle.operations.specs.Operations.{isIdle, Asked, writeArgsBad, lineTaken, noneFree, frameBad, writeRowsOf, commitRowsOf, consolidateRowsOf, opRowsOf, commitNeeds, copyCount, consolidateNeeds, recordedSlots, checkpointNeeds, needsOf};
 use layout::Sizes;
 use state::Op;
-use state::State;
 
 // Whether there is no operation.
 pub fn is_idle(op: Op) -> bool
@@ -311,23 +310,4 @@ pub fn op_needs<'a>(
         }
         Op::Checkpoint => checkpoint_needs(z, head, tail, last),
     }
-}
-
-// The stores that the pending operation needs, where no row turns it back.
-pub fn pending_needs(st: State) -> usize
-    requires { ⌜ Ranged st × (refusal (opRows st (st .pending .op) (st .pending .frame)) ≡ 0) ⌝ }
-    ensures { λ r. ⌜ r ≡ needs st (st .pending .op) ⌝ }
-{
-    let pending = st.pending;
-    let op = pending.op;
-    op_needs(
-        st.sizes,
-        st.head,
-        st.tail,
-        &st.table.page,
-        &st.table.bitmap,
-        &st.table.last,
-        &st.writers.held,
-        op,
-    )
 }

@@ -2,11 +2,9 @@
 ghost use mathlib.Core.Path.{_≡_};
 ghost use Rattle.bounded.specs.Rows.{refusal};
 ghost use Rattle.state.specs.Parts.{stateOf};
-ghost use Rattle.refinement.specs.Calls.{busyRows};
 ghost use Rattle.rows.specs.First.{firstRows};
 use layout::Sizes;
 use state::Pending;
-use state::State;
 
 // The first of rows 8, 4 and 9, of an image of n bytes; of a busy call, which goes on with what is pending, 8, 4 and 10.
 pub fn first_row<'a>(
@@ -55,27 +53,4 @@ pub fn first_row<'a>(
         return 9;
     }
     0
-}
-
-// The same of a state.
-pub fn busy_row(st: State, n: usize) -> usize
-    ensures { λ r. ⌜ r ≡ refusal (busyRows st n) ⌝ }
-{
-    let pending = st.pending;
-    first_row(
-        st.sizes,
-        st.head,
-        st.tail,
-        st.next,
-        &st.table.page,
-        &st.table.original,
-        &st.table.spare,
-        &st.table.bitmap,
-        &st.table.last,
-        &st.writers.opened,
-        &st.writers.held,
-        pending,
-        n,
-        true,
-    )
 }

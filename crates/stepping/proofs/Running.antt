@@ -1,47 +1,84 @@
 -- Run: what its stores and its state come to; and step, a run of one.
-use Prim.Native.Nat.{ℕ, _-_, min}
+use Prim.Native.Nat.{ℕ, _+_, _≤_, min}
 use mathlib.Core.Bool.{true, false}
 use mathlib.Core.List.{List}
-use mathlib.Core.Path.{_≡_, refl, sym, _∙_}
+use mathlib.Core.Path.{_≡_, refl, sym, ap, _∙_}
 use native.Mathlib.Omega.{arith}
 use lib.Dec.{eqb}
 use lib.ListN.{length}
-use borrow.Author.Tests.{ne-eqb, eqb-true}
+use borrow.Author.Tests.{eq-eqb, ne-eqb, eqb-true, eqb-false}
 use Rattle.bounded.specs.Rows.{refusal}
-use Rattle.bounded.proofs.Tests.{caseOn}
+use Rattle.bounded.proofs.Tests.{caseOn, contradicts}
 use Rattle.state.specs.declared.State.{State}
-use Rattle.operations.specs.Operations.{needs}
-use Rattle.refinement.specs.Stores.{storesMade, stateAfter, stepped, steppedBy, left}
-use Rattle.refinement.proofs.Pending.{pends}
-use Rattle.refinement.proofs.Steps.{run-image, run-after, step-run}
+use Rattle.operations.specs.Operations.{needs, isIdle}
+use Rattle.refinement.specs.Stores.{completed, withMade, stateAfter, stepped, steppedBy, left}
 use Rattle.refinement.specs.Outcome.{answered}
-use Rattle.answers.specs.Answers.{outcomeOf}
-use Rattle.answers.specs.declared.Done.{Done}
-use Rattle.refinement.specs.Calls.{stepRows, stepRow, worldOf, stepOf, stepBytes, runOf, runBytes}
-use Rattle.refinement.proofs.Quiet.{busy}
-use Rattle.answers.proofs.Answered.{refused-by, taken-by}
+use Rattle.refinement.specs.Calls.{busyRows, stepRow, worldOf, stepOf, stepBytes, runOf, runBytes}
+use Rattle.refinement.proofs.Going.{Going, going}
+use Rattle.refinement.proofs.Steps.{run-after, step-run}
+use Rattle.refinement.proofs.Quiet.{Busy, busy}
+use Rattle.answers.proofs.Answered.{row-known}
+use Rattle.stores.specs.declared.making.Made.{Made}
+use Rattle.stores.specs.Made.{madeOf}
+use Rattle.stores.proofs.LeftMade.{made-row, made-stores, made-none}
 
-module _ (d : Done) (st : State) (img : List ℕ) (row : ℕ) (e : row ≡ refusal (stepRows st img)) where
-  not-taken : (row ≡ 0 → ⊥) → eqb (stepRow st img) 0 ≡ false
-  not-taken n = ne-eqb (stepRow st img) 0 (λ q. n (e ∙ q))
+-- m is what the code found of the stores that it made
+module _ (st : State) (img : List ℕ) (k : ℕ) (m : Made) (e : m ≡ madeOf st (length img) k) where
+  pub row-low : m .row ≤ 19
+  row-low = rw (made-row st (length img) k m e) (row-known (busyRows st (length img)) (omega arith))
 
-  pub run-refused : (k : ℕ) → (row ≡ 0 → ⊥) → outcomeOf d ≡ answered row st 0 st → (outcomeOf d ≡ runOf st img k) × (img ≡ runBytes st img k)
-  unfolding runOf runBytes
-  run-refused k n h =
-      (refused-by d (stepRows st img) row (min k (left st)) st (steppedBy (min k (left st)) (worldOf st img) .st) e n h, rw (not-taken n))
+  -- no row applies
+  module _ (z : m .row ≡ 0) where
+    pub taken-busy : Busy st (length img)
+    taken-busy = busy st (length img) (m .row) (made-row st (length img) k m e) z
 
-  pub run-done : (k needed n : ℕ) (next : State) (m : List ℕ) → row ≡ 0 → needed ≡ needs st (st .pending .op) → n ≡ min k (needed - st .pending .made)
-      → next ≡ stateAfter st n → m ≡ storesMade st n img
-      → outcomeOf d ≡ answered 0 next n next → (outcomeOf d ≡ runOf st img k) × (m ≡ runBytes st img k)
-  unfolding runOf runBytes
-  run-done k needed n next m z a b s t h =
-      let q : stepRow st img ≡ 0 = sym e ∙ z in
-      let x : n ≡ min k (left st) = rw a at b in
-      let y = busy st (length img) row e z in
-      let p = pends st (st .pending .op) (y .ok) refl (y .pends) in
-      let u : next ≡ steppedBy n (worldOf st img) .st = s ∙ sym (run-after n (worldOf st img) (y .pends) (omega (arith, p .made-low)) (omega arith)) in
-      let v : m ≡ steppedBy n (worldOf st img) .image = t ∙ sym (run-image n (worldOf st img) (omega arith)) in
-      (taken-by d (stepRows st img) row (min k (left st)) st (steppedBy (min k (left st)) (worldOf st img) .st) e z (rw (u, x) at h), rw q (rw x at v))
+    pub taken-going : Going st
+    taken-going = let b = taken-busy in going st (b .ok) (b .pends)
+
+    went : (after : State) → after ≡ stateAfter st (min k (left st)) → answered (m .row) after (m .stores) after ≡ runOf st img k
+    unfolding runOf
+    went after a =
+        let q : stepRow st img ≡ 0 = sym (made-row st (length img) k m e) ∙ z in
+        let n : m .stores ≡ min k (left st) = made-stores st (length img) k m e z .0 in
+        let low = taken-going .made-low in
+        let u : after ≡ steppedBy (min k (left st)) (worldOf st img) .st = a ∙ sym (run-after (min k (left st)) (worldOf st img) (taken-busy .pends) (omega (arith, low)) (omega arith)) in
+        rw (z, q, n, u)
+
+  -- some are left, or a row turns the run back: at most the count of stores made changes
+  pub went-part : m .whole ≡ false → answered (m .row) (withMade st (m .total)) (m .stores) (withMade st (m .total)) ≡ runOf st img k
+  unfolding runOf
+  went-part w =
+      caseOn (eqb (m .row) 0)
+      (λ t.
+      let z = eqb-true (m .row) 0 t in
+      let s = made-stores st (length img) k m e z in
+      let x : eqb (min k (left st)) (left st) ≡ false = sym (s .2) ∙ w in
+      let y = eqb-false (min k (left st)) (left st) x in
+      let low = taken-going z .made-low in
+      let f : eqb (st .pending .made + min k (left st)) (needs st (st .pending .op)) ≡ false = ne-eqb (st .pending .made + min k (left st)) (needs st (st .pending .op)) (λ q. y (omega (arith, low))) in
+      went z (withMade st (m .total)) (rw (s .1, f)))
+      (λ t.
+      let r = made-row st (length img) k m e in
+      let s = made-none st (length img) k m e (eqb-false (m .row) 0 t) in
+      let g : eqb (refusal (busyRows st (length img))) 0 ≡ false = rw r at t in
+      rw (s .1, s .0, r, g))
+
+  -- none is left
+  module _ (w : m .whole ≡ true) where
+    pub whole-taken : m .row ≡ 0
+    whole-taken =
+        caseOn (eqb (m .row) 0)
+        (λ t. eqb-true (m .row) 0 t)
+        (λ t. contradicts w (made-none st (length img) k m e (eqb-false (m .row) 0 t) .2))
+
+    pub went-whole : (after : State) → after ≡ completed st (st .pending .op) → answered (m .row) after (m .stores) after ≡ runOf st img k
+    went-whole after a =
+        let z = whole-taken in
+        let s = made-stores st (length img) k m e z in
+        let x = eqb-true (min k (left st)) (left st) (sym (s .2) ∙ w) in
+        let low = taken-going z .made-low in
+        let f : eqb (st .pending .made + min k (left st)) (needs st (st .pending .op)) ≡ true = eq-eqb (st .pending .made + min k (left st)) (needs st (st .pending .op)) (omega (arith, low)) in
+        went z after (rw f a)
 
 -- a step is a run of one
 module _ (st : State) (img : List ℕ) where

@@ -1,9 +1,13 @@
 // Step makes one store; run makes at most k.
+mod going;
+
 ghost use mathlib.Core.Path.{_≡_};
 ghost use Rattle.answers.specs.Answers.{outcomeOf};
 ghost use Rattle.refinement.specs.Calls.{stepOf, stepBytes, runOf, runBytes};
 use answers::Done;
+use replay::Table;
 use state::State;
+use state::Writers;
 
 // Makes one store: a run of one.
 pub fn step(st: State, image: &mut [u8]) -> Done
@@ -18,14 +22,49 @@ pub fn run(st: State, image: &mut [u8], k: usize) -> Done
     ensures outcome { λ r. ⌜ outcomeOf r ≡ runOf st (now (image .entry)) k ⌝ }
     ensures bytes { λ _. ⌜ now (image .exit) ≡ runBytes st (now (image .entry)) k ⌝ }
 {
-    let row = rows::busy_row(st, image.len());
-    if row != 0 {
-        return answers::refused(row, st);
-    }
-    let needed = operations::pending_needs(st);
+    let mut page = st.table.page;
+    let mut original = st.table.original;
+    let mut spare = st.table.spare;
+    let mut bitmap = st.table.bitmap;
+    let mut last = st.table.last;
+    let mut opened = st.writers.opened;
+    let mut held = st.writers.held;
+    let sizes = st.sizes;
     let pending = st.pending;
-    let n = pieces::smaller(k, needed - pending.made);
-    stores::making::make_stores(image, st, n);
-    let next = stores::after(st, n, needed);
-    answers::taken(n, next)
+    let gone = going::go_on(
+        image,
+        sizes,
+        st.head,
+        st.tail,
+        st.next,
+        &mut page,
+        &mut original,
+        &mut spare,
+        &mut bitmap,
+        &mut last,
+        &mut opened,
+        &mut held,
+        pending,
+        k,
+    );
+    let answer = answers::answer_of(gone.made.row, gone.made.stores);
+    let pending = gone.pending;
+    let table = Table {
+        page,
+        original,
+        spare,
+        bitmap,
+        last,
+    };
+    let writers = Writers { opened, held };
+    let state = State {
+        sizes,
+        head: gone.to.head,
+        tail: gone.to.tail,
+        next: gone.to.next,
+        table,
+        writers,
+        pending,
+    };
+    Done { answer, state }
 }

@@ -2,53 +2,140 @@
 pub mod making;
 
 ghost use mathlib.Core.Path.{_≡_};
-ghost use Prim.Native.Nat.{_+_, _≤_};
+ghost use mathlib.Core.Bool.{false};
 ghost use Rattle.bounded.specs.Rows.{refusal};
-ghost use Rattle.operations.specs.Operations.{Ranged, opRows, needs};
-ghost use Rattle.refinement.specs.Stores.{completed, withMade, stateAfter};
+ghost use Rattle.state.specs.Parts.{stateOf};
+ghost use Rattle.operations.specs.Operations.{Ranged, isIdle, opRows};
+ghost use Rattle.refinement.specs.Settled.{noPending};
+ghost use Rattle.refinement.specs.Stores.{completed as completedOf};
+use layout::Sizes;
+use replay::Table;
 use state::Op;
+use state::Pending;
 use state::State;
+use state::Writers;
 
-// The state with m stores made.
-fn with_made(st: State, m: usize) -> State
-    ensures { λ r. ⌜ r ≡ withMade st m ⌝ }
-{
-    let mut s = st;
-    s.pending.made = m;
-    s
+// Head, tail and the next slot to try.
+pub struct Places {
+    pub head: usize,
+    pub tail: usize,
+    pub next: usize,
 }
 
-// The state when the pending operation is complete.
-pub fn complete(st: State) -> State
-    requires { ⌜ Ranged st × (refusal (opRows st (st .pending .op) (st .pending .frame)) ≡ 0) ⌝ }
-    ensures { λ r. ⌜ r ≡ completed st (st .pending .op) ⌝ }
+// Completes the pending operation: the arrays are changed where they lie, since a state that is passed on by value is copied each time.
+pub fn complete(
+    z: Sizes,
+    head: usize,
+    tail: usize,
+    next: usize,
+    page: &mut [usize; 16],
+    original: &mut [usize; 16],
+    spare: &mut [usize; 16],
+    bitmap: &mut [u64; 16],
+    last: &mut [usize; 16],
+    opened: &mut [bool; 4],
+    held: &mut [u64; 64],
+    pending: Pending,
+) -> Places
+    requires { ⌜ Ranged (stateOf z head tail next (now page) (now original) (now spare) (now bitmap) (now last) (now opened) (now held) pending) × (refusal (opRows (stateOf z head tail next (now page) (now original) (now spare) (now bitmap) (now last) (now opened) (now held) pending) (pending .op) (pending .frame)) ≡ 0) × (isIdle (pending .op) ≡ false) ⌝ }
+    ensures { λ r. ⌜ stateOf z (r .head) (r .tail) (r .next) (now (page .exit)) (now (original .exit)) (now (spare .exit)) (now (bitmap .exit)) (now (last .exit)) (now (opened .exit)) (now (held .exit)) noPending ≡ completedOf (stateOf z head tail next (now (page .entry)) (now (original .entry)) (now (spare .entry)) (now (bitmap .entry)) (now (last .entry)) (now (opened .entry)) (now (held .entry)) pending) (pending .op) ⌝ }
 {
-    let pending = st.pending;
     let op = pending.op;
     match op {
-        Op::Idle => st,
+        Op::Idle => Places { head, tail, next },
         Op::Write {
             writer,
-            page,
+            page: p,
             line,
             offset: _,
             length: _,
-        } => writes::write_completed(st, writer, page, line),
-        Op::Commit { writer } => commits::commit_completed(st, writer),
-        Op::Consolidate { page } => consolidations::consolidate_completed(st, page),
-        Op::Checkpoint => checkpoints::checkpoint_completed(st),
+        } => {
+            let next = writes::complete_write(
+                z,
+                next,
+                page,
+                original,
+                bitmap,
+                held,
+                pending.frame,
+                writer,
+                p,
+                line,
+            );
+            Places { head, tail, next }
+        }
+        Op::Commit { writer } => {
+            let head = commits::complete_commit(z, head, bitmap, last, opened, held, writer);
+            Places { head, tail, next }
+        }
+        Op::Consolidate { page: p } => {
+            let head = consolidations::complete_consolidate(
+                z,
+                head,
+                page,
+                original,
+                spare,
+                bitmap,
+                last,
+                p,
+            );
+            Places { head, tail, next }
+        }
+        Op::Checkpoint => {
+            checkpoints::complete_checkpoint(last, z);
+            Places {
+                head,
+                tail: head,
+                next,
+            }
+        }
     }
 }
 
-// The state after the next n stores of the pending operation, which needs so many in all: with the last of them it is complete.
-pub fn after(st: State, n: usize, needed: usize) -> State
-    requires { ⌜ Ranged st × (refusal (opRows st (st .pending .op) (st .pending .frame)) ≡ 0) × (needed ≡ needs st (st .pending .op)) × (st .pending .made + n ≤ needed) ⌝ }
-    ensures { λ r. ⌜ r ≡ stateAfter st n ⌝ }
+// The state when its pending operation is complete.
+pub fn completed(st: State) -> State
+    requires { ⌜ Ranged st × (refusal (opRows st (st .pending .op) (st .pending .frame)) ≡ 0) × (isIdle (st .pending .op) ≡ false) ⌝ }
+    ensures { λ r. ⌜ r ≡ completedOf st (st .pending .op) ⌝ }
 {
+    let mut page = st.table.page;
+    let mut original = st.table.original;
+    let mut spare = st.table.spare;
+    let mut bitmap = st.table.bitmap;
+    let mut last = st.table.last;
+    let mut opened = st.writers.opened;
+    let mut held = st.writers.held;
+    let sizes = st.sizes;
     let pending = st.pending;
-    let made = pending.made + n;
-    if made == needed {
-        return complete(st);
+    let to = complete(
+        sizes,
+        st.head,
+        st.tail,
+        st.next,
+        &mut page,
+        &mut original,
+        &mut spare,
+        &mut bitmap,
+        &mut last,
+        &mut opened,
+        &mut held,
+        pending,
+    );
+    let pending = settled::no_pending();
+    let table = Table {
+        page,
+        original,
+        spare,
+        bitmap,
+        last,
+    };
+    let writers = Writers { opened, held };
+    State {
+        sizes,
+        head: to.head,
+        tail: to.tail,
+        next: to.next,
+        table,
+        writers,
+        pending,
     }
-    with_made(st, made)
 }

@@ -1,108 +1,169 @@
 // The stores of the pending operation, each operation's from what it reads of the state.
 ghost use mathlib.Core.Path.{_≡_};
 ghost use mathlib.Core.Bool.{true, false};
-ghost use Prim.Native.Nat.{_+_, _*_, _<_, _≤_};
+ghost use Prim.Native.Nat.{_≤_};
 ghost use lib.ListN.{length};
-ghost use Rattle.layout.specs.Layout.{Legal, imageLength};
-ghost use Rattle.replay.specs.Table.{slotsShaped};
-ghost use Rattle.operations.specs.Operations.{Ranged, isIdle, recordedSlots};
-ghost use Rattle.refinement.specs.Frames.{pageSlot};
+ghost use Rattle.layout.specs.Layout.{imageLength};
+ghost use Rattle.state.specs.Parts.{stateOf};
+ghost use Rattle.operations.specs.Operations.{isIdle};
 ghost use Rattle.validity.specs.Validity.{stateOk};
-ghost use Rattle.refinement.specs.Write.{writeStores};
-ghost use Rattle.refinement.specs.Commit.{commitSlots, commitStores};
-ghost use Rattle.refinement.specs.Consolidate.{Consolidates, copyStoreCount, consolidateStores};
-ghost use Rattle.refinement.specs.Checkpoint.{checkpointStores};
 ghost use Rattle.refinement.specs.Stores.{storesMade, left};
+ghost use Rattle.refinement.specs.Calls.{runBytes};
+ghost use Rattle.stores.specs.Made.{madeOf};
+use layout::Sizes;
 use state::Op;
-use state::State;
-
-// The next n stores of a write.
-fn make_write_stores(image: &mut [u8], st: State, page: usize, line: usize, made: usize, n: usize)
-    requires { ⌜ Ranged st × (slotsShaped (st .sizes) (st .table) ≡ true) × (line < 64) × (made + n ≤ 8) × (imageLength (st .sizes) ≤ length (now image)) ⌝ }
-    ensures { λ _. ⌜ now (image .exit) ≡ writeStores st page line made n (now (image .entry)) ⌝ }
-{
-    writes::make_write_stores(
-        image,
-        st.sizes,
-        &st.table.page,
-        &st.table.original,
-        &st.table.spare,
-        &st.table.bitmap,
-        &st.pending.line,
-        st.next,
-        page,
-        line,
-        made,
-        n,
-    );
-}
-
-// The next n stores of a commit.
-fn make_commit_stores(image: &mut [u8], st: State, writer: usize, made: usize, n: usize)
-    requires { ⌜ Ranged st × (slotsShaped (st .sizes) (st .table) ≡ true) × (writer < 4) × (made ≤ 4 * length (commitSlots st writer)) × (made + n ≤ 4 * length (commitSlots st writer) + 1) × (imageLength (st .sizes) ≤ length (now image)) ⌝ }
-    ensures { λ _. ⌜ now (image .exit) ≡ commitStores st writer made n (now (image .entry)) ⌝ }
-{
-    commits::make_commit_stores(
-        image,
-        st.sizes,
-        st.head,
-        &st.table.page,
-        &st.table.original,
-        &st.table.spare,
-        &st.table.bitmap,
-        &st.writers.held,
-        writer,
-        made,
-        n,
-    );
-}
-
-// The next n stores of a consolidation.
-fn make_consolidate_stores(image: &mut [u8], st: State, page: usize, made: usize, n: usize)
-    requires { ⌜ Consolidates st page × (made + n ≤ copyStoreCount (pageSlot st page) + 6) × (imageLength (st .sizes) ≤ length (now image)) ⌝ }
-    ensures { λ _. ⌜ now (image .exit) ≡ consolidateStores st page made n (now (image .entry)) ⌝ }
-{
-    consolidations::make_consolidate_stores(
-        image,
-        st.sizes,
-        st.head,
-        &st.table.page,
-        &st.table.original,
-        &st.table.spare,
-        &st.table.bitmap,
-        page,
-        made,
-        n,
-    );
-}
-
-// The next n stores of a checkpoint.
-fn make_checkpoint_stores(image: &mut [u8], st: State, made: usize, n: usize)
-    requires { ⌜ Legal (st .sizes) × (made ≤ 3 * length (recordedSlots (st .sizes) (st .table .last))) × (made + n ≤ 3 * length (recordedSlots (st .sizes) (st .table .last)) + 1) × (imageLength (st .sizes) ≤ length (now image)) ⌝ }
-    ensures { λ _. ⌜ now (image .exit) ≡ checkpointStores st made n (now (image .entry)) ⌝ }
-{
-    checkpoints::make_checkpoint_stores(image, st.sizes, st.head, &st.table.last, made, n);
-}
+use state::Pending;
 
 // Makes the next n stores of the pending operation.
-pub fn make_stores(image: &mut [u8], st: State, n: usize)
-    requires { ⌜ (stateOk st ≡ true) × (isIdle (st .pending .op) ≡ false) × (n ≤ left st) × (imageLength (st .sizes) ≤ length (now image)) ⌝ }
-    ensures { λ _. ⌜ now (image .exit) ≡ storesMade st n (now (image .entry)) ⌝ }
+fn make_stores<'a>(
+    image: &mut [u8],
+    z: Sizes,
+    head: usize,
+    tail: usize,
+    next: usize,
+    page: &'a [usize; 16],
+    original: &'a [usize; 16],
+    spare: &'a [usize; 16],
+    bitmap: &'a [u64; 16],
+    last: &'a [usize; 16],
+    opened: &'a [bool; 4],
+    held: &'a [u64; 64],
+    pending: Pending,
+    n: usize,
+)
+    requires { ⌜ (stateOk (stateOf z head tail next (now page) (now original) (now spare) (now bitmap) (now last) (now opened) (now held) pending) ≡ true) × (isIdle (pending .op) ≡ false) × (n ≤ left (stateOf z head tail next (now page) (now original) (now spare) (now bitmap) (now last) (now opened) (now held) pending)) × (imageLength z ≤ length (now image)) × (length (now last) ≡ 16) ⌝ }
+    ensures { λ _. ⌜ now (image .exit) ≡ storesMade (stateOf z head tail next (now (page .entry)) (now (original .entry)) (now (spare .entry)) (now (bitmap .entry)) (now (last .entry)) (now (opened .entry)) (now (held .entry)) pending) n (now (image .entry)) ⌝ }
 {
-    let pending = st.pending;
     let op = pending.op;
     let made = pending.made;
     match op {
         Op::Idle => {}
         Op::Write {
             writer: _,
-            page,
+            page: p,
             line,
             offset: _,
             length: _,
-        } => make_write_stores(image, st, page, line, made, n),
-        Op::Commit { writer } => make_commit_stores(image, st, writer, made, n),
-        Op::Consolidate { page } => make_consolidate_stores(image, st, page, made, n),
-        Op::Checkpoint => make_checkpoint_stores(image, st, made, n),
+        } => writes::make_write_stores(
+            image,
+            z,
+            page,
+            original,
+            spare,
+            bitmap,
+            &pending.line,
+            next,
+            p,
+            line,
+            made,
+            n,
+        ),
+        Op::Commit { writer } => commits::make_commit_stores(
+            image,
+            z,
+            head,
+            page,
+            original,
+            spare,
+            bitmap,
+            held,
+            writer,
+            made,
+            n,
+        ),
+        Op::Consolidate { page: p } => consolidations::make_consolidate_stores(
+            image,
+            z,
+            head,
+            page,
+            original,
+            spare,
+            bitmap,
+            p,
+            made,
+            n,
+        ),
+        Op::Checkpoint => checkpoints::make_checkpoint_stores(image, z, head, last, made, n),
+    }
+}
+
+// What a run came to: the row that turned it back, or 0; the stores that it made, those made in all, and whether none is left.
+pub struct Made {
+    pub row: usize,
+    pub stores: usize,
+    pub total: usize,
+    pub whole: bool,
+}
+
+// Makes at most k of the stores that are left of the pending operation, unless a row turns that back.
+pub fn make_left<'a>(
+    image: &mut [u8],
+    z: Sizes,
+    head: usize,
+    tail: usize,
+    next: usize,
+    page: &'a [usize; 16],
+    original: &'a [usize; 16],
+    spare: &'a [usize; 16],
+    bitmap: &'a [u64; 16],
+    last: &'a [usize; 16],
+    opened: &'a [bool; 4],
+    held: &'a [u64; 64],
+    pending: Pending,
+    k: usize,
+) -> Made
+    requires { ⌜ length (now last) ≡ 16 ⌝ }
+    ensures made { λ r. ⌜ r ≡ madeOf (stateOf z head tail next (now (page .entry)) (now (original .entry)) (now (spare .entry)) (now (bitmap .entry)) (now (last .entry)) (now (opened .entry)) (now (held .entry)) pending) (length (now (image .entry))) k ⌝ }
+    ensures bytes { λ _. ⌜ now (image .exit) ≡ runBytes (stateOf z head tail next (now (page .entry)) (now (original .entry)) (now (spare .entry)) (now (bitmap .entry)) (now (last .entry)) (now (opened .entry)) (now (held .entry)) pending) (now (image .entry)) k ⌝ }
+{
+    let row = rows::first_row(
+        z,
+        head,
+        tail,
+        next,
+        page,
+        original,
+        spare,
+        bitmap,
+        last,
+        opened,
+        held,
+        pending,
+        image.len(),
+        true,
+    );
+    if row != 0 {
+        return Made {
+            row,
+            stores: 0,
+            total: pending.made,
+            whole: false,
+        };
+    }
+    let op = pending.op;
+    let needed = operations::op_needs(z, head, tail, page, bitmap, last, held, op);
+    let left = needed - pending.made;
+    let n = pieces::smaller(k, left);
+    make_stores(
+        image,
+        z,
+        head,
+        tail,
+        next,
+        page,
+        original,
+        spare,
+        bitmap,
+        last,
+        opened,
+        held,
+        pending,
+        n,
+    );
+    Made {
+        row: 0,
+        stores: n,
+        total: pending.made + n,
+        whole: n == left,
     }
 }

@@ -7,12 +7,10 @@ ghost use Rattle.layout.specs.Layout.{Legal, imageLength};
 ghost use Rattle.replay.specs.Table.{slotsOfArrays, slotsShaped};
 ghost use Rattle.masks.specs.Lines.{withLine};
 ghost use Rattle.state.specs.Held.{heldAt};
-ghost use Rattle.operations.specs.Operations.{Ranged};
 ghost use Rattle.pieces.specs.Pieces.{lineStores};
-ghost use Rattle.refinement.specs.Write.{slotToWrite, frameToWrite, writeTable, writeNext, writeWriters};
-ghost use Rattle.refinement.specs.Settled.{settled};
+ghost use Rattle.refinement.specs.Write.{slotToWrite, frameToWrite};
+ghost use Rattle.writes.specs.Completed.{nextAfter, putFresh, heldAfter};
 use layout::Sizes;
-use state::State;
 
 // The slot of a write's page p: its own, or the first free one going round from the next slot to try.
 fn write_slot(z: Sizes, page: &[usize; 16], next: usize, p: usize) -> usize
@@ -77,24 +75,35 @@ fn hold(held: &mut [u64; 64], w: usize, s: usize, l: usize)
     held[at] = masks::with(held[at], l);
 }
 
-// The state when a write is complete: the line is held, and a page without a slot has one.
-pub fn write_completed(mut st: State, writer: usize, page: usize, line: usize) -> State
-    requires { ⌜ Ranged st × (writer < 4) × (line < 64) ⌝ }
-    ensures { λ r. ⌜ r ≡ settled st (st .head) (st .tail) (writeNext st page) (writeTable st page) (writeWriters st writer page line) ⌝ }
+// What a write leaves when it is complete: the line is held, and a page without a slot takes one, its frame being the original. Says the next slot to
+// try.
+pub fn complete_write(
+    z: Sizes,
+    next: usize,
+    page: &mut [usize; 16],
+    original: &mut [usize; 16],
+    bitmap: &mut [u64; 16],
+    held: &mut [u64; 64],
+    frame: usize,
+    w: usize,
+    p: usize,
+    l: usize,
+) -> usize
+    requires { ⌜ Legal z × (next < z .slots) × (w < 4) × (l < 64) ⌝ }
+    ensures next { λ r. ⌜ r ≡ nextAfter z next (now (page .entry)) p ⌝ }
+    ensures page { λ _. ⌜ now (page .exit) ≡ putFresh z next (now (page .entry)) p p (now (page .entry)) ⌝ }
+    ensures original { λ _. ⌜ now (original .exit) ≡ putFresh z next (now (page .entry)) p frame (now (original .entry)) ⌝ }
+    ensures bitmap { λ _. ⌜ now (bitmap .exit) ≡ putFresh z next (now (page .entry)) p 0 (now (bitmap .entry)) ⌝ }
+    ensures held { λ _. ⌜ now (held .exit) ≡ heldAfter z next (now (page .entry)) p w l (now (held .entry)) ⌝ }
 {
-    let z = st.sizes;
-    let s = write_slot(z, &st.table.page, st.next, page);
-    let own = state::slots::slot_of(z, &st.table.page, page);
-    let pending = st.pending;
-    let idle = settled::no_pending();
-    hold(&mut st.writers.held, writer, s, line);
-    st.pending = idle;
+    let own = state::slots::slot_of(z, page, p);
+    let s = write_slot(z, page, next, p);
+    hold(held, w, s, l);
     if own < z.slots {
-        return st;
+        return next;
     }
-    settled::put(&mut st.table.page, s, page);
-    settled::put(&mut st.table.original, s, pending.frame);
-    settled::put_mask(&mut st.table.bitmap, s, 0);
-    st.next = (s + 1) % z.slots;
-    st
+    settled::put(page, s, p);
+    settled::put(original, s, frame);
+    settled::put_mask(bitmap, s, 0);
+    (s + 1) % z.slots
 }

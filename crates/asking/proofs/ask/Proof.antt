@@ -43,10 +43,10 @@ op-needs-requires c κs =
 pending-from-requires : tie.Need-pending-from-requires
 pending-from-requires c κs = search needs
 
-complete-requires : tie.Need-complete-requires
-complete-requires c κs =
+completed-requires : tie.Need-completed-requires
+completed-requires c κs =
     let a = c .before .before .before .before .before .before .before .before .before .before .before .before .before .before .before .before .before .before .before .before .before .args in
-    let q = none1 (c .before .before .before .before .before .before .before .before .before) in ask-ready (a .st) (a .op) line 0 _ (c .before .pending-from .ensures) (q .0) (q .1)
+    let q = none1 (c .before .before .before .before .before .before .before .before .before) in ask-ready (a .st) (a .op) line 0 _ (c .before .pending-from .ensures) (q .0) (q .1) (c .before .before .before .before .before .before .before .before .before .before .before .before .before .before .before .before .before .before .before .before .before .pre)
 
 taken-requires : tie.Need-taken-requires
 taken-requires c κs = search needs
@@ -56,7 +56,7 @@ unfolding storesNeeded
 returns-2 c =
     let s = c .before .before .before .before .before .before .before .before .before .before .before .before .before .before .before .before .before .before .before .before .before .before .before in
     ask-done (s .args .st) (s .args .op) line 0 (c .taken .result) (rows s) _ _ (sym (c .before .before .before .before .before .before .before .before .before .before .before .if1 .left) ∙ c .before .before .before .before .before .before .before .before .before .before .before .before .ask-row .ensures) (c .before .before .before .pending-from .ensures) (c .before .before .before .before .op-needs .ensures)
-    _ (s .pre) (c .before .before .if2 .taken) (c .before .complete .ensures) (c .taken .ensures)
+    _ (s .pre) (c .before .before .if2 .taken) (c .before .completed .ensures) (c .taken .ensures)
 
 taken-requires-2 : tie.Need-taken-requires-2
 taken-requires-2 c κs = search needs
@@ -77,7 +77,7 @@ ask-spec =
     returns
     op-needs-requires
     pending-from-requires
-    complete-requires
+    completed-requires
     taken-requires
     returns-2
     taken-requires-2

@@ -1,9 +1,25 @@
-use mathlib.Core.Path.{sym, ap, _∙_}
-use borrow.Author.Needs.{needs}
-use Rattle.refinement.proofs.Going.{write-of, commit-of, consolidate-of}
+use Prim.Native.Nat.{ℕ}
+use mathlib.Core.List.{List}
+use mathlib.Core.Path.{refl, sym, ap, _∙_}
+use borrow.Author.Tests.{ltb-true}
+use Rattle.bounded.proofs.Tests.{contradicts}
+use Rattle.state.specs.declared.State.{State}
+use Rattle.state.specs.Parts.{stateOf}
+use Rattle.operations.specs.Operations.{isIdle}
+use Rattle.refinement.specs.Settled.{noPending}
 use Rattle.refinement.specs.Stores.{completed}
+use Rattle.refinement.proofs.Going.{write-of, commit-of, consolidate-of}
+use Rattle.writes.proofs.WriteMade.{write-done}
+use Rattle.commits.proofs.CommitMade.{commit-done}
+use Rattle.consolidations.proofs.ConsolidateMade.{consolidate-done}
+use borrow.Author.Needs.{needs}
 use Rattle.stores.proofs.complete.Statement.{statement}
 use Rattle.stores.proofs.complete.Tie as tie
+
+abbrev st : tie.Start → State
+st c =
+    let a = c .args in
+    stateOf (a .z) (a .head) (a .tail) (a .next) (a .page .now) (a .original .now) (a .spare .now) (a .bitmap .now) (a .last .now) (a .opened .now) (a .held .now) (a .pending)
 
 enum-told : tie.Need-enum-told
 enum-told c = search needs
@@ -11,47 +27,56 @@ enum-told c = search needs
 enum-known-op : tie.Need-enum-known-op
 enum-known-op c = search needs
 
-write-completed-requires : tie.Need-write-completed-requires
-write-completed-requires c κs =
-    let s = c .before .before .before .before in
-    let t = write-of (s .args .st) (s .pre .1) (c .before .op .given .1) in (s .pre .0, t .args .writer-low, t .args .line-low)
+complete-write-requires : tie.Need-complete-write-requires
+complete-write-requires c κs = let s = c .before .before .before .before .before .before .before in
+    let t = write-of (st s) (s .pre .1) (c .before .before .before .before .before .op .given .1) in (s .pre .0 .legal, s .pre .0 .next-low, t .args .writer-low, t .args .line-low)
 
 enum-known-op-2 : tie.Need-enum-known-op-2
 enum-known-op-2 c = search needs
 
-commit-completed-requires : tie.Need-commit-completed-requires
-commit-completed-requires c κs =
-    let s = c .before .before .before .before in
-    (s .pre .0, commit-of (s .args .st) (s .pre .1) (c .before .op2 .given .1) .writer-low)
+complete-commit-requires : tie.Need-complete-commit-requires
+complete-commit-requires c κs = let s = c .before .before .before .before .before .before .before in
+    (s .pre .0 .legal, s .pre .0 .head-low, commit-of (st s) (s .pre .1) (c .before .before .before .before .before .op2 .given .1) .writer-low)
 
 enum-known-op-3 : tie.Need-enum-known-op-3
 enum-known-op-3 c = search needs
 
-consolidate-completed-requires : tie.Need-consolidate-completed-requires
-consolidate-completed-requires c κs =
-    let s = c .before .before .before .before in
-    (s .pre .0, consolidate-of (s .args .st) (s .pre .1) (c .before .op3 .given .1) .has-slot)
+complete-consolidate-requires : tie.Need-complete-consolidate-requires
+complete-consolidate-requires c κs = let s = c .before .before .before .before .before .before .before .before in
+    (s .pre .0 .legal, s .pre .0 .head-low, ltb-true _ _ (consolidate-of (st s) (s .pre .1) (c .before .before .before .before .before .before .op3 .given .1) .has-slot))
 
 enum-told-2 : tie.Need-enum-told-2
 enum-told-2 c = search needs
 
-checkpoint-completed-requires : tie.Need-checkpoint-completed-requires
-checkpoint-completed-requires c κs = search needs
+complete-checkpoint-requires : tie.Need-complete-checkpoint-requires
+complete-checkpoint-requires c κs = search needs
 
 returns : tie.Need-returns
-returns c = sym (ap (completed (c .before .before .before .args .st)) (c .enum-told .given .1))
+returns c = contradicts (ap isIdle (c .enum-told .given .1)) (c .before .before .pre .2)
 
 returns-2 : tie.Need-returns-2
-returns-2 c = c .write-completed .ensures ∙ sym (ap (completed (c .before .before .before .before .before .args .st)) (c .before .before .op .given .1))
+returns-2 c = let s = c .before .before .before .before .before .before .before .before in
+    let e = c .complete-write .ensures in
+    write-done (st s) _ _ _ 0 0 _ _ _ _ _ (e .0) (e .1 .0) (e .1 .1 .0) (e .1 .1 .1 .0) (e .1 .1 .1 .1)
+    ∙ sym (ap (completed (st s)) (c .before .before .before .before .before .before .op .given .1))
 
 returns-3 : tie.Need-returns-3
-returns-3 c = c .commit-completed .ensures ∙ sym (ap (completed (c .before .before .before .before .before .args .st)) (c .before .before .op2 .given .1))
+returns-3 c = let s = c .before .before .before .before .before .before .before .before in
+    let e = c .complete-commit .ensures in
+    commit-done (st s) _ _ _ _ _ _ _ _ refl (e .0) (e .1 .0) (e .1 .1 .0) (e .1 .1 .1 .1) (e .1 .1 .1 .0) refl
+    ∙ sym (ap (completed (st s)) (c .before .before .before .before .before .before .op2 .given .1))
 
 returns-4 : tie.Need-returns-4
-returns-4 c = c .consolidate-completed .ensures ∙ sym (ap (completed (c .before .before .before .before .before .args .st)) (c .before .before .op3 .given .1))
+returns-4 c = let s = c .before .before .before .before .before .before .before .before .before in
+    let e = c .complete-consolidate .ensures in
+    consolidate-done (st s) _ _ _ _ _ _ _ _ _ _ _ _ (s .pre .0) refl refl refl refl refl (e .0) (e .1 .0) (e .1 .1 .0) (e .1 .1 .1 .0) (e .1 .1 .1 .1 .0) (e .1 .1 .1 .1 .1)
+    ∙ sym (ap (completed (st s)) (c .before .before .before .before .before .before .before .op3 .given .1))
 
 returns-5 : tie.Need-returns-5
-returns-5 c = c .checkpoint-completed .ensures ∙ sym (ap (completed (c .before .before .before .before .args .st)) (c .before .enum-told2 .given .1))
+returns-5 c = let s = c .before .before .before .before in
+    let a = s .args in
+    ap (λ (l : List ℕ). stateOf (a .z) (a .head) (a .head) (a .next) (a .page .now) (a .original .now) (a .spare .now) (a .bitmap .now) l (a .opened .now) (a .held .now) noPending) (c .complete-checkpoint .ensures)
+    ∙ sym (ap (completed (st s)) (c .before .before .enum-told2 .given .1))
 
 pub complete-spec : {M : Type 1} → statement M
 complete-spec =
@@ -59,13 +84,13 @@ complete-spec =
     (tie.spec
     enum-told
     enum-known-op
-    write-completed-requires
+    complete-write-requires
     enum-known-op-2
-    commit-completed-requires
+    complete-commit-requires
     enum-known-op-3
-    consolidate-completed-requires
+    complete-consolidate-requires
     enum-told-2
-    checkpoint-completed-requires
+    complete-checkpoint-requires
     returns
     returns-2
     returns-3

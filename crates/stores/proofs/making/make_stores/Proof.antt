@@ -1,10 +1,21 @@
-use mathlib.Core.Path.{ap}
-use borrow.Author.Needs.{needs}
+use mathlib.Core.Path.{ap, _∙_}
 use Rattle.bounded.proofs.Tests.{contradicts}
+use Rattle.state.specs.declared.State.{State}
+use Rattle.state.specs.Parts.{stateOf}
 use Rattle.operations.specs.Operations.{isIdle}
 use Rattle.refinement.proofs.Going.{going, write-of, commit-of, consolidate-of, write-left, commit-left, consolidate-left, checkpoint-left, stores-of}
+use Rattle.writes.proofs.WriteMade.{write-stores-of}
+use Rattle.commits.proofs.CommitMade.{commit-stores-of}
+use Rattle.consolidations.proofs.ConsolidateMade.{consolidate-stores-of}
+use Rattle.checkpoints.proofs.CheckpointMade.{checkpoint-stores-of}
+use borrow.Author.Needs.{needs}
 use Rattle.stores.proofs.making.make_stores.Statement.{statement}
 use Rattle.stores.proofs.making.make_stores.Tie as tie
+
+abbrev st : tie.Start → State
+st c =
+    let a = c .args in
+    stateOf (a .z) (a .head) (a .tail) (a .next) (a .page .now) (a .original .now) (a .spare .now) (a .bitmap .now) (a .last .now) (a .opened .now) (a .held .now) (a .t13)
 
 enum-told : tie.Need-enum-told
 enum-told c = search needs
@@ -13,34 +24,31 @@ enum-known-op : tie.Need-enum-known-op
 enum-known-op c = search needs
 
 make-write-stores-requires : tie.Need-make-write-stores-requires
-make-write-stores-requires c κs =
-    let s = c .before .before .before .before .before .before in
-    let g = going (s .args .st) (s .pre .0) (s .pre .1) in
-    let e = c .before .before .op .given .1 in
-    (g .ranges, g .shapes, write-of (s .args .st) (g .taken) e .args .line-low, write-left (s .args .st) g (s .args .n) (s .pre .2) e, s .pre .3)
+make-write-stores-requires c κs = let s = c .before .before .before .before .before .before .before in
+    let g = going (st s) (s .pre .0) (s .pre .1) in
+    let e = c .before .before .before .before .op .given .1 in
+    (g .ranges .legal, g .ranges .next-low, g .shapes, write-of (st s) (g .taken) e .args .line-low, write-left (st s) g (s .args .n) (s .pre .2) e, s .pre .3)
 
 enum-known-op-2 : tie.Need-enum-known-op-2
 enum-known-op-2 c = search needs
 
 make-commit-stores-requires : tie.Need-make-commit-stores-requires
-make-commit-stores-requires c κs =
-    let s = c .before .before .before .before .before .before in
-    let g = going (s .args .st) (s .pre .0) (s .pre .1) in
+make-commit-stores-requires c κs = let s = c .before .before .before .before .before in
+    let g = going (st s) (s .pre .0) (s .pre .1) in
     let e = c .before .before .op2 .given .1 in
-    let l = commit-left (s .args .st) g (s .args .n) (s .pre .2) e in
-    (g .ranges, g .shapes, commit-of (s .args .st) (g .taken) e .writer-low, l .0, l .1, s .pre .3)
+    let l = commit-left (st s) g (s .args .n) (s .pre .2) e in
+    (g .ranges .legal, g .ranges .head-low, g .shapes, commit-of (st s) (g .taken) e .writer-low, l .0, l .1, s .pre .3)
 
 enum-known-op-3 : tie.Need-enum-known-op-3
 enum-known-op-3 c = search needs
 
 make-consolidate-stores-requires : tie.Need-make-consolidate-stores-requires
-make-consolidate-stores-requires c κs =
-    let s = c .before .before .before .before .before .before in
-    let g = going (s .args .st) (s .pre .0) (s .pre .1) in
+make-consolidate-stores-requires c κs = let s = c .before .before .before .before .before in
+    let g = going (st s) (s .pre .0) (s .pre .1) in
     let e = c .before .before .op3 .given .1 in
-    let t = consolidate-of (s .args .st) (g .taken) e in (
+    let t = consolidate-of (st s) (g .taken) e in (
       record { legal = g .ranges .legal; head-low = g .ranges .head-low; shapes = g .shapes; page-low = t .page-low; has-slot = t .has-slot },
-      consolidate-left (s .args .st) g (s .args .n) (s .pre .2) e,
+      consolidate-left (st s) g (s .args .n) (s .pre .2) e,
       s .pre .3,
     )
 
@@ -48,46 +56,41 @@ enum-told-2 : tie.Need-enum-told-2
 enum-told-2 c = search needs
 
 make-checkpoint-stores-requires : tie.Need-make-checkpoint-stores-requires
-make-checkpoint-stores-requires c κs =
-    let s = c .before .before .before .before .before in
-    let g = going (s .args .st) (s .pre .0) (s .pre .1) in
-    let l = checkpoint-left (s .args .st) g (s .args .n) (s .pre .2) (c .before .enum-told2 .given .1) in
-    (g .ranges .legal, l .0, l .1, s .pre .3)
+make-checkpoint-stores-requires c κs = let s = c .before .before .before .before in
+    let g = going (st s) (s .pre .0) (s .pre .1) in
+    let l = checkpoint-left (st s) g (s .args .n) (s .pre .2) (c .before .enum-told2 .given .1) in
+    (g .ranges .legal, s .pre .4, l .0, l .1, s .pre .3)
 
 returns : tie.Need-returns
-returns c = contradicts (ap isIdle (c .enum-told .given .1)) (c .before .before .before .before .pre .1)
+returns c = contradicts (ap isIdle (c .enum-told .given .1)) (c .before .before .before .pre .1)
 
 same-length : tie.Need-same-length
 same-length c = search needs
 
 returns-2 : tie.Need-returns-2
-returns-2 c =
-    let s = c .before .before .before .before .before .before .before .before .before in
-    stores-of (s .args .st) (s .args .n) (s .args .image .now) _ (c .before .before .before .before .before .op .given .1) (c .before .before .make-write-stores .ensures)
+returns-2 c = let s = c .before .before .before .before .before .before .before .before .before .before in
+    stores-of (st s) (s .args .n) (s .args .image .now) _ (c .before .before .before .before .before .before .before .op .given .1) (c .before .before .make-write-stores .ensures ∙ write-stores-of (st s) _ _ _ (s .args .n) (s .args .image .now))
 
 same-length-2 : tie.Need-same-length-2
 same-length-2 c = search needs
 
 returns-3 : tie.Need-returns-3
-returns-3 c =
-    let s = c .before .before .before .before .before .before .before .before .before in
-    stores-of (s .args .st) (s .args .n) (s .args .image .now) _ (c .before .before .before .before .before .op2 .given .1) (c .before .before .make-commit-stores .ensures)
+returns-3 c = let s = c .before .before .before .before .before .before .before .before in
+    stores-of (st s) (s .args .n) (s .args .image .now) _ (c .before .before .before .before .before .op2 .given .1) (c .before .before .make-commit-stores .ensures ∙ commit-stores-of (st s) _ _ (s .args .n) (s .args .image .now))
 
 same-length-3 : tie.Need-same-length-3
 same-length-3 c = search needs
 
 returns-4 : tie.Need-returns-4
-returns-4 c =
-    let s = c .before .before .before .before .before .before .before .before .before in
-    stores-of (s .args .st) (s .args .n) (s .args .image .now) _ (c .before .before .before .before .before .op3 .given .1) (c .before .before .make-consolidate-stores .ensures)
+returns-4 c = let s = c .before .before .before .before .before .before .before .before in
+    stores-of (st s) (s .args .n) (s .args .image .now) _ (c .before .before .before .before .before .op3 .given .1) (c .before .before .make-consolidate-stores .ensures ∙ consolidate-stores-of (st s) _ _ (s .args .n) (s .args .image .now))
 
 same-length-4 : tie.Need-same-length-4
 same-length-4 c = search needs
 
 returns-5 : tie.Need-returns-5
-returns-5 c =
-    let s = c .before .before .before .before .before .before .before .before in
-    stores-of (s .args .st) (s .args .n) (s .args .image .now) _ (c .before .before .before .before .enum-told2 .given .1) (c .before .before .make-checkpoint-stores .ensures)
+returns-5 c = let s = c .before .before .before .before .before .before .before in
+    stores-of (st s) (s .args .n) (s .args .image .now) _ (c .before .before .before .before .enum-told2 .given .1) (c .before .before .make-checkpoint-stores .ensures ∙ checkpoint-stores-of (st s) _ (s .args .n) (s .args .image .now))
 
 pub make-stores-spec : {M : Type 1} → statement M
 make-stores-spec =

@@ -4,8 +4,8 @@ use borrow.Author.Needs.{needs}
 use Rattle.bounded.specs.Tab.{filled}
 use Rattle.bounded.proofs.Tab.{filled-none, filled-turn, filled-ends}
 use Rattle.replay.specs.Table.{noPosition}
-use Rattle.checkpoints.proofs.forget.Statement.{statement}
-use Rattle.checkpoints.proofs.forget.Tie as tie
+use Rattle.checkpoints.proofs.complete_checkpoint.Statement.{statement}
+use Rattle.checkpoints.proofs.complete_checkpoint.Tie as tie
 
 abbrev Inv-loop : tie.InvT-loop
 Inv-loop last₀ z s₀ last s = (s ≤ z .slots) × (last ≡ filled s (λ k. noPosition) last₀)
@@ -34,8 +34,8 @@ loop-again c = (search needs, filled-turn (λ k. noPosition) _ _ _ noPosition (c
 returns : tie.Need-returns Inv-loop μ-loop
 returns c = filled-ends _ _ _ _ _ (c .before .before .loop .inv .0) (c .if1 .left) (c .before .before .loop .inv .1)
 
-pub forget-spec : {M : Type 1} → statement M
-forget-spec =
+pub complete-checkpoint-spec : {M : Type 1} → statement M
+complete-checkpoint-spec =
     tie.close
     (tie.spec
     Inv-loop

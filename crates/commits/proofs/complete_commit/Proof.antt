@@ -1,0 +1,56 @@
+use Prim.Native.Nat.{ℕ}
+use mathlib.Core.Path.{ap, _∙_}
+use native.Mathlib.Omega.{arith}
+use Rattle.state.proofs.Numbers.{held-le}
+use Rattle.journal.specs.Records.{position}
+use Rattle.refinement.specs.Commit.{bitmapsAfter, lastsAfter}
+use borrow.Author.Needs.{needs}
+use Rattle.commits.proofs.complete_commit.Statement.{statement}
+use Rattle.commits.proofs.complete_commit.Tie as tie
+
+held-count-requires : tie.Need-held-count-requires
+held-count-requires c κs = search needs
+
+commit-bitmaps-requires : tie.Need-commit-bitmaps-requires
+commit-bitmaps-requires c κs = search needs
+
+commit-lasts-requires : tie.Need-commit-lasts-requires
+commit-lasts-requires c κs = let s = c .before .before .before .before .before .before .before in
+    (s .pre .0, s .pre .1, s .pre .2, omega (arith, held-le _ _ _ _ (c .before .before .before .before .before .held-count .ensures), s .pre .0))
+
+put-masks-requires : tie.Need-put-masks-requires
+put-masks-requires c κs = search needs
+
+put-all-requires : tie.Need-put-all-requires
+put-all-requires c κs = search needs
+
+let-go-requires : tie.Need-let-go-requires
+let-go-requires c κs = search needs
+
+set-open-requires : tie.Need-set-open-requires
+set-open-requires c κs = search needs
+
+position-requires : tie.Need-position-requires
+position-requires c κs = let s = c .before .before .before .before .before .before .before .before .before .before .before .before .before .before .before .before in
+    (s .pre .0, s .pre .1, omega (arith, held-le _ _ _ _ (c .before .before .before .before .before .before .before .before .before .before .before .before .before .before .held-count .ensures), s .pre .0))
+
+returns : tie.Need-returns
+returns c = let a = c .before .before .before .before .before .before .before .before .before .before .before .before .before .before .before .before .before .args in
+    let n = c .before .before .before .before .before .before .before .before .before .before .before .before .before .before .before .held-count .ensures in (
+      c .position .ensures ∙ ap (λ (k : ℕ). position (a .z) (a .head) k) n,
+      (c .before .before .before .before .before .before .before .put-masks .ensures ∙ c .before .before .before .before .before .before .before .before .before .before .before .before .commit-bitmaps .ensures ∙ ap (λ (k : ℕ). bitmapsAfter (a .z) (a .bitmap .now) (a .held .now) (a .w) k) n, (c .before .before .before .before .before .put-all .ensures ∙ c .before .before .before .before .before .before .before .before .before .commit-lasts .ensures ∙ ap (λ (k : ℕ). lastsAfter (a .z) (a .head) (a .last .now) (a .held .now) (a .w) k) n, (c .before .set-open .ensures, (c .before .before .before .let-go .ensures)))),
+    )
+
+pub complete-commit-spec : {M : Type 1} → statement M
+complete-commit-spec =
+    tie.close
+    (tie.spec
+    held-count-requires
+    commit-bitmaps-requires
+    commit-lasts-requires
+    put-masks-requires
+    put-all-requires
+    let-go-requires
+    set-open-requires
+    position-requires
+    returns)
