@@ -1,22 +1,28 @@
 -- Operations asked for: turned back by a row, complete where they need no store, else pending.
-use Prim.Native.Nat.{ℕ, _<_, _≤_}
+use Prim.Native.Nat.{ℕ, _+_, _*_, _<_, _≤_}
 use mathlib.Core.Bool.{Bool, true, false, not, cond}
 use mathlib.Core.List.{List, [], _++_}
-use mathlib.Core.Path.{_≡_, refl, sym, ap, ap₂, subst, _∙_}
+use mathlib.Core.Path.{_≡_, refl, sym, ap₂, _∙_}
 use native.Mathlib.Omega.{arith}
 use lib.Dec.{eqb, ltb}
-use borrow.Author.Tests.{ne-eqb, not-false}
+use lib.ListN.{set}
+use borrow.Author.Tests.{ne-eqb, eqb-true, not-false}
 use Rattle.bounded.specs.Rows.{Row, refusal}
-use Rattle.bounded.proofs.Tests.{contradicts, row-keeps}
+use Rattle.bounded.specs.Tab.{filled}
+use Rattle.bounded.proofs.Tests.{caseOn, row-keeps}
+use Rattle.bounded.proofs.Below.{up-none}
+use Rattle.journal.proofs.Ring.{pos-none}
+use Rattle.replay.specs.Table.{noPosition}
+use Rattle.state.specs.Held.{letGo}
 use Rattle.layout.specs.Layout.{imageLength}
 use Rattle.state.specs.declared.State.{State}
 use Rattle.state.specs.declared.Pending.{Pending}
 use Rattle.state.specs.declared.Op.{Op}
 use Rattle.state.specs.declared.Op.the-variants.{Idle, Write, Commit, Consolidate, Checkpoint}
-use Rattle.operations.specs.Operations.{Ranged, isIdle, writeRows, commitRows, consolidateRows, opRows, needs}
+use Rattle.operations.specs.Operations.{Ranged, isIdle, writeRows, commitRows, consolidateRows, opRows, commitNeeds, needs}
 use Rattle.validity.specs.Validity.{stateOk}
-use Rattle.refinement.specs.Commit.{commitRecord}
-use Rattle.refinement.specs.Consolidate.{freeingRecord}
+use Rattle.refinement.specs.Settled.{noPending}
+use Rattle.commits.proofs.CommitMade.{commit-done}
 use Rattle.refinement.specs.Stores.{completed}
 use Rattle.refinement.specs.Outcome.{answered}
 use Rattle.answers.specs.Answers.{outcomeOf}
@@ -31,19 +37,6 @@ op-known st (Commit w) f = row-known (commitRows st w) (omega arith)
 op-known st (Consolidate p) f = row-known (consolidateRows st p) (omega arith)
 op-known st Checkpoint f = row-known [] tt
 
--- an operation that needs no store reads no line and no frame
-completed-asked : (st : State) (op : Op) (line : List ℕ) (frame : ℕ) → needs st op ≡ 0 → isIdle op ≡ false → completed (withPending st op line frame) op ≡ completed st op
-unfolding needs commitRecord freeingRecord
-completed-asked st Idle line frame e i = contradicts refl i
-completed-asked st (Write w p l a n) line frame e i = absurd (omega arith)
-completed-asked st (Commit w) line frame e i = refl
-completed-asked st (Consolidate p) line frame e i = refl
-completed-asked st Checkpoint line frame e i = refl
-
-ranged-asked : (st : State) (op : Op) (line : List ℕ) (frame : ℕ) → Ranged st → Ranged (withPending st op line frame)
-ranged-asked st op line frame h =
-    record { legal = h .legal; head-low = h .head-low; tail-low = h .tail-low; live-high = h .live-high; next-low = h .next-low }
-
 -- an operation with none of its stores made, and the state with it pending
 abbrev pub pendingFrom : Op → List ℕ → ℕ → Pending
 pendingFrom op line frame = record { op = op; made = 0; line = line; frame = frame }
@@ -51,13 +44,6 @@ pendingFrom op line frame = record { op = op; made = 0; line = line; frame = fra
 abbrev pub pendingWith : State → Pending → State
 pendingWith st p =
     record { sizes = st .sizes; head = st .head; tail = st .tail; next = st .next; table = st .table; writers = st .writers; pending = p }
-
--- what completing it requires
-pub ask-ready : (st : State) (op : Op) (line : List ℕ) (frame : ℕ) (p : Pending) → p ≡ pendingFrom op line frame → Ranged st → refusal (opRows st op frame) ≡ 0 → isIdle op ≡ false
-    → Ranged (pendingWith st p) × (refusal (opRows (pendingWith st p) (p .op) (p .frame)) ≡ 0) × (isIdle (p .op) ≡ false)
-ask-ready st op line frame p e h r i =
-    subst (λ (q : Pending). Ranged (pendingWith st q) × (refusal (opRows (pendingWith st q) (q .op) (q .frame)) ≡ 0) × (isIdle (q .op) ≡ false)) (sym e)
-    (ranged-asked st op line frame h, r, i)
 
 -- each number of the rows of a commit, a consolidation or a checkpoint is an answer's
 pub ask-known : (st : State) (n : ℕ) (op : Op) → refusal (quietRows st n ++ opRows st op 0) ≤ 19
@@ -93,9 +79,34 @@ module _ (st : State) (op : Op) (line : List ℕ) (frame : ℕ) (d : Done) (rs :
         rw (← z, ne-eqb (needs st op) 0 (λ m. n (h ∙ m)))
         (r ∙ ap₂ (λ (k : ℕ) (q : Pending). answered 0 (pendingWith st q) k (pendingWith st q)) h e)
 
-    pub ask-done : (after : State) → isIdle op ≡ false → needed ≡ 0 → after ≡ completed (pendingWith st p) (p .op) → outcomeOf d ≡ answered 0 after 0 after → outcomeOf d ≡ asked (refusal rs) st op line frame
-    ask-done after i n a r =
-        let m : needs st op ≡ 0 = sym h ∙ n in
-        let b : after ≡ completed st op =
-        a ∙ ap (λ (q : Pending). completed (pendingWith st q) (q .op)) e ∙ completed-asked st op line frame m i in
-        rw (← z, m) (rw b at r)
+  -- complete at once
+  pub ask-done : (needed : ℕ) (after : State) → 0 ≡ refusal rs → needed ≡ needs st op → needed ≡ 0 → after ≡ completed st op → outcomeOf d ≡ answered 0 after 0 after → outcomeOf d ≡ asked (refusal rs) st op line frame
+  ask-done needed after z h n a r = let m : needs st op ≡ 0 = sym h ∙ n in rw (← z, m) (rw a at r)
+
+-- ---- the state when an operation that needs no store is complete. h, o and i are the held lines, the open writers and the pending operation that the
+-- code put
+
+none-needed : (n : ℕ) → commitNeeds n ≡ 0 → 0 ≡ n
+none-needed n e = caseOn (eqb n 0) (λ t. sym (eqb-true n 0 t)) (λ t. absurd (none (rw t at e)))
+  where
+    none : 4 * n + 1 ≡ 0 → ⊥
+    none q = omega arith
+
+pub empty-commit : (st : State) (w : ℕ) (h : List ℕ) (o : List Bool) (i : Pending) → Ranged st → needs st (Commit w) ≡ 0 → h ≡ letGo (st .sizes) (st .writers .held) w → o ≡ set (st .writers .opened) w false → i ≡ noPending
+    → _≡_ {A = State} (record { sizes = st .sizes; head = st .head; tail = st .tail; next = st .next; table = st .table; writers = record { opened = o; held = h }; pending = i }) (completed st (Commit w))
+unfolding needs
+empty-commit st w h o i g e a b c =
+    commit-done st w 0 (st .head) (st .table .bitmap) (st .table .last) h o i (none-needed _ e) (sym (pos-none (st .sizes) (st .head) (g .head-low))) (up-none _ _) (up-none _ _) a b c
+
+pub empty-checkpoint : (st : State) (l : List ℕ) (i : Pending) → l ≡ filled (st .sizes .slots) (λ s. noPosition) (st .table .last) → i ≡ noPending
+    → _≡_ {A = State} (record { sizes = st .sizes; head = st .head; tail = st .head; next = st .next; table = record { page = st .table .page; original = st .table .original; spare = st .table .spare; bitmap = st .table .bitmap; last = l }; writers = st .writers; pending = i }) (completed st Checkpoint)
+empty-checkpoint st l i a b = rw (a, b)
+
+-- a write and a consolidation need some
+pub write-needs : (st : State) (w p l o n : ℕ) → needs st (Write w p l o n) ≡ 0 → ⊥
+unfolding needs
+write-needs st w p l o n e = omega arith
+
+pub consolidate-needs : (st : State) (p : ℕ) → needs st (Consolidate p) ≡ 0 → ⊥
+unfolding needs
+consolidate-needs st p e = omega arith

@@ -5,8 +5,9 @@ ghost use mathlib.Core.List.{_++_};
 ghost use lib.ListN.{replicate};
 ghost use Rattle.bounded.specs.Rows.{refusal};
 ghost use Rattle.state.specs.Parts.{stateOf};
-ghost use Rattle.operations.specs.Operations.{isIdle, opRows};
+ghost use Rattle.operations.specs.Operations.{Ranged, isIdle, opRows, needs};
 ghost use Rattle.answers.specs.Answers.{outcomeOf};
+ghost use Rattle.refinement.specs.Stores.{completed};
 ghost use Rattle.refinement.specs.Calls.{quietRows, asked};
 use answers::Done;
 use layout::Sizes;
@@ -79,6 +80,38 @@ fn ask_row<'a>(
     )
 }
 
+// The state when an operation that needs no store is complete: a commit of nothing closes its writer, and a checkpoint of no record leaves none.
+fn completed_at_once(st: State, op: Op) -> State
+    requires { ⌜ Ranged st × (refusal (opRows st op 0) ≡ 0) × (isIdle op ≡ false) × (needs st op ≡ 0) ⌝ }
+    ensures { λ r. ⌜ r ≡ completed st op ⌝ }
+{
+    let mut next = st;
+    let z = next.sizes;
+    let idle = settled::no_pending();
+    next.pending = idle;
+    match op {
+        Op::Idle => next,
+        Op::Write {
+            writer: _,
+            page: _,
+            line: _,
+            offset: _,
+            length: _,
+        } => next,
+        Op::Commit { writer } => {
+            state::held::set_open(&mut next.writers.opened, writer, false);
+            state::held::let_go(z, &mut next.writers.held, writer);
+            next
+        }
+        Op::Consolidate { page: _ } => next,
+        Op::Checkpoint => {
+            checkpoints::complete_checkpoint(&mut next.table.last, z);
+            next.tail = next.head;
+            next
+        }
+    }
+}
+
 // Asks for a commit, a consolidation or a checkpoint.
 pub fn ask(st: State, n: usize, op: Op) -> Done
     requires { ⌜ isIdle op ≡ false ⌝ }
@@ -105,7 +138,7 @@ pub fn ask(st: State, n: usize, op: Op) -> Done
     if row != 0 {
         return answers::refused(row, next);
     }
-    let needed = operations::op_needs(
+    let needed = needs::op_needs(
         next.sizes,
         next.head,
         next.tail,
@@ -115,10 +148,10 @@ pub fn ask(st: State, n: usize, op: Op) -> Done
         &next.writers.held,
         op,
     );
+    if needed == 0 {
+        return answers::taken(0, completed_at_once(next, op));
+    }
     let pending = pending_from(op, [0; 8], 0);
     next.pending = pending;
-    if needed == 0 {
-        return answers::taken(0, stores::completed(next));
-    }
     answers::taken(needed, next)
 }

@@ -84,7 +84,7 @@ pub fn make_checkpoint_stores(
     requires { ⌜ Legal z × (length (now last) ≡ 16) × (from ≤ 3 * length (recordedSlots z (now last))) × (from + n ≤ 3 * length (recordedSlots z (now last)) + 1) × (imageLength z ≤ length (now image)) ⌝ }
     ensures { λ _. ⌜ now (image .exit) ≡ checkpointStores (checkpointing z head (now (last .entry))) from n (now (image .entry)) ⌝ }
 {
-    let c = operations::recorded_count(z, last);
+    let c = needs::recorded_count(z, last);
     let m = pieces::smaller(n, 3 * c - from);
     make_slot_stores(image, z, head, last, from, m);
     if m < n {

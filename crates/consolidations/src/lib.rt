@@ -80,7 +80,7 @@ fn make_piece(
     requires { ⌜ Legal z × (head < 2 * z .places) × (copyFrom t < frames z) × (copyTo t < frames z) × Fits e × (p < z .pages) × (0 < left) × (imageLength z ≤ length (now image)) ⌝ }
     ensures { λ r. ⌜ (0 < r) × (r ≤ left) × (now (image .exit) ≡ consolidationStores z head t e p at r (now (image .entry))) ⌝ }
 {
-    let c = 8 * operations::copy_count(t.bitmap);
+    let c = 8 * needs::copy_count(t.bitmap);
     if at < c {
         let m = pieces::in_piece(8, at, left);
         copy_words(image, z, t, at, m);

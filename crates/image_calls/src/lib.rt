@@ -13,7 +13,7 @@ pub fn format(bench: Bench, image: &mut [u8], line: Line) -> Turn
     ensures turn { λ r. ⌜ r ≡ formatTurn bench (now (image .entry)) line ⌝ }
     ensures bytes { λ _. ⌜ now (image .exit) ≡ formatted (now (image .entry)) line ⌝ }
 {
-    if line.count == 3 {
+    if line.count == 3 { // F,P,S,J
         let sizes = Sizes {
             pages: line.numbers[0] as usize,
             slots: line.numbers[1] as usize,
@@ -28,7 +28,7 @@ pub fn format(bench: Bench, image: &mut [u8], line: Line) -> Turn
 pub fn mount(bench: Bench, image: &[u8], line: Line) -> Turn
     ensures { λ r. ⌜ r ≡ mountTurn bench (now (image .entry)) line ⌝ }
 {
-    if line.count == 0 {
+    if line.count == 0 { // M
         let done = mounting::mount(image);
         return calls::replacing(bench, done);
     }
@@ -39,7 +39,7 @@ pub fn step(bench: Bench, image: &mut [u8], line: Line) -> Turn
     ensures turn { λ r. ⌜ r ≡ stepTurn bench (now (image .entry)) line ⌝ }
     ensures bytes { λ _. ⌜ now (image .exit) ≡ steppedBytes bench (now (image .entry)) line ⌝ }
 {
-    if line.count == 0 {
+    if line.count == 0 { // S
         let done = stepping::step(bench.st, image);
         return calls::called(bench, done);
     }
@@ -50,7 +50,7 @@ pub fn run(bench: Bench, image: &mut [u8], line: Line) -> Turn
     ensures turn { λ r. ⌜ r ≡ runTurn bench (now (image .entry)) line ⌝ }
     ensures bytes { λ _. ⌜ now (image .exit) ≡ ranBytes bench (now (image .entry)) line ⌝ }
 {
-    if line.count == 1 {
+    if line.count == 1 { // N,k
         let done = stepping::run(bench.st, image, line.numbers[0] as usize);
         return calls::called(bench, done);
     }

@@ -8,26 +8,23 @@ use Rattle.workbench.specs.declared.Said.the-variants.{OtherForm, Answered, Has
 use Rattle.workbench.specs.declared.Said.{Said}
 use Rattle.workbench.specs.declared.Turn.{Turn}
 use Rattle.number_text.specs.Text.{field}
+use Rattle.printing.specs.Output.{outputLine}
+use Rattle.printing.specs.declared.Output.the-variants as output
 use Rattle.state_text.specs.Numbers.{stateField}
 
-abbrev pub dash : List ℕ
-dash = code "," ∷ code "-" ∷ []
+-- a line before its last field, with answer 0 and count 0
+abbrev pub shownStart : ℕ → ℕ → List ℕ
+shownStart n letter = decimalOf n ++ (code "," ∷ letter ∷ (field 0 ++ field 0))
 
--- a line's fields from its call on: answer, count and last field
-abbrev pub otherText : List ℕ
-otherText = code "?" ∷ code "," ∷ code "?" ∷ (field 0 ++ dash)
+abbrev pub shownLine : ℕ → ℕ → List ℕ → List ℕ
+shownLine n letter last = shownStart n letter ++ (last ++ (code "\n" ∷ []))
 
-abbrev pub answeredText : ℕ → ℕ → ℕ → List ℕ
-answeredText letter number count = letter ∷ (field number ++ (field count ++ dash))
-
-abbrev pub shownText : ℕ → List ℕ → List ℕ
-shownText letter last = letter ∷ (field 0 ++ (field 0 ++ last))
-
-abbrev pub saidText : ℕ → Said → State → List ℕ
-saidText letter OtherForm st = otherText
-saidText letter (Answered number count) st = answeredText letter number count
-saidText letter (Hash h) st = shownText letter (field h)
-saidText letter Numbers st = shownText letter (stateField st)
+-- an answer, and a line of another form, are printed as powerhit's are
+abbrev pub saidLine : ℕ → ℕ → Said → State → List ℕ
+saidLine n letter OtherForm st = outputLine n output.Unknown
+saidLine n letter (Answered number count) st = outputLine n (output.Answered letter number count)
+saidLine n letter (Hash h) st = shownLine n letter (field h)
+saidLine n letter Numbers st = shownLine n letter (stateField st)
 
 unfoldable pub printedOf : ℕ → ℕ → Turn → List ℕ
-printedOf n letter t = decimalOf n ++ (code "," ∷ (saidText letter (t .said) (t .bench .st) ++ (code "\n" ∷ [])))
+printedOf n letter t = saidLine n letter (t .said) (t .bench .st)

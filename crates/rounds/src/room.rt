@@ -28,11 +28,16 @@ pub fn count(stores: &mut u64, a: Answer) {
 }
 
 // Runs what is pending to its end. No operation needs 1,000 stores.
-fn run_whole(image: &mut [u8; 84288], stores: &mut u64, st: State) -> State {
+fn run_done(image: &mut [u8; 84288], stores: &mut u64, st: State) -> Done {
     let done = stepping::run(st, image, 1000);
     let answer = done.answer;
     count(stores, answer);
-    done.state
+    done
+}
+
+// The same, and the state after it.
+fn run_whole(image: &mut [u8; 84288], stores: &mut u64, st: State) -> State {
+    run_done(image, stores, st).state
 }
 
 // Checkpoints.
@@ -91,8 +96,35 @@ pub fn write(
 }
 
 // Commits where the journal is full.
-pub fn commit(image: &mut [u8; 84288], stores: &mut u64, st: State) -> State {
+pub fn commit(image: &mut [u8; 84288], stores: &mut u64, st: State) -> Done {
     let st = empty_journal(image, stores, st);
     let done = transactions::commit(st, image, 0);
+    run_done(image, stores, done.state)
+}
+
+// Writes a line, and makes room where there is none.
+pub fn write_whole(
+    image: &mut [u8; 84288],
+    stores: &mut u64,
+    st: State,
+    page: usize,
+    line: usize,
+    data: &[u8; 64],
+) -> State {
+    let done = transactions::write(st, image, 0, page, line, 0, 64, data);
+    let answer = done.answer;
+    if is_wanted(answer) {
+        return write(image, stores, done.state, page, line, data);
+    }
     run_whole(image, stores, done.state)
+}
+
+// Commits, and makes room where there is none.
+pub fn commit_whole(image: &mut [u8; 84288], stores: &mut u64, st: State) -> Done {
+    let done = transactions::commit(st, image, 0);
+    let answer = done.answer;
+    if is_wanted(answer) {
+        return commit(image, stores, done.state);
+    }
+    run_done(image, stores, done.state)
 }

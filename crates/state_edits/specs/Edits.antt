@@ -7,6 +7,7 @@ use lib.ListN.{getD, set}
 use Rattle.replay.specs.declared.Table.{Table}
 use Rattle.state.specs.declared.State.{State}
 use Rattle.state.specs.declared.Writers.{Writers}
+use Rattle.refinement.specs.Calls.{withWriters}
 use Rattle.text.specs.declared.Line.{Line}
 use Rattle.workbench.specs.Turns.{arg, withState, other, edited, formed}
 use Rattle.workbench.specs.declared.Bench.{Bench}
@@ -48,10 +49,6 @@ withTable st t =
     record { sizes = st .sizes; head = st .head; tail = st .tail; next = st .next; table = t; writers = st .writers; pending = st .pending }
 
 -- 11 writer i open, 12 held lines at i = 16 × writer + slot
-abbrev pub withWriters : State → Writers → State
-withWriters st ws =
-    record { sizes = st .sizes; head = st .head; tail = st .tail; next = st .next; table = st .table; writers = ws; pending = st .pending }
-
 abbrev pub withOpen : Writers → ℕ → ℕ → Writers
 withOpen ws i v = record { opened = set (ws .opened) i (eqb v 1); held = ws .held }
 

@@ -2,12 +2,12 @@
 ghost use mathlib.Core.Path.{_≡_};
 ghost use Prim.Native.Nat.{_+_, _*_, _<_, _≤_, min};
 ghost use lib.ListN.{length};
-ghost use Rattle.bounded.specs.Below.{one};
 ghost use Rattle.number_text.specs.Text.{Put, blanked, each};
 ghost use Rattle.state_text.specs.Numbers.{slotNumbers, openNumbers, heldNumbers, writerNumbers, headerNumbers, stateField};
 use replay::Table;
 use state::State;
 use state::Writers;
+use state::held::one_if;
 
 // ---- slots
 
@@ -41,21 +41,15 @@ fn put_slots(out: &mut [u8], at: usize, t: Table, n: usize) -> usize
 
 // ---- writers
 
-fn flag(b: bool) -> u64
-    ensures { λ r. ⌜ r ≡ one b ⌝ }
-{
-    if b { 1 } else { 0 }
-}
-
 fn open_numbers(ws: Writers) -> [u64; 4]
     ensures { λ r. ⌜ r ≡ openNumbers ws ⌝ }
 {
     let opened = ws.opened;
     [
-        flag(opened[0]),
-        flag(opened[1]),
-        flag(opened[2]),
-        flag(opened[3]),
+        one_if(opened[0]) as u64,
+        one_if(opened[1]) as u64,
+        one_if(opened[2]) as u64,
+        one_if(opened[3]) as u64,
     ]
 }
 

@@ -9,11 +9,8 @@ ghost use Rattle.operations.specs.Operations.{Ranged, isIdle, opRows};
 ghost use Rattle.refinement.specs.Settled.{noPending};
 ghost use Rattle.refinement.specs.Stores.{completed as completedOf};
 use layout::Sizes;
-use replay::Table;
 use state::Op;
 use state::Pending;
-use state::State;
-use state::Writers;
 
 // Head, tail and the next slot to try.
 pub struct Places {
@@ -89,53 +86,5 @@ pub fn complete(
                 next,
             }
         }
-    }
-}
-
-// The state when its pending operation is complete.
-pub fn completed(st: State) -> State
-    requires { ⌜ Ranged st × (refusal (opRows st (st .pending .op) (st .pending .frame)) ≡ 0) × (isIdle (st .pending .op) ≡ false) ⌝ }
-    ensures { λ r. ⌜ r ≡ completedOf st (st .pending .op) ⌝ }
-{
-    let mut page = st.table.page;
-    let mut original = st.table.original;
-    let mut spare = st.table.spare;
-    let mut bitmap = st.table.bitmap;
-    let mut last = st.table.last;
-    let mut opened = st.writers.opened;
-    let mut held = st.writers.held;
-    let sizes = st.sizes;
-    let pending = st.pending;
-    let to = complete(
-        sizes,
-        st.head,
-        st.tail,
-        st.next,
-        &mut page,
-        &mut original,
-        &mut spare,
-        &mut bitmap,
-        &mut last,
-        &mut opened,
-        &mut held,
-        pending,
-    );
-    let pending = settled::no_pending();
-    let table = Table {
-        page,
-        original,
-        spare,
-        bitmap,
-        last,
-    };
-    let writers = Writers { opened, held };
-    State {
-        sizes,
-        head: to.head,
-        tail: to.tail,
-        next: to.next,
-        table,
-        writers,
-        pending,
     }
 }

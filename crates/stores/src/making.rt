@@ -141,7 +141,7 @@ pub fn make_left<'a>(
         };
     }
     let op = pending.op;
-    let needed = operations::op_needs(z, head, tail, page, bitmap, last, held, op);
+    let needed = needs::op_needs(z, head, tail, page, bitmap, last, held, op);
     let left = needed - pending.made;
     let n = pieces::smaller(k, left);
     make_stores(

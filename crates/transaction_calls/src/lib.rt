@@ -9,7 +9,7 @@ use workbench::calls;
 pub fn begin(bench: Bench, line: Line) -> Turn
     ensures { λ r. ⌜ r ≡ beginTurn bench line ⌝ }
 {
-    if line.count == 1 {
+    if line.count == 1 { // B,w
         let done = writers::begin(bench.st, line.numbers[0] as usize);
         return calls::called(bench, done);
     }
@@ -19,7 +19,7 @@ pub fn begin(bench: Bench, line: Line) -> Turn
 pub fn abort(bench: Bench, line: Line) -> Turn
     ensures { λ r. ⌜ r ≡ abortTurn bench line ⌝ }
 {
-    if line.count == 1 {
+    if line.count == 1 { // A,w
         let done = writers::abort(bench.st, line.numbers[0] as usize);
         return calls::called(bench, done);
     }
@@ -29,7 +29,7 @@ pub fn abort(bench: Bench, line: Line) -> Turn
 pub fn commit(bench: Bench, image: &[u8], line: Line) -> Turn
     ensures { λ r. ⌜ r ≡ commitTurn bench (now (image .entry)) line ⌝ }
 {
-    if line.count == 1 {
+    if line.count == 1 { // C,w
         let done = transactions::commit(bench.st, image, line.numbers[0] as usize);
         return calls::called(bench, done);
     }
@@ -39,7 +39,7 @@ pub fn commit(bench: Bench, image: &[u8], line: Line) -> Turn
 pub fn consolidate(bench: Bench, image: &[u8], line: Line) -> Turn
     ensures { λ r. ⌜ r ≡ consolidateTurn bench (now (image .entry)) line ⌝ }
 {
-    if line.count == 1 {
+    if line.count == 1 { // D,p
         let done = transactions::consolidate(bench.st, image, line.numbers[0] as usize);
         return calls::called(bench, done);
     }
@@ -49,7 +49,7 @@ pub fn consolidate(bench: Bench, image: &[u8], line: Line) -> Turn
 pub fn checkpoint(bench: Bench, image: &[u8], line: Line) -> Turn
     ensures { λ r. ⌜ r ≡ checkpointTurn bench (now (image .entry)) line ⌝ }
 {
-    if line.count == 0 {
+    if line.count == 0 { // P
         let done = transactions::checkpoint(bench.st, image);
         return calls::called(bench, done);
     }

@@ -1,6 +1,4 @@
 // Row 8: whether a state keeps the rules. Nothing of it reads the image.
-mod slots;
-
 ghost use mathlib.Core.Path.{_≡_};
 ghost use Prim.Native.Nat.{_*_, _<_};
 ghost use Rattle.layout.specs.Layout.{Legal};
@@ -29,7 +27,7 @@ fn slots_ok<'a>(
     if !journal::records::positions_ok(z, head, tail) {
         return false;
     }
-    slots::slots_fine(z, page, original, spare, bitmap)
+    slot_rules::slots_fine(z, page, original, spare, bitmap)
 }
 
 // Whether q is a live position, of which there are so many.
@@ -119,7 +117,7 @@ fn pending_ok<'a>(
     if row != 0 {
         return false;
     }
-    pending.made < operations::op_needs(z, head, tail, page, bitmap, last, held, op)
+    pending.made < needs::op_needs(z, head, tail, page, bitmap, last, held, op)
 }
 
 // Whether the state with these parts keeps every rule of row 8.

@@ -26,14 +26,11 @@ pub fn called(bench: Bench, done: Done) -> Turn
 pub fn replacing(bench: Bench, done: Done) -> Turn
     ensures { λ r. ⌜ r ≡ replacing bench (outcomeOf done) ⌝ }
 {
+    let t = called(bench, done);
     let answer = done.answer;
-    let number = answers::number_of(answer);
-    if number == 0 {
-        return called(bench, done);
+    if answers::number_of(answer) == 0 {
+        return t;
     }
-    let count = calling::stores_of(answer);
-    Turn {
-        bench,
-        said: Said::Answered { number, count },
-    }
+    let said = t.said;
+    Turn { bench, said }
 }

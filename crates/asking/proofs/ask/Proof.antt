@@ -2,13 +2,13 @@ use Prim.Native.Nat.{ℕ}
 use mathlib.Core.List.{List, _++_}
 use mathlib.Core.Path.{_≡_, sym, _∙_}
 use lib.ListN.{replicate}
-use borrow.Author.Needs.{needs}
 use Rattle.bounded.specs.Rows.{Row, refusal}
 use Rattle.operations.specs.Operations.{opRows, Ranged, needs as storesNeeded}
 use Rattle.operations.proofs.Taken.{op-asked}
 use Rattle.refinement.proofs.Going.{ranges-of}
 use Rattle.refinement.specs.Calls.{quietRows}
-use Rattle.asking.proofs.Taking.{ask-known, ask-none, ask-ready, ask-refused, ask-pending, ask-done}
+use Rattle.asking.proofs.Taking.{ask-known, ask-none, ask-refused, ask-pending, ask-done}
+use borrow.Author.Needs.{needs}
 use Rattle.asking.proofs.ask.Statement.{statement}
 use Rattle.asking.proofs.ask.Tie as tie
 
@@ -31,42 +31,35 @@ refused-requires : tie.Need-refused-requires
 refused-requires c κs = let a = c .before .before .before .before .before .before .before .before .before .before .before .before .args in rw (c .before .ask-row .ensures) (ask-known (a .st) (a .n) (a .op))
 
 returns : tie.Need-returns
-returns c =
-    let s = c .before .before .before .before .before .before .before .before .before .before .before .before .before in
+returns c = let s = c .before .before .before .before .before .before .before .before .before .before .before .before .before in
     ask-refused (s .args .st) (s .args .op) line 0 (c .refused .result) (rows s) _ (c .before .before .ask-row .ensures) (c .before .if1 .taken) (c .refused .ensures)
 
 op-needs-requires : tie.Need-op-needs-requires
-op-needs-requires c κs =
-    let a = c .before .before .before .before .before .before .before .before .before .before .before .before .before .before .before .before .before .before .args in
+op-needs-requires c κs = let a = c .before .before .before .before .before .before .before .before .before .before .before .before .before .before .before .before .before .before .args in
     let q = none1 (c .before .before .before .before .before .before) in (q .0 .legal, op-asked (a .st) (a .op) 0 (q .1))
 
-pending-from-requires : tie.Need-pending-from-requires
-pending-from-requires c κs = search needs
-
-completed-requires : tie.Need-completed-requires
-completed-requires c κs =
-    let a = c .before .before .before .before .before .before .before .before .before .before .before .before .before .before .before .before .before .before .before .before .before .args in
-    let q = none1 (c .before .before .before .before .before .before .before .before .before) in ask-ready (a .st) (a .op) line 0 _ (c .before .pending-from .ensures) (q .0) (q .1) (c .before .before .before .before .before .before .before .before .before .before .before .before .before .before .before .before .before .before .before .before .before .pre)
+completed-at-once-requires : tie.Need-completed-at-once-requires
+unfolding storesNeeded
+completed-at-once-requires c κs = let q = none1 (c .before .before .before .before .before .before .before .before) in (q .0, q .1, c .before .before .before .before .before .before .before .before .before .before .before .before .before .before .before .before .before .before .before .before .pre, sym (c .before .op-needs .ensures) ∙ c .if2 .taken)
 
 taken-requires : tie.Need-taken-requires
 taken-requires c κs = search needs
 
 returns-2 : tie.Need-returns-2
 unfolding storesNeeded
-returns-2 c =
-    let s = c .before .before .before .before .before .before .before .before .before .before .before .before .before .before .before .before .before .before .before .before .before .before .before in
-    ask-done (s .args .st) (s .args .op) line 0 (c .taken .result) (rows s) _ _ (sym (c .before .before .before .before .before .before .before .before .before .before .before .if1 .left) ∙ c .before .before .before .before .before .before .before .before .before .before .before .before .ask-row .ensures) (c .before .before .before .pending-from .ensures) (c .before .before .before .before .op-needs .ensures)
-    _ (s .pre) (c .before .before .if2 .taken) (c .before .completed .ensures) (c .taken .ensures)
+returns-2 c = let s = c .before .before .before .before .before .before .before .before .before .before .before .before .before .before .before .before .before .before .before .before .before .before in
+    ask-done (s .args .st) (s .args .op) line 0 (c .taken .result) (rows s) _ _ (sym (c .before .before .before .before .before .before .before .before .before .before .if1 .left) ∙ c .before .before .before .before .before .before .before .before .before .before .before .ask-row .ensures) (c .before .before .before .op-needs .ensures) (c .before .before .if2 .taken) (c .before .completed-at-once .ensures) (c .taken .ensures)
+
+pending-from-requires : tie.Need-pending-from-requires
+pending-from-requires c κs = search needs
 
 taken-requires-2 : tie.Need-taken-requires-2
 taken-requires-2 c κs = search needs
 
 returns-3 : tie.Need-returns-3
 unfolding storesNeeded
-returns-3 c =
-    let s = c .before .before .before .before .before .before .before .before .before .before .before .before .before .before .before .before .before .before .before .before .before .before in
-    ask-pending (s .args .st) (s .args .op) line 0 (c .taken2 .result) (rows s) _ _ (sym (c .before .before .before .before .before .before .before .before .before .before .if1 .left) ∙ c .before .before .before .before .before .before .before .before .before .before .before .ask-row .ensures) (c .before .before .pending-from .ensures) (c .before .before .before .op-needs .ensures)
-    (c .before .if2 .left) (c .taken2 .ensures)
+returns-3 c = let s = c .before .before .before .before .before .before .before .before .before .before .before .before .before .before .before .before .before .before .before .before .before .before in
+    ask-pending (s .args .st) (s .args .op) line 0 (c .taken2 .result) (rows s) _ _ (sym (c .before .before .before .before .before .before .before .before .before .before .if1 .left) ∙ c .before .before .before .before .before .before .before .before .before .before .before .ask-row .ensures) (c .before .pending-from .ensures) (c .before .before .before .op-needs .ensures) (c .before .before .if2 .left) (c .taken2 .ensures)
 
 pub ask-spec : {M : Type 1} → statement M
 ask-spec =
@@ -76,9 +69,9 @@ ask-spec =
     refused-requires
     returns
     op-needs-requires
-    pending-from-requires
-    completed-requires
+    completed-at-once-requires
     taken-requires
     returns-2
+    pending-from-requires
     taken-requires-2
     returns-3)

@@ -1,7 +1,7 @@
 use native.Mathlib.Omega.{arith}
 use borrow.Author.Needs.{needs}
 use Rattle.bounded.proofs.Below.{up-ends}
-use Rattle.operations.proofs.Counted.{recorded-le}
+use Rattle.needs.proofs.Counted.{recorded-le}
 use Rattle.refinement.specs.Checkpoint.{checkpointing}
 use Rattle.checkpoints.proofs.CheckpointMade.{checkpoint-ended}
 use Rattle.checkpoints.proofs.make_checkpoint_stores.Statement.{statement}

@@ -6,7 +6,7 @@ use borrow.Author.Needs.{needs}
 use Rattle.bounded.proofs.Below.{up-none, up-ends}
 use Rattle.layout.proofs.LayoutLaws.{record-end}
 use Rattle.replay.specs.Table.{noPosition}
-use Rattle.operations.proofs.Counted.{recorded-le}
+use Rattle.needs.proofs.Counted.{recorded-le}
 use Rattle.refinement.specs.Checkpoint.{checkpointing, checkpointStores}
 use Rattle.refinement.proofs.CheckpointPlaces.{recorded-slot-low}
 use Rattle.checkpoints.proofs.CheckpointMade.{checkpoint-turn}

@@ -1,7 +1,7 @@
 use native.Mathlib.Omega.{arith}
 use borrow.Author.Needs.{needs}
 use Rattle.layout.proofs.LayoutLaws.{record-end}
-use Rattle.operations.proofs.Counted.{copy-le}
+use Rattle.needs.proofs.Counted.{copy-le}
 use Rattle.consolidations.proofs.ConsolidateMade.{line-made, page-made, record-made, head-made}
 use Rattle.consolidations.proofs.make_piece.Statement.{statement}
 use Rattle.consolidations.proofs.make_piece.Tie as tie

@@ -4,7 +4,7 @@ use native.Mathlib.Omega.{arith}
 use lib.ListN.{length}
 use borrow.Author.Needs.{needs}
 use Rattle.bounded.proofs.Below.{up-none, up-ends}
-use Rattle.operations.proofs.Counted.{copy-le}
+use Rattle.needs.proofs.Counted.{copy-le}
 use Rattle.refinement.specs.Consolidate.{consolidationStores}
 use Rattle.consolidations.proofs.ConsolidateMade.{piece-turn}
 use Rattle.consolidations.proofs.make_pieces.Statement.{statement}

@@ -19,7 +19,10 @@ read-into-requires : tie.Need-read-into-requires
 read-into-requires c κs = search needs
 
 returns : tie.Need-returns
-returns c = rw (c .before .before .before .if1 .taken, c .before .read-into .ensures, take-zeros _ 128 (target-small (c .before .before .before .before .before .before .args .t3) 4 3 (c .before .before .before .if1 .taken)))
+returns c =
+    let form = c .before .before .before .if1 .taken in
+    let zeros = take-zeros _ 128 (target-small (c .before .before .before .before .before .before .args .t3) 4 3 form) in
+    rw (form, c .before .read-into .ensures, zeros)
 
 other-requires : tie.Need-other-requires
 other-requires c κs = search needs

@@ -19,7 +19,10 @@ recall-into-requires : tie.Need-recall-into-requires
 recall-into-requires c κs = search needs
 
 returns : tie.Need-returns
-returns c = rw (c .before .before .before .if1 .taken, c .before .recall-into .ensures, take-zeros _ 128 (target-small (c .before .before .before .before .before .before .args .t3) 3 2 (c .before .before .before .if1 .taken)))
+returns c =
+    let form = c .before .before .before .if1 .taken in
+    let zeros = take-zeros _ 128 (target-small (c .before .before .before .before .before .before .args .t3) 3 2 form) in
+    rw (form, c .before .recall-into .ensures, zeros)
 
 other-requires : tie.Need-other-requires
 other-requires c κs = search needs

@@ -34,7 +34,10 @@ array-write-next : tie.Need-array-write-next
 array-write-next c = search needs
 
 returns : tie.Need-returns
-returns c = ap (set (c .before .before .before .before .before .args .t1) (c .before .before .before .before .before .args .i / 8)) (c .word-at .ensures ∙ line-byte (c .before .before .before .put-word .last .0) _ _ _ (c .before .before .before .put-word .ensures))
+returns c =
+    let a = c .before .before .before .before .before .args in
+    let put = c .before .before .before .put-word in
+    ap (set (a .t1) (a .i / 8)) (c .word-at .ensures ∙ line-byte (put .last .0) _ _ _ (put .ensures))
 
 pub with-line-byte-spec : {M : Type 1} → statement M
 with-line-byte-spec =

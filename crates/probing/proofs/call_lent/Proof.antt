@@ -21,7 +21,10 @@ same-length : tie.Need-same-length
 same-length c = search needs
 
 returns : tie.Need-returns
-returns c = (c .before .before .call .ensures .0, ap (λ (l : List ℕ). l ++ drop (c .before .before .before .before .before .before .args .bench .lent) (c .before .before .before .before .before .before .args .buffer .now)) (c .before .before .call .ensures .1))
+returns c =
+    let a = c .before .before .before .before .before .before .args in
+    let call = c .before .before .call .ensures in
+    (call .0, ap (λ (l : List ℕ). l ++ drop (a .bench .lent) (a .buffer .now)) (call .1))
 
 call-requires-2 : tie.Need-call-requires-2
 call-requires-2 c κs = search needs

@@ -1,68 +1,77 @@
-use native.Mathlib.Omega.{arith}
 use borrow.Author.Needs.{needs}
-use Rattle.decimals.proofs.Printing.{decimal-le}
-use Rattle.number_text.proofs.Puts.{put-then}
 use Rattle.reporting.specs.Text.{printedOf}
-use Rattle.reporting.proofs.Texts.{said-text}
 use Rattle.reporting.proofs.print.Statement.{statement}
 use Rattle.reporting.proofs.print.Tie as tie
 
-put-decimal-requires : tie.Need-put-decimal-requires
-put-decimal-requires c κs = search needs
+enum-told : tie.Need-enum-told
+enum-told c = search needs
 
-put-byte-requires : tie.Need-put-byte-requires
-put-byte-requires c κs =
-    let s = c .before .before .before .before .before .before in
-    let number = c .before .before .before .put-decimal in
-    let d = decimal-le (s .args .n) in
-    omega arith
+put-output-requires : tie.Need-put-output-requires
+put-output-requires c κs = search needs
 
-put-said-requires : tie.Need-put-said-requires
-put-said-requires c κs =
-    let s = c .before .before .before .before .before .before .before .before .before .before in
-    let number = c .before .before .before .before .before .before .before .put-decimal in
-    let comma = c .before .before .before .put-byte in
-    let d = decimal-le (s .args .n) in
-    omega arith
+enum-known-said : tie.Need-enum-known-said
+enum-known-said c = search needs
 
-put-byte-requires-2 : tie.Need-put-byte-requires-2
-put-byte-requires-2 c κs =
-    let s = c .before .before .before .before .before .before .before .before .before .before .before .before .before .before in
-    let number = c .before .before .before .before .before .before .before .before .before .before .before .put-decimal in
-    let comma = c .before .before .before .before .before .before .before .put-byte in
-    let said = c .before .before .before .put-said in
-    let d = decimal-le (s .args .n) in
-    let long = said-text (s .args .letter) (s .args .t .said) (s .args .t .bench .st) in
-    omega arith
+put-output-requires-2 : tie.Need-put-output-requires-2
+put-output-requires-2 c κs = search needs
+
+enum-known-said-2 : tie.Need-enum-known-said-2
+enum-known-said-2 c = search needs
+
+put-hash-requires : tie.Need-put-hash-requires
+put-hash-requires c κs = search needs
+
+enum-told-2 : tie.Need-enum-told-2
+enum-told-2 c = search needs
+
+put-numbered-requires : tie.Need-put-numbered-requires
+put-numbered-requires c κs = search needs
 
 same-length : tie.Need-same-length
 same-length c = search needs
 
 returns : tie.Need-returns
 unfolding printedOf
-returns c =
-    let s = c .before .before .before .before .before .before .before .before .before .before .before .before .before .before .before .before .before in
-    let number = c .before .before .before .before .before .before .before .before .before .before .before .before .before .before .put-decimal in
-    let comma = c .before .before .before .before .before .before .before .before .before .before .put-byte in
-    let said = c .before .before .before .before .before .before .put-said in
-    let end = c .before .before .put-byte2 in
-    let d = decimal-le (s .args .n) in
-    let long = said-text (s .args .letter) (s .args .t .said) (s .args .t .bench .st) in
-    put-then (record { laid = number .ensures .0; place = number .ensures .1 })
-    (put-then (record { laid = comma .ensures .0; place = comma .ensures .1 })
-    (put-then (said .ensures)
-    (record { laid = end .ensures .0; place = end .ensures .1 })
-    (omega arith))
-    (omega arith))
-    (omega arith)
+returns c = rw (c .before .before .before .before .enum-told .given .1) (c .before .before .put-output .ensures)
+
+same-length-2 : tie.Need-same-length-2
+same-length-2 c = search needs
+
+returns-2 : tie.Need-returns-2
+unfolding printedOf
+returns-2 c = rw (c .before .before .before .before .before .said .given .1) (c .before .before .put-output2 .ensures)
+
+same-length-3 : tie.Need-same-length-3
+same-length-3 c = search needs
+
+returns-3 : tie.Need-returns-3
+unfolding printedOf
+returns-3 c = rw (c .before .before .before .before .before .said2 .given .1) (c .before .before .put-hash .ensures)
+
+same-length-4 : tie.Need-same-length-4
+same-length-4 c = search needs
+
+returns-4 : tie.Need-returns-4
+unfolding printedOf
+returns-4 c = rw (c .before .before .before .before .before .enum-told2 .given .1) (c .before .before .put-numbered .ensures)
 
 pub print-spec : {M : Type 1} → statement M
 print-spec =
     tie.close
     (tie.spec
-    put-decimal-requires
-    put-byte-requires
-    put-said-requires
-    put-byte-requires-2
+    enum-told
+    put-output-requires
+    enum-known-said
+    put-output-requires-2
+    enum-known-said-2
+    put-hash-requires
+    enum-told-2
+    put-numbered-requires
     same-length
-    returns)
+    returns
+    same-length-2
+    returns-2
+    same-length-3
+    returns-3
+    same-length-4
+    returns-4)

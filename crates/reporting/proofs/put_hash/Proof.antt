@@ -1,22 +1,29 @@
 use native.Mathlib.Omega.{arith}
-use lib.ListN.{length-append}
 use borrow.Author.Needs.{needs}
 use Rattle.decimals.proofs.Printing.{decimal-le}
-use Rattle.number_text.specs.Text.{field}
-use Rattle.number_text.proofs.Puts.{put-then, put-as}
-use Rattle.reporting.proofs.Texts.{shown-text}
+use Rattle.number_text.proofs.Puts.{put-then}
+use Rattle.printing.proofs.Puts.{as-put}
+use Rattle.reporting.proofs.Texts.{start-text}
 use Rattle.reporting.proofs.put_hash.Statement.{statement}
 use Rattle.reporting.proofs.put_hash.Tie as tie
 
-put-shown-requires : tie.Need-put-shown-requires
-put-shown-requires c κs = search needs
+put-start-requires : tie.Need-put-start-requires
+put-start-requires c κs = search needs
 
 put-after-requires : tie.Need-put-after-requires
 put-after-requires c κs =
     let s = c .before .before .before .before .before .before in
-    let shown = c .before .before .before .put-shown in
-    let d = decimal-le 0 in
-    let f = length-append (field 0) (field 0) in
+    let start = c .before .before .before .put-start in
+    let e = start-text (s .args .n) (s .args .letter) in
+    omega arith
+
+put-byte-requires : tie.Need-put-byte-requires
+put-byte-requires c κs =
+    let s = c .before .before .before .before .before .before .before .before .before .before in
+    let start = c .before .before .before .before .before .before .before .put-start in
+    let last = c .before .before .before .put-after in
+    let e = start-text (s .args .n) (s .args .letter) in
+    let d = decimal-le (s .args .h) in
     omega arith
 
 same-length : tie.Need-same-length
@@ -24,14 +31,20 @@ same-length c = search needs
 
 returns : tie.Need-returns
 returns c =
-    let s = c .before .before .before .before .before .before .before .before .before in
-    let shown = c .before .before .before .before .before .before .put-shown in
-    let last = c .before .before .put-after in
-    let d = decimal-le 0 in
-    let f = length-append (field 0) (field 0) in
-    put-as (shown-text (s .args .letter) (field (s .args .h))) (put-then (shown .ensures)
-    (last .ensures)
-    (omega arith))
+    let s = c .before .before .before .before .before .before .before .before .before .before .before .before .before in
+    let start = c .before .before .before .before .before .before .before .before .before .before .put-start in
+    let last = c .before .before .before .before .before .before .put-after in
+    let end = c .before .before .put-byte in
+    let e = start-text (s .args .n) (s .args .letter) in
+    let d = decimal-le (s .args .h) in
+    put-then (start .ensures) (put-then (last .ensures) (as-put (end .ensures)) (omega arith)) (omega arith)
 
 pub put-hash-spec : {M : Type 1} → statement M
-put-hash-spec = tie.close (tie.spec put-shown-requires put-after-requires same-length returns)
+put-hash-spec =
+    tie.close
+    (tie.spec
+    put-start-requires
+    put-after-requires
+    put-byte-requires
+    same-length
+    returns)

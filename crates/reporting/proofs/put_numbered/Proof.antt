@@ -1,23 +1,29 @@
 use native.Mathlib.Omega.{arith}
-use lib.ListN.{length-append}
 use borrow.Author.Needs.{needs}
-use Rattle.decimals.proofs.Printing.{decimal-le}
-use Rattle.number_text.specs.Text.{field}
-use Rattle.number_text.proofs.Puts.{put-then, put-as}
-use Rattle.state_text.specs.Numbers.{stateField}
-use Rattle.reporting.proofs.Texts.{shown-text}
+use Rattle.number_text.proofs.Puts.{put-then}
+use Rattle.printing.proofs.Puts.{as-put}
+use Rattle.state_text.proofs.Lengths.{state-text}
+use Rattle.reporting.proofs.Texts.{start-text}
 use Rattle.reporting.proofs.put_numbered.Statement.{statement}
 use Rattle.reporting.proofs.put_numbered.Tie as tie
 
-put-shown-requires : tie.Need-put-shown-requires
-put-shown-requires c κs = search needs
+put-start-requires : tie.Need-put-start-requires
+put-start-requires c κs = search needs
 
 put-state-requires : tie.Need-put-state-requires
 put-state-requires c κs =
     let s = c .before .before .before .before .before .before in
-    let shown = c .before .before .before .put-shown in
-    let d = decimal-le 0 in
-    let f = length-append (field 0) (field 0) in
+    let start = c .before .before .before .put-start in
+    let e = start-text (s .args .n) (s .args .letter) in
+    omega arith
+
+put-byte-requires : tie.Need-put-byte-requires
+put-byte-requires c κs =
+    let s = c .before .before .before .before .before .before .before .before .before .before in
+    let start = c .before .before .before .before .before .before .before .put-start in
+    let last = c .before .before .before .put-state in
+    let e = start-text (s .args .n) (s .args .letter) in
+    let d = state-text (s .args .st) in
     omega arith
 
 same-length : tie.Need-same-length
@@ -25,14 +31,20 @@ same-length c = search needs
 
 returns : tie.Need-returns
 returns c =
-    let s = c .before .before .before .before .before .before .before .before .before in
-    let shown = c .before .before .before .before .before .before .put-shown in
-    let last = c .before .before .put-state in
-    let d = decimal-le 0 in
-    let f = length-append (field 0) (field 0) in
-    put-as (shown-text (s .args .letter) (stateField (s .args .st))) (put-then (shown .ensures)
-    (last .ensures)
-    (omega arith))
+    let s = c .before .before .before .before .before .before .before .before .before .before .before .before .before in
+    let start = c .before .before .before .before .before .before .before .before .before .before .put-start in
+    let last = c .before .before .before .before .before .before .put-state in
+    let end = c .before .before .put-byte in
+    let e = start-text (s .args .n) (s .args .letter) in
+    let d = state-text (s .args .st) in
+    put-then (start .ensures) (put-then (last .ensures) (as-put (end .ensures)) (omega arith)) (omega arith)
 
 pub put-numbered-spec : {M : Type 1} → statement M
-put-numbered-spec = tie.close (tie.spec put-shown-requires put-state-requires same-length returns)
+put-numbered-spec =
+    tie.close
+    (tie.spec
+    put-start-requires
+    put-state-requires
+    put-byte-requires
+    same-length
+    returns)

@@ -31,7 +31,12 @@ other-requires : tie.Need-other-requires
 other-requires c κs = search needs
 
 returns-5 : tie.Need-returns-5
-returns-5 c = rw (lt-leb _ 5 (c .before .before .before .before .if1 .left), lt-leb _ 10 (c .before .before .before .if2 .left), ne-eqb _ 11 (c .before .before .if3 .left), ne-eqb _ 12 (c .before .if4 .left)) (c .other .ensures)
+returns-5 c =
+    let header = lt-leb _ 5 (c .before .before .before .before .if1 .left) in
+    let slot = lt-leb _ 10 (c .before .before .before .if2 .left) in
+    let opened = ne-eqb _ 11 (c .before .before .if3 .left) in
+    let held = ne-eqb _ 12 (c .before .if4 .left) in
+    rw (header, slot, opened, held) (c .other .ensures)
 
 pub set-field-spec : {M : Type 1} → statement M
 set-field-spec =

@@ -21,7 +21,13 @@ newest-requires-6 : tie.Need-newest-requires-6
 newest-requires-6 c κs = search needs
 
 returns : tie.Need-returns
-returns c = rw (c .before .before .before .before .before .newest .ensures, c .before .before .before .before .newest2 .ensures, c .before .before .before .newest3 .ensures, c .before .before .newest4 .ensures, c .before .newest5 .ensures, c .newest6 .ensures)
+returns c =
+    let pages = c .before .before .before .before .before .newest .ensures in
+    let slots = c .before .before .before .before .newest2 .ensures in
+    let places = c .before .before .before .newest3 .ensures in
+    let head = c .before .before .newest4 .ensures in
+    let tail = c .before .newest5 .ensures in
+    rw (pages, slots, places, head, tail, c .newest6 .ensures)
 
 pub with-header-spec : {M : Type 1} → statement M
 with-header-spec =

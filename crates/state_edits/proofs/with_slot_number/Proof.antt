@@ -78,7 +78,12 @@ element-write-u-5 : tie.Need-element-write-u-5
 element-write-u-5 c = search needs
 
 returns : tie.Need-returns
-returns c = rw (c .before .before .before .before .before .before .before .before .newest .ensures, c .before .before .before .before .before .before .newest2 .ensures, c .before .before .before .before .newest3 .ensures, c .before .before .newest4 .ensures, c .newest5 .ensures)
+returns c =
+    let page = c .before .before .before .before .before .before .before .before .newest .ensures in
+    let original = c .before .before .before .before .before .before .newest2 .ensures in
+    let spare = c .before .before .before .before .newest3 .ensures in
+    let bitmap = c .before .before .newest4 .ensures in
+    rw (page, original, spare, bitmap, c .newest5 .ensures)
 
 pub with-slot-number-spec : {M : Type 1} → statement M
 with-slot-number-spec =

@@ -4,7 +4,7 @@ use Rattle.bounded.proofs.Tests.{and-stops, and-goes, held}
 use Rattle.layout.proofs.LayoutLaws.{legal}
 use Rattle.replay.specs.Table.{slotsOfArrays}
 use Rattle.validity.specs.Validity.{slotsOk}
-use Rattle.validity.proofs.SlotLaws.{fine-all}
+use Rattle.slot_rules.proofs.SlotLaws.{fine-all}
 use Rattle.validity.proofs.slots_ok.Statement.{statement}
 use Rattle.validity.proofs.slots_ok.Tie as tie
 

@@ -14,7 +14,9 @@ wrapping-add-u64-requires : tie.Need-wrapping-add-u64-requires
 wrapping-add-u64-requires c κs = search needs
 
 slice-aggregate-perform : tie.Need-slice-aggregate-perform
-slice-aggregate-perform c = sym (length-take-le (c .before .before .before .lesser .result) (c .before .before .before .before .before .before .before .before .before .args .line .now) (c .before .before .before .lesser .ensures .1))
+slice-aggregate-perform c =
+    let k = c .before .before .before .lesser in
+    sym (length-take-le (k .result) (c .before .before .before .before .before .before .before .before .before .args .line .now) (k .ensures .1))
 
 perform-requires : tie.Need-perform-requires
 perform-requires c κs = search needs

@@ -35,7 +35,10 @@ perform-kept-requires : tie.Need-perform-kept-requires Inv-loop μ-loop
 perform-kept-requires c κs = search needs
 
 add-from : tie.Need-add-from Inv-loop μ-loop
-add-from c = omega (arith, c .before .before .before .before .before .before .if1 .left, c .before .before .before .before .before .before .before .before .before .before .before .before .before .before .before .before .before .good .1 .1 .1 .0 .0)
+add-from c =
+    let more = c .before .before .before .before .before .before .if1 .left in
+    let fits = c .before .before .before .before .before .before .before .before .before .before .before .before .before .before .before .before .before .good .1 .1 .1 .0 .0 in
+    omega (arith, more, fits)
 
 loop-less : tie.Need-loop-less Inv-loop μ-loop
 loop-less c =

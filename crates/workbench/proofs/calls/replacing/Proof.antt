@@ -3,21 +3,21 @@ use Rattle.workbench.proofs.Taken.{replaced, kept}
 use Rattle.workbench.proofs.calls.replacing.Statement.{statement}
 use Rattle.workbench.proofs.calls.replacing.Tie as tie
 
-number-of-requires : tie.Need-number-of-requires
-number-of-requires c κs = search needs
-
 called-requires : tie.Need-called-requires
 called-requires c κs = search needs
 
-returns : tie.Need-returns
-returns c = replaced (c .before .before .before .args .bench) (c .before .before .before .args .done) _ (c .before .before .number-of .ensures) _ (c .before .if1 .taken) (c .called .ensures)
+number-of-requires : tie.Need-number-of-requires
+number-of-requires c κs = search needs
 
-stores-of-requires : tie.Need-stores-of-requires
-stores-of-requires c κs = search needs
+returns : tie.Need-returns
+returns c =
+    let a = c .before .before .before .args in
+    replaced (a .bench) (a .done) _ (c .before .number-of .ensures) _ (c .before .before .called .ensures) (c .if1 .taken)
 
 returns-2 : tie.Need-returns-2
-returns-2 c = kept (c .before .before .before .args .bench) (c .before .before .before .args .done) _ (c .before .before .number-of .ensures) _ (c .before .if1 .left) (c .stores-of .ensures)
+returns-2 c =
+    let a = c .before .before .before .args in
+    kept (a .bench) (a .done) _ (c .before .number-of .ensures) _ (c .before .before .called .ensures) (c .if1 .left)
 
 pub replacing-spec : {M : Type 1} → statement M
-replacing-spec =
-    tie.close (tie.spec number-of-requires called-requires returns stores-of-requires returns-2)
+replacing-spec = tie.close (tie.spec called-requires number-of-requires returns returns-2)

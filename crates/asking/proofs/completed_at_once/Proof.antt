@@ -1,0 +1,74 @@
+use mathlib.Core.Path.{sym, ap, _∙_}
+use Rattle.bounded.proofs.Tests.{contradicts}
+use Rattle.operations.specs.Operations.{isIdle}
+use Rattle.operations.proofs.Taken.{commit-taken}
+use Rattle.refinement.specs.Stores.{completed}
+use Rattle.asking.proofs.Taking.{empty-commit, empty-checkpoint, write-needs, consolidate-needs}
+use borrow.Author.Needs.{needs}
+use Rattle.asking.proofs.completed_at_once.Statement.{statement}
+use Rattle.asking.proofs.completed_at_once.Tie as tie
+
+no-pending-requires : tie.Need-no-pending-requires
+no-pending-requires c κs = search needs
+
+enum-told : tie.Need-enum-told
+enum-told c = search needs
+
+enum-told-2 : tie.Need-enum-told-2
+enum-told-2 c = search needs
+
+enum-known-op : tie.Need-enum-known-op
+enum-known-op c = search needs
+
+set-open-requires : tie.Need-set-open-requires
+set-open-requires c κs = commit-taken (c .before .before .before .before .before .before .args .st) _ (rw (c .before .before .op .given .1) at (c .before .before .before .before .before .before .pre .1)) .writer-low
+
+let-go-requires : tie.Need-let-go-requires
+let-go-requires c κs = (c .before .before .before .before .before .before .before .before .pre .0 .legal, commit-taken (c .before .before .before .before .before .before .before .before .args .st) _ (rw (c .before .before .before .before .op .given .1) at (c .before .before .before .before .before .before .before .before .pre .1)) .writer-low)
+
+enum-told-3 : tie.Need-enum-told-3
+enum-told-3 c = search needs
+
+enum-told-4 : tie.Need-enum-told-4
+enum-told-4 c = search needs
+
+complete-checkpoint-requires : tie.Need-complete-checkpoint-requires
+complete-checkpoint-requires c κs = c .before .before .before .before .before .pre .0 .legal
+
+returns : tie.Need-returns
+returns c = contradicts (ap isIdle (c .enum-told .given .1)) (c .before .before .before .before .pre .2)
+
+returns-2 : tie.Need-returns-2
+returns-2 c = absurd (write-needs (c .before .before .before .before .args .st) _ _ _ _ _ (rw (c .enum-told2 .given .1) at (c .before .before .before .before .pre .3)))
+
+returns-3 : tie.Need-returns-3
+returns-3 c = let s = c .before .before .before .before .before .before .before .before .before in
+    empty-commit (s .args .st) _ _ _ _ (s .pre .0) (rw (c .before .before .before .before .before .op .given .1) at (s .pre .3)) (c .let-go .ensures) (c .before .before .set-open .ensures) (c .before .before .before .before .before .before .before .no-pending .ensures)
+    ∙ sym (ap (completed (s .args .st)) (c .before .before .before .before .before .op .given .1))
+
+returns-4 : tie.Need-returns-4
+returns-4 c = absurd (consolidate-needs (c .before .before .before .before .args .st) _ (rw (c .enum-told3 .given .1) at (c .before .before .before .before .pre .3)))
+
+returns-5 : tie.Need-returns-5
+returns-5 c = let s = c .before .before .before .before .before .before in
+    empty-checkpoint (s .args .st) _ _ (c .complete-checkpoint .ensures) (c .before .before .before .before .no-pending .ensures)
+    ∙ sym (ap (completed (s .args .st)) (c .before .before .enum-told4 .given .1))
+
+pub completed-at-once-spec : {M : Type 1} → statement M
+completed-at-once-spec =
+    tie.close
+    (tie.spec
+    no-pending-requires
+    enum-told
+    enum-told-2
+    enum-known-op
+    set-open-requires
+    let-go-requires
+    enum-told-3
+    enum-told-4
+    complete-checkpoint-requires
+    returns
+    returns-2
+    returns-3
+    returns-4
+    returns-5)

@@ -1,0 +1,93 @@
+use Prim.Native.Nat.{ℕ, _<_}
+use mathlib.Core.Path.{_≡_, sym, ap, _∙_, subst}
+use native.Mathlib.Omega.{arith}
+use borrow.Author.Needs.{needs}
+use Rattle.state.specs.declared.Op.{Op}
+use Rattle.operations.specs.Operations.{Asked, commitNeeds, needsOf}
+use Rattle.state.proofs.Numbers.{held-le}
+use Rattle.needs.proofs.op_needs.Statement.{statement}
+use Rattle.needs.proofs.op_needs.Tie as tie
+
+-- the stores that an operation needs
+abbrev count : tie.Start → Op → ℕ
+count c op =
+    let a = c .args in
+    needsOf (a .z) (a .head) (a .tail) (a .page .now) (a .bitmap .now) (a .last .now) (a .held .now) op
+
+-- the slot of the page to consolidate
+slot-low : (c : tie.After-slot-of) → c .slot-of .result < c .before .before .before .before .args .z .slots
+slot-low c =
+    rw (c .slot-of .ensures) (subst (Asked (c .before .before .before .before .args .z) (c .before .before .before .before .args .page .now)) (c .before .before .op2 .given .1) (c .before .before .before .before .pre .1))
+
+enum-told : tie.Need-enum-told
+enum-told c = search needs
+
+enum-told-2 : tie.Need-enum-told-2
+enum-told-2 c = search needs
+
+enum-known-op : tie.Need-enum-known-op
+enum-known-op c = search needs
+
+held-count-requires : tie.Need-held-count-requires
+held-count-requires c κs = (c .before .before .before .pre .0, subst (Asked (c .before .before .before .args .z) (c .before .before .before .args .page .now)) (c .before .op .given .1) (c .before .before .before .pre .1))
+
+commit-needs-requires : tie.Need-commit-needs-requires
+commit-needs-requires c κs = omega (arith, held-le _ _ _ _ (c .held-count .ensures), c .before .before .before .before .pre .0)
+
+enum-known-op-2 : tie.Need-enum-known-op-2
+enum-known-op-2 c = search needs
+
+slot-of-requires : tie.Need-slot-of-requires
+slot-of-requires c κs = search needs
+
+mul-consolidate-needs : tie.Need-mul-consolidate-needs
+mul-consolidate-needs c = omega (arith, slot-low c, c .before .before .before .before .pre .0)
+
+element-copy-out-consolidate-needs : tie.Need-element-copy-out-consolidate-needs
+element-copy-out-consolidate-needs c = omega (arith, slot-low c, c .before .before .before .before .pre .0)
+
+consolidate-needs-requires : tie.Need-consolidate-needs-requires
+consolidate-needs-requires c κs = search needs
+
+enum-told-3 : tie.Need-enum-told-3
+enum-told-3 c = search needs
+
+checkpoint-needs-requires : tie.Need-checkpoint-needs-requires
+checkpoint-needs-requires c κs = search needs
+
+returns : tie.Need-returns
+returns c = sym (ap (count (c .before .before)) (c .enum-told .given .1))
+
+returns-2 : tie.Need-returns-2
+returns-2 c = sym (ap (count (c .before .before)) (c .enum-told2 .given .1))
+
+returns-3 : tie.Need-returns-3
+returns-3 c = c .commit-needs .ensures ∙ ap commitNeeds (c .before .held-count .ensures) ∙ sym (ap (count (c .before .before .before .before .before)) (c .before .before .before .op .given .1))
+
+returns-4 : tie.Need-returns-4
+returns-4 c = rw (c .before .before .slot-of .ensures) at (c .consolidate-needs .ensures) ∙ sym (ap (count (c .before .before .before .before .before .before)) (c .before .before .before .before .op2 .given .1))
+
+returns-5 : tie.Need-returns-5
+returns-5 c = c .checkpoint-needs .ensures ∙ sym (ap (count (c .before .before .before)) (c .before .enum-told3 .given .1))
+
+pub op-needs-spec : {M : Type 1} → statement M
+op-needs-spec =
+    tie.close
+    (tie.spec
+    enum-told
+    enum-told-2
+    enum-known-op
+    held-count-requires
+    commit-needs-requires
+    enum-known-op-2
+    slot-of-requires
+    mul-consolidate-needs
+    element-copy-out-consolidate-needs
+    consolidate-needs-requires
+    enum-told-3
+    checkpoint-needs-requires
+    returns
+    returns-2
+    returns-3
+    returns-4
+    returns-5)

@@ -1,0 +1,65 @@
+use Prim.Native.Nat.{_≤_, _-_}
+use mathlib.Core.Bool.{not}
+use mathlib.Core.Path.{_≡_, sym, _∙_}
+use native.Mathlib.Omega.{arith}
+use lib.ListN.{getD}
+use lib.Dec.{eqb}
+use borrow.Author.Needs.{needs}
+use Rattle.bounded.proofs.Those.{length-those}
+use Rattle.bounded.proofs.Below.{count-none, count-turn, count-ends}
+use Rattle.bounded.specs.Below.{countBelow}
+use Rattle.replay.specs.Table.{noPosition}
+use Rattle.operations.specs.Operations.{recordedSlots}
+use Rattle.state.proofs.Numbers.{one-small}
+use Rattle.needs.proofs.recorded_count.Statement.{statement}
+use Rattle.needs.proofs.recorded_count.Tie as tie
+
+abbrev Inv-loop : tie.InvT-loop
+Inv-loop z last n₀ s₀ n s = (s ≤ z .slots) × (n ≤ s) × (n ≡ countBelow s (λ k. not (eqb (getD last k 0) noPosition)))
+
+abbrev μ-loop : tie.MeasureT-loop
+μ-loop z last n₀ s₀ n s = z .slots - s
+
+loop-holds : tie.Need-loop-holds Inv-loop μ-loop
+loop-holds c = (search needs, search needs, count-none _)
+
+mul-one-if : tie.Need-mul-one-if Inv-loop μ-loop
+mul-one-if c = search needs
+
+element-copy-out-one-if : tie.Need-element-copy-out-one-if Inv-loop μ-loop
+element-copy-out-one-if c = search needs
+
+one-if-requires : tie.Need-one-if-requires Inv-loop μ-loop
+one-if-requires c κs = search needs
+
+add-n : tie.Need-add-n Inv-loop μ-loop
+add-n c = omega (arith, one-small _ _ (c .one-if .ensures))
+
+add-s : tie.Need-add-s Inv-loop μ-loop
+add-s c = search needs
+
+loop-less : tie.Need-loop-less Inv-loop μ-loop
+loop-less c = search needs
+
+loop-again : tie.Need-loop-again Inv-loop μ-loop
+loop-again c = (search needs, omega (arith, one-small _ _ (c .one-if .ensures)), count-turn _ _ _ _ (c .before .before .before .before .loop .inv .2) (c .one-if .ensures))
+
+returns : tie.Need-returns Inv-loop μ-loop
+unfolding recordedSlots
+returns c = count-ends _ _ _ _ (c .before .before .loop .inv .0) (c .if1 .left) (c .before .before .loop .inv .2) ∙ sym (length-those _ _)
+
+pub recorded-count-spec : {M : Type 1} → statement M
+recorded-count-spec =
+    tie.close
+    (tie.spec
+    Inv-loop
+    μ-loop
+    loop-holds
+    mul-one-if
+    element-copy-out-one-if
+    one-if-requires
+    add-n
+    add-s
+    loop-less
+    loop-again
+    returns)
