@@ -1,4 +1,4 @@
-// The line that a line of powerhit's script prints. Each part gives where the next one goes.
+// The line that a line of a script prints, in powerhit and in probe. Each part gives where the next one goes.
 ghost use mathlib.Core.List.{[], _∷_};
 ghost use Prim.Native.Nat.{_+_, _≤_};
 ghost use lib.ListN.{length};
