@@ -3,9 +3,6 @@ use Rattle.answers.proofs.Answered.{refused-known}
 use Rattle.answers.proofs.refused.Statement.{statement}
 use Rattle.answers.proofs.refused.Tie as tie
 
-answer-of-requires : tie.Need-answer-of-requires
-answer-of-requires c κs = search needs
-
 returns : tie.Need-returns
 returns c = refused-known _ (c .before .args .row) (c .before .args .st) (c .before .pre) (c .answer-of .ensures)
 
@@ -13,5 +10,5 @@ pub refused-spec : {M : Type 1} → statement M
 refused-spec =
     tie.close
     (tie.spec
-    answer-of-requires
+    (λ c κs. search needs)
     returns)

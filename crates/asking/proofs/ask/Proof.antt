@@ -24,9 +24,6 @@ none1 c =
     let a = c .before .before .before .before .before .before .before .before .before .before .before .before .args in
     let q = ask-none (a .st) (a .n) (a .op) (sym (c .before .ask-row .ensures) ∙ c .if1 .left) in (ranges-of (a .st) (q .0), q .1)
 
-ask-row-requires : tie.Need-ask-row-requires
-ask-row-requires c κs = search needs
-
 refused-requires : tie.Need-refused-requires
 refused-requires c κs = let a = c .before .before .before .before .before .before .before .before .before .before .before .before .args in rw (c .before .ask-row .ensures) (ask-known (a .st) (a .n) (a .op))
 
@@ -42,19 +39,10 @@ completed-at-once-requires : tie.Need-completed-at-once-requires
 unfolding storesNeeded
 completed-at-once-requires c κs = let q = none1 (c .before .before .before .before .before .before .before .before) in (q .0, q .1, c .before .before .before .before .before .before .before .before .before .before .before .before .before .before .before .before .before .before .before .before .pre, sym (c .before .op-needs .ensures) ∙ c .if2 .taken)
 
-taken-requires : tie.Need-taken-requires
-taken-requires c κs = search needs
-
 returns-2 : tie.Need-returns-2
 unfolding storesNeeded
 returns-2 c = let s = c .before .before .before .before .before .before .before .before .before .before .before .before .before .before .before .before .before .before .before .before .before .before in
     ask-done (s .args .st) (s .args .op) line 0 (c .taken .result) (rows s) _ _ (sym (c .before .before .before .before .before .before .before .before .before .before .if1 .left) ∙ c .before .before .before .before .before .before .before .before .before .before .before .ask-row .ensures) (c .before .before .before .op-needs .ensures) (c .before .before .if2 .taken) (c .before .completed-at-once .ensures) (c .taken .ensures)
-
-pending-from-requires : tie.Need-pending-from-requires
-pending-from-requires c κs = search needs
-
-taken-requires-2 : tie.Need-taken-requires-2
-taken-requires-2 c κs = search needs
 
 returns-3 : tie.Need-returns-3
 unfolding storesNeeded
@@ -65,13 +53,13 @@ pub ask-spec : {M : Type 1} → statement M
 ask-spec =
     tie.close
     (tie.spec
-    ask-row-requires
+    (λ c κs. search needs)
     refused-requires
     returns
     op-needs-requires
     completed-at-once-requires
-    taken-requires
+    (λ c κs. search needs)
     returns-2
-    pending-from-requires
-    taken-requires-2
+    (λ c κs. search needs)
+    (λ c κs. search needs)
     returns-3)

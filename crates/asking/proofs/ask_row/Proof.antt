@@ -18,9 +18,6 @@ st c =
 quiet1 : (c : tie.Else1) → Quiet (st (c .before .before)) (c .before .before .args .n)
 quiet1 c = quiet (st (c .before .before)) (c .before .before .args .n) _ (c .before .first-row .ensures) (c .if1 .left)
 
-first-row-requires : tie.Need-first-row-requires
-first-row-requires c κs = search needs
-
 returns : tie.Need-returns
 returns c =
     let s = c .before .before in
@@ -38,7 +35,7 @@ pub ask-row-spec : {M : Type 1} → statement M
 ask-row-spec =
     tie.close
     (tie.spec
-    first-row-requires
+    (λ c κs. search needs)
     returns
     op-row-requires
     returns-2)

@@ -8,29 +8,11 @@ use borrow.Author.Needs.{needs}
 use Rattle.asking.proofs.completed_at_once.Statement.{statement}
 use Rattle.asking.proofs.completed_at_once.Tie as tie
 
-no-pending-requires : tie.Need-no-pending-requires
-no-pending-requires c κs = search needs
-
-enum-told : tie.Need-enum-told
-enum-told c = search needs
-
-enum-told-2 : tie.Need-enum-told-2
-enum-told-2 c = search needs
-
-enum-known-op : tie.Need-enum-known-op
-enum-known-op c = search needs
-
 set-open-requires : tie.Need-set-open-requires
 set-open-requires c κs = commit-taken (c .before .before .before .before .before .before .args .st) _ (rw (c .before .before .op .given .1) at (c .before .before .before .before .before .before .pre .1)) .writer-low
 
 let-go-requires : tie.Need-let-go-requires
 let-go-requires c κs = (c .before .before .before .before .before .before .before .before .pre .0 .legal, commit-taken (c .before .before .before .before .before .before .before .before .args .st) _ (rw (c .before .before .before .before .op .given .1) at (c .before .before .before .before .before .before .before .before .pre .1)) .writer-low)
-
-enum-told-3 : tie.Need-enum-told-3
-enum-told-3 c = search needs
-
-enum-told-4 : tie.Need-enum-told-4
-enum-told-4 c = search needs
 
 complete-checkpoint-requires : tie.Need-complete-checkpoint-requires
 complete-checkpoint-requires c κs = c .before .before .before .before .before .pre .0 .legal
@@ -58,14 +40,14 @@ pub completed-at-once-spec : {M : Type 1} → statement M
 completed-at-once-spec =
     tie.close
     (tie.spec
-    no-pending-requires
-    enum-told
-    enum-told-2
-    enum-known-op
+    (λ c κs. search needs)
+    (λ c. search needs)
+    (λ c. search needs)
+    (λ c. search needs)
     set-open-requires
     let-go-requires
-    enum-told-3
-    enum-told-4
+    (λ c. search needs)
+    (λ c. search needs)
     complete-checkpoint-requires
     returns
     returns-2

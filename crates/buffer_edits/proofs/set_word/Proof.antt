@@ -6,26 +6,11 @@ use Rattle.buffer_edits.proofs.Forms.{word-formed}
 use Rattle.buffer_edits.proofs.set_word.Statement.{statement}
 use Rattle.buffer_edits.proofs.set_word.Tie as tie
 
-element-copy-out-i : tie.Need-element-copy-out-i
-element-copy-out-i c = search needs
-
-element-copy-out-store-word : tie.Need-element-copy-out-store-word
-element-copy-out-store-word c = search needs
-
 store-word-requires : tie.Need-store-word-requires
 store-word-requires c κs = omega (arith, word-formed (length (c .before .before .before .before .before .args .buffer .now)) (c .before .before .before .before .before .args .t3) (c .before .before .if1 .taken))
 
-edited-requires : tie.Need-edited-requires
-edited-requires c κs = search needs
-
-same-length : tie.Need-same-length
-same-length c = search needs
-
 returns : tie.Need-returns
 returns c = rw (c .before .before .before .before .before .before .if1 .taken) (c .edited .ensures, c .before .before .before .store-word .ensures)
-
-other-requires : tie.Need-other-requires
-other-requires c κs = search needs
 
 returns-2 : tie.Need-returns-2
 returns-2 c = rw (c .before .if1 .left) (c .other .ensures, refl)
@@ -34,11 +19,11 @@ pub set-word-spec : {M : Type 1} → statement M
 set-word-spec =
     tie.close
     (tie.spec
-    element-copy-out-i
-    element-copy-out-store-word
+    (λ c. search needs)
+    (λ c. search needs)
     store-word-requires
-    edited-requires
-    same-length
+    (λ c κs. search needs)
+    (λ c. search needs)
     returns
-    other-requires
+    (λ c κs. search needs)
     returns-2)

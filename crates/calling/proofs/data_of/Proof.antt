@@ -20,29 +20,11 @@ abbrev μ-loop : tie.MeasureT-loop
 loop-holds : tie.Need-loop-holds Inv-loop μ-loop
 loop-holds c = (search needs, filled-none _ _)
 
-add-bytes : tie.Need-add-bytes Inv-loop μ-loop
-add-bytes c = search needs
-
-mul-bytes : tie.Need-mul-bytes Inv-loop μ-loop
-mul-bytes c = search needs
-
-element-copy-out-bytes : tie.Need-element-copy-out-bytes Inv-loop μ-loop
-element-copy-out-bytes c = search needs
-
 cast-bytes : tie.Need-cast-bytes Inv-loop μ-loop
 cast-bytes c =
     let a = c .before .before .before .args in
     let low = all-at (λ k. leb (datum (a .numbers .now) k) 255) (a .n) (c .before .before .loop .i) (c .before .loop-test .taken) (c .before .before .before .pre .1) in
     omega (arith, leb-true (datum (a .numbers .now) (c .before .before .loop .i)) 255 low)
-
-array-write-bytes : tie.Need-array-write-bytes Inv-loop μ-loop
-array-write-bytes c = search needs
-
-add-i : tie.Need-add-i Inv-loop μ-loop
-add-i c = search needs
-
-loop-less : tie.Need-loop-less Inv-loop μ-loop
-loop-less c = search needs
 
 loop-again : tie.Need-loop-again Inv-loop μ-loop
 loop-again c = (search needs, filled-turn _ _ _ _ _ (c .before .before .loop .inv .1) refl)
@@ -57,12 +39,12 @@ data-of-spec =
     Inv-loop
     μ-loop
     loop-holds
-    add-bytes
-    mul-bytes
-    element-copy-out-bytes
+    (λ c. search needs)
+    (λ c. search needs)
+    (λ c. search needs)
     cast-bytes
-    array-write-bytes
-    add-i
-    loop-less
+    (λ c. search needs)
+    (λ c. search needs)
+    (λ c. search needs)
     loop-again
     returns)

@@ -7,9 +7,6 @@ use Rattle.calling.proofs.Stored.{stores-none}
 use Rattle.calling.proofs.stores_of.Statement.{statement}
 use Rattle.calling.proofs.stores_of.Tie as tie
 
-enum-known-a : tie.Need-enum-known-a
-enum-known-a c = search needs
-
 returns : tie.Need-returns
 returns c = stores-none (c .before .args .a) (λ n e. miss (1 ∷ 2 ∷ 3 ∷ 4 ∷ 5 ∷ 6 ∷ 7 ∷ 8 ∷ 9 ∷ 10 ∷ 11 ∷ 12 ∷ 13 ∷ 14 ∷ 15 ∷ 16 ∷ 17 ∷ 18 ∷ 19 ∷ []) 0 tt (rw e at (c .match .keys2)))
 
@@ -20,6 +17,6 @@ pub stores-of-spec : {M : Type 1} → statement M
 stores-of-spec =
     tie.close
     (tie.spec
-    enum-known-a
+    (λ c. search needs)
     returns
     returns-2)

@@ -17,21 +17,6 @@ sub-n c = known (c .before) .five
 data-of-requires : tie.Need-data-of-requires
 data-of-requires c κs = let k = known (c .before) in (omega (arith, k .most), k .bytes)
 
-element-copy-out-write : tie.Need-element-copy-out-write
-element-copy-out-write c = search needs
-
-element-copy-out-write-2 : tie.Need-element-copy-out-write-2
-element-copy-out-write-2 c = search needs
-
-element-copy-out-write-3 : tie.Need-element-copy-out-write-3
-element-copy-out-write-3 c = search needs
-
-element-copy-out-write-4 : tie.Need-element-copy-out-write-4
-element-copy-out-write-4 c = search needs
-
-element-copy-out-write-5 : tie.Need-element-copy-out-write-5
-element-copy-out-write-5 c = search needs
-
 -- the array holds the data
 fits : (c : tie.After-data-of) → c .before .before .args .count - 5 ≤ length (c .data-of .result)
 fits c =
@@ -43,9 +28,6 @@ array-share-prefix-bytes c = fits (c .before .before .before .before .before)
 
 slice-aggregate-write : tie.Need-slice-aggregate-write
 slice-aggregate-write c = sym (length-take-le _ _ (fits (c .before .before .before .before .before .before)))
-
-write-requires : tie.Need-write-requires
-write-requires c κs = search needs
 
 returns : tie.Need-returns
 returns c =
@@ -59,12 +41,12 @@ write-spec =
     (tie.spec
     sub-n
     data-of-requires
-    element-copy-out-write
-    element-copy-out-write-2
-    element-copy-out-write-3
-    element-copy-out-write-4
-    element-copy-out-write-5
+    (λ c. search needs)
+    (λ c. search needs)
+    (λ c. search needs)
+    (λ c. search needs)
+    (λ c. search needs)
     array-share-prefix-bytes
     slice-aggregate-write
-    write-requires
+    (λ c κs. search needs)
     returns)

@@ -10,15 +10,6 @@ use Rattle.refinement.proofs.CheckpointPlaces.{default-none}
 use Rattle.checkpoints.proofs.last_words.Statement.{statement}
 use Rattle.checkpoints.proofs.last_words.Tie as tie
 
-mul-record-word : tie.Need-mul-record-word
-mul-record-word c = search needs
-
-element-copy-out-record-word : tie.Need-element-copy-out-record-word
-element-copy-out-record-word c = search needs
-
-record-word-requires : tie.Need-record-word-requires
-record-word-requires c κs = search needs
-
 add-result : tie.Need-add-result
 add-result c =
     let s = c .before .before in
@@ -33,8 +24,8 @@ pub last-words-spec : {M : Type 1} → statement M
 last-words-spec =
     tie.close
     (tie.spec
-    mul-record-word
-    element-copy-out-record-word
-    record-word-requires
+    (λ c. search needs)
+    (λ c. search needs)
+    (λ c κs. search needs)
     add-result
     returns)

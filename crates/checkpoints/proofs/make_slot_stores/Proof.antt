@@ -27,20 +27,11 @@ add-at c =
     let s = c .before .before .before in
     omega (arith, recorded-le (s .args .z) (s .args .last .now) _ refl, s .pre .0, s .pre .2, c .loop-test .taken)
 
-recorded-slot-requires : tie.Need-recorded-slot-requires Inv-loop μ-loop
-recorded-slot-requires c κs = search needs
-
 last-words-requires : tie.Need-last-words-requires Inv-loop μ-loop
 last-words-requires c κs =
     let s = c .before .before .before .before in
     let l = recorded-slot-low (s .args .z) (s .args .last .now) _ _ (s .pre .0) (c .recorded-slot .ensures) in
     (s .pre .0, omega (arith, s .pre .0, s .pre .1), omega (arith, s .pre .0))
-
-sub-in-piece : tie.Need-sub-in-piece Inv-loop μ-loop
-sub-in-piece c = search needs
-
-in-piece-requires : tie.Need-in-piece-requires Inv-loop μ-loop
-in-piece-requires c κs = search needs
 
 slot-word-requires : tie.Need-slot-word-requires Inv-loop μ-loop
 slot-word-requires c κs =
@@ -68,9 +59,6 @@ loop-again c =
       checkpoint-turn (checkpointing (s .args .z) (s .args .head) (s .args .last .now)) (s .args .from) (s .args .image .now) (h .i) _ _ _ _ _ _ (h .inv .2) (c .before .before .before .before .before .before .before .recorded-slot .ensures) (c .before .before .before .before .before .before .last-words .ensures) (c .before .before .before .slot-word .ensures) (omega (arith, c .before .before .before .before .before .in-piece .ensures)) (omega (arith, c .before .before .before .before .before .in-piece .ensures, c .before .before .before .before .before .before .before .before .loop-test .taken, s .pre .2)) (c .before .before .copy-words .ensures),
     )
 
-same-length : tie.Need-same-length Inv-loop μ-loop
-same-length c = search needs
-
 returns : tie.Need-returns Inv-loop μ-loop
 returns c = up-ends _ _ _ _ _ (c .before .loop .inv .0) (c .loop-test .left) (c .before .loop .inv .2)
 
@@ -82,14 +70,14 @@ make-slot-stores-spec =
     μ-loop
     loop-holds
     add-at
-    recorded-slot-requires
+    (λ c κs. search needs)
     last-words-requires
-    sub-in-piece
-    in-piece-requires
+    (λ c. search needs)
+    (λ c κs. search needs)
     slot-word-requires
     copy-words-requires
     add-i
     loop-less
     loop-again
-    same-length
+    (λ c. search needs)
     returns)

@@ -29,24 +29,9 @@ loop-holds : tie.Need-loop-holds Inv-loop μ-loop
 unfolding countBelow
 loop-holds c = search needs
 
-mul-if2 : tie.Need-mul-if2 Inv-loop μ-loop
-mul-if2 c = search needs
-
-element-copy-out-if2 : tie.Need-element-copy-out-if2 Inv-loop μ-loop
-element-copy-out-if2 c = search needs
-
 returns : tie.Need-returns Inv-loop μ-loop
 unfolding recordedSlots
 returns c = nth-found _ _ _ _ (c .before .before .before .before .before .loop .left) (c .before .before .before .before .before .loop .inv .1) (c .before .before .before .if1 .taken) (ap not (ne-eqb _ _ (c .before .if2 .taken))) (c .if3 .taken)
-
-sub-left : tie.Need-sub-left Inv-loop μ-loop
-sub-left c = search needs
-
-add-s : tie.Need-add-s Inv-loop μ-loop
-add-s c = search needs
-
-loop-less : tie.Need-loop-less Inv-loop μ-loop
-loop-less c = search needs
 
 loop-again : tie.Need-loop-again Inv-loop μ-loop
 unfolding one
@@ -71,11 +56,11 @@ recorded-slot-spec =
     Inv-loop
     μ-loop
     loop-holds
-    mul-if2
-    element-copy-out-if2
+    (λ c. search needs)
+    (λ c. search needs)
     returns
-    sub-left
-    add-s
-    loop-less
+    (λ c. search needs)
+    (λ c. search needs)
+    (λ c. search needs)
     loop-again
     returns-2)

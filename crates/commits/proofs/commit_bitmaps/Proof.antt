@@ -18,9 +18,6 @@ abbrev μ-loop : tie.MeasureT-loop
 loop-holds : tie.Need-loop-holds Inv-loop μ-loop
 loop-holds c = (search needs, up-none _ _)
 
-held-slot-requires : tie.Need-held-slot-requires Inv-loop μ-loop
-held-slot-requires c κs = search needs
-
 mul-exclusive-or : tie.Need-mul-exclusive-or Inv-loop μ-loop
 mul-exclusive-or c =
     let s = c .before .before .before .before in
@@ -57,9 +54,6 @@ element-copy-out-exclusive-or-2 c =
     let h : c .before .held-slot .result < 16 = omega (arith, held-slot-low (s .args .z) (s .args .held .now) (s .args .w) _ _ (s .pre .0) (c .before .held-slot .ensures), s .pre .0) in
     search needs
 
-exclusive-or-requires : tie.Need-exclusive-or-requires Inv-loop μ-loop
-exclusive-or-requires c κs = search needs
-
 mul-out : tie.Need-mul-out Inv-loop μ-loop
 mul-out c =
     let s = c .before .before .before .before .before .before .before in
@@ -94,14 +88,14 @@ commit-bitmaps-spec =
     Inv-loop
     μ-loop
     loop-holds
-    held-slot-requires
+    (λ c κs. search needs)
     mul-exclusive-or
     element-copy-out-exclusive-or
     mul-exclusive-or-2
     add-exclusive-or
     mul-exclusive-or-3
     element-copy-out-exclusive-or-2
-    exclusive-or-requires
+    (λ c κs. search needs)
     mul-out
     array-write-out
     add-j

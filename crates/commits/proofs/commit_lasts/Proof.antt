@@ -18,9 +18,6 @@ abbrev μ-loop : tie.MeasureT-loop
 loop-holds : tie.Need-loop-holds Inv-loop μ-loop
 loop-holds c = (search needs, up-none _ _)
 
-held-slot-requires : tie.Need-held-slot-requires Inv-loop μ-loop
-held-slot-requires c κs = search needs
-
 position-requires : tie.Need-position-requires Inv-loop μ-loop
 position-requires c κs =
     let s = c .before .before .before .before in (s .pre .0, s .pre .1, omega (arith, s .pre .3, c .before .loop-test .taken))
@@ -59,7 +56,7 @@ commit-lasts-spec =
     Inv-loop
     μ-loop
     loop-holds
-    held-slot-requires
+    (λ c κs. search needs)
     position-requires
     mul-out
     array-write-out

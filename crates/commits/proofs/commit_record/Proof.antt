@@ -7,17 +7,11 @@ use borrow.Author.Needs.{needs}
 use Rattle.commits.proofs.commit_record.Statement.{statement}
 use Rattle.commits.proofs.commit_record.Tie as tie
 
-held-slot-requires : tie.Need-held-slot-requires
-held-slot-requires c κs = search needs
-
 slot-at-requires : tie.Need-slot-at-requires
 slot-at-requires c κs =
     let s = c .before in
     let h : c .held-slot .result < 16 = omega (arith, held-slot-low (s .args .z) (s .args .held .now) (s .args .w) (s .args .j) _ (s .pre .0) (c .held-slot .ensures), s .pre .0) in
     search needs
-
-mul-exclusive-or : tie.Need-mul-exclusive-or
-mul-exclusive-or c = search needs
 
 add-exclusive-or : tie.Need-add-exclusive-or
 add-exclusive-or c =
@@ -37,9 +31,6 @@ element-copy-out-exclusive-or c =
     let h : c .before .held-slot .result < 16 = omega (arith, held-slot-low (s .args .z) (s .args .held .now) (s .args .w) (s .args .j) _ (s .pre .0) (c .before .held-slot .ensures), s .pre .0) in
     search needs
 
-exclusive-or-requires : tie.Need-exclusive-or-requires
-exclusive-or-requires c κs = search needs
-
 returns : tie.Need-returns
 returns c =
     let s = c .before .before .before .before in
@@ -49,11 +40,11 @@ pub commit-record-spec : {M : Type 1} → statement M
 commit-record-spec =
     tie.close
     (tie.spec
-    held-slot-requires
+    (λ c κs. search needs)
     slot-at-requires
-    mul-exclusive-or
+    (λ c. search needs)
     add-exclusive-or
     mul-exclusive-or-2
     element-copy-out-exclusive-or
-    exclusive-or-requires
+    (λ c κs. search needs)
     returns)

@@ -8,27 +8,9 @@ use borrow.Author.Needs.{needs}
 use Rattle.commits.proofs.complete_commit.Statement.{statement}
 use Rattle.commits.proofs.complete_commit.Tie as tie
 
-held-count-requires : tie.Need-held-count-requires
-held-count-requires c κs = search needs
-
-commit-bitmaps-requires : tie.Need-commit-bitmaps-requires
-commit-bitmaps-requires c κs = search needs
-
 commit-lasts-requires : tie.Need-commit-lasts-requires
 commit-lasts-requires c κs = let s = c .before .before .before .before .before .before .before in
     (s .pre .0, s .pre .1, s .pre .2, omega (arith, held-le _ _ _ _ (c .before .before .before .before .before .held-count .ensures), s .pre .0))
-
-put-masks-requires : tie.Need-put-masks-requires
-put-masks-requires c κs = search needs
-
-put-all-requires : tie.Need-put-all-requires
-put-all-requires c κs = search needs
-
-let-go-requires : tie.Need-let-go-requires
-let-go-requires c κs = search needs
-
-set-open-requires : tie.Need-set-open-requires
-set-open-requires c κs = search needs
 
 position-requires : tie.Need-position-requires
 position-requires c κs = let s = c .before .before .before .before .before .before .before .before .before .before .before .before .before .before .before .before in
@@ -45,12 +27,12 @@ pub complete-commit-spec : {M : Type 1} → statement M
 complete-commit-spec =
     tie.close
     (tie.spec
-    held-count-requires
-    commit-bitmaps-requires
+    (λ c κs. search needs)
+    (λ c κs. search needs)
     commit-lasts-requires
-    put-masks-requires
-    put-all-requires
-    let-go-requires
-    set-open-requires
+    (λ c κs. search needs)
+    (λ c κs. search needs)
+    (λ c κs. search needs)
+    (λ c κs. search needs)
     position-requires
     returns)

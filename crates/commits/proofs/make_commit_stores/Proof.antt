@@ -7,17 +7,11 @@ use Rattle.commits.proofs.CommitMade.{commit-ended}
 use Rattle.commits.proofs.make_commit_stores.Statement.{statement}
 use Rattle.commits.proofs.make_commit_stores.Tie as tie
 
-held-count-requires : tie.Need-held-count-requires
-held-count-requires c κs = search needs
-
 mul-smaller : tie.Need-mul-smaller
 mul-smaller c = omega (arith, held-le _ _ _ _ (c .held-count .ensures), c .before .before .pre .0)
 
 sub-smaller : tie.Need-sub-smaller
 sub-smaller c = omega (arith, c .held-count .ensures, c .before .before .pre .4)
-
-smaller-requires : tie.Need-smaller-requires
-smaller-requires c κs = search needs
 
 make-record-stores-requires : tie.Need-make-record-stores-requires
 make-record-stores-requires c κs =
@@ -29,19 +23,10 @@ position-requires c κs =
     let s = c .before .before .before .before .before .before .before .before in
     (s .pre .0, s .pre .1, omega (arith, held-le _ _ _ _ (c .before .before .before .before .before .before .held-count .ensures), s .pre .0))
 
-store-word-requires : tie.Need-store-word-requires
-store-word-requires c κs = search needs
-
-same-length : tie.Need-same-length
-same-length c = search needs
-
 returns : tie.Need-returns
 returns c =
     let s = c .before .before .before .before .before .before .before .before .before .before .before .before .before in
     commit-ended (committing (s .args .z) (s .args .head) (s .args .page .now) (s .args .original .now) (s .args .spare .now) (s .args .bitmap .now) (s .args .held .now)) (s .args .w) (s .args .from) (s .args .image .now) (c .before .before .before .before .before .before .before .before .before .before .smaller .result) (s .args .n) _ _ _ _ (c .before .before .before .before .before .before .before .before .make-record-stores .ensures) (c .before .before .before .before .before .before .before .before .before .before .before .held-count .ensures) (omega (arith, c .before .before .before .before .before .before .before .before .before .before .smaller .ensures, c .before .before .before .before .before .before .before .before .before .before .before .held-count .ensures, s .pre .4, s .pre .5, c .before .before .before .before .before .if1 .taken)) (omega (arith, c .before .before .before .before .before .before .before .before .before .before .smaller .ensures, c .before .before .before .before .before .before .before .before .before .before .before .held-count .ensures, s .pre .4, s .pre .5, c .before .before .before .before .before .if1 .taken)) (c .before .before .before .before .position .ensures) (c .before .before .store-word .ensures)
-
-same-length-2 : tie.Need-same-length-2
-same-length-2 c = search needs
 
 returns-2 : tie.Need-returns-2
 returns-2 c = up-ends _ _ _ _ _ (omega (arith, c .before .before .before .before .before .smaller .ensures)) (c .if1 .left) (c .before .before .before .make-record-stores .ensures)
@@ -50,14 +35,14 @@ pub make-commit-stores-spec : {M : Type 1} → statement M
 make-commit-stores-spec =
     tie.close
     (tie.spec
-    held-count-requires
+    (λ c κs. search needs)
     mul-smaller
     sub-smaller
-    smaller-requires
+    (λ c κs. search needs)
     make-record-stores-requires
     position-requires
-    store-word-requires
-    same-length
+    (λ c κs. search needs)
+    (λ c. search needs)
     returns
-    same-length-2
+    (λ c. search needs)
     returns-2)

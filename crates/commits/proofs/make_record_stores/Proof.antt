@@ -27,19 +27,10 @@ add-at c =
     let s = c .before .before .before in
     omega (arith, held-le (s .args .z) (s .args .held .now) (s .args .w) _ refl, s .pre .0, s .pre .4)
 
-commit-record-requires : tie.Need-commit-record-requires Inv-loop μ-loop
-commit-record-requires c κs = search needs
-
 record-place-requires : tie.Need-record-place-requires Inv-loop μ-loop
 record-place-requires c κs =
     let s = c .before .before .before .before in
     (s .pre .0, s .pre .1, omega (arith, held-le (s .args .z) (s .args .held .now) (s .args .w) _ refl, s .pre .0, s .pre .4, c .before .loop-test .taken))
-
-sub-in-piece : tie.Need-sub-in-piece Inv-loop μ-loop
-sub-in-piece c = search needs
-
-in-piece-requires : tie.Need-in-piece-requires Inv-loop μ-loop
-in-piece-requires c κs = search needs
 
 store-record-words-requires : tie.Need-store-record-words-requires Inv-loop μ-loop
 store-record-words-requires c κs =
@@ -65,9 +56,6 @@ loop-again c =
       commit-turn (committing (s .args .z) (s .args .head) (s .args .page .now) (s .args .original .now) (s .args .spare .now) (s .args .bitmap .now) (s .args .held .now)) (s .args .w) (s .args .from) (s .args .image .now) (h .i) _ _ _ _ _ (h .inv .2) (c .before .before .before .before .before .before .commit-record .ensures) (c .before .before .before .before .before .record-place .ensures) (omega (arith, c .before .before .before .before .in-piece .ensures)) (omega (arith, c .before .before .before .before .in-piece .ensures, c .before .before .before .before .before .before .before .loop-test .taken, s .pre .4)) (c .before .before .store-record-words .ensures),
     )
 
-same-length : tie.Need-same-length Inv-loop μ-loop
-same-length c = search needs
-
 returns : tie.Need-returns Inv-loop μ-loop
 returns c = up-ends _ _ _ _ _ (c .before .loop .inv .0) (c .loop-test .left) (c .before .loop .inv .2)
 
@@ -79,13 +67,13 @@ make-record-stores-spec =
     μ-loop
     loop-holds
     add-at
-    commit-record-requires
+    (λ c κs. search needs)
     record-place-requires
-    sub-in-piece
-    in-piece-requires
+    (λ c. search needs)
+    (λ c κs. search needs)
     store-record-words-requires
     add-i
     loop-less
     loop-again
-    same-length
+    (λ c. search needs)
     returns)

@@ -8,17 +8,8 @@ use borrow.Author.Needs.{needs}
 use Rattle.consolidations.proofs.complete_consolidate.Statement.{statement}
 use Rattle.consolidations.proofs.complete_consolidate.Tie as tie
 
-slot-of-requires : tie.Need-slot-of-requires
-slot-of-requires c κs = search needs
-
 slot-at-requires : tie.Need-slot-at-requires
 slot-at-requires c κs = omega (arith, c .before .before .before .before .slot-of .ensures, c .before .before .before .before .before .before .pre .0, c .before .before .before .before .before .before .pre .2)
-
-copy-from-requires : tie.Need-copy-from-requires
-copy-from-requires c κs = search needs
-
-free-slot-requires : tie.Need-free-slot-requires
-free-slot-requires c κs = search needs
 
 put-requires : tie.Need-put-requires
 put-requires c κs = omega (arith, c .before .before .before .before .before .before .before .before .slot-of .ensures, c .before .before .before .before .before .before .before .before .before .before .pre .0, c .before .before .before .before .before .before .before .before .before .before .pre .2)
@@ -50,10 +41,10 @@ pub complete-consolidate-spec : {M : Type 1} → statement M
 complete-consolidate-spec =
     tie.close
     (tie.spec
-    slot-of-requires
+    (λ c κs. search needs)
     slot-at-requires
-    copy-from-requires
-    free-slot-requires
+    (λ c κs. search needs)
+    (λ c κs. search needs)
     put-requires
     put-requires-2
     put-requires-3

@@ -4,15 +4,6 @@ use Rattle.refinement.proofs.ConsolidatePlaces.{copy-line}
 use Rattle.consolidations.proofs.copy_words.Statement.{statement}
 use Rattle.consolidations.proofs.copy_words.Tie as tie
 
-copied-line-requires : tie.Need-copied-line-requires
-copied-line-requires c κs = search needs
-
-copy-from-requires : tie.Need-copy-from-requires
-copy-from-requires c κs = search needs
-
-copy-to-requires : tie.Need-copy-to-requires
-copy-to-requires c κs = search needs
-
 copy-line-words-requires : tie.Need-copy-line-words-requires
 copy-line-words-requires c κs =
     let s = c .before .before .before .before .before in (
@@ -24,9 +15,6 @@ copy-line-words-requires c κs =
       s .pre .5,
     )
 
-same-length : tie.Need-same-length
-same-length c = search needs
-
 returns : tie.Need-returns
 returns c = rw (c .before .before .before .before .copy-from .ensures, c .before .before .before .copy-to .ensures, c .before .before .before .before .before .before .copied-line .ensures) at (c .before .before .copy-line-words .ensures)
 
@@ -34,9 +22,9 @@ pub copy-words-spec : {M : Type 1} → statement M
 copy-words-spec =
     tie.close
     (tie.spec
-    copied-line-requires
-    copy-from-requires
-    copy-to-requires
+    (λ c κs. search needs)
+    (λ c κs. search needs)
+    (λ c κs. search needs)
     copy-line-words-requires
-    same-length
+    (λ c. search needs)
     returns)

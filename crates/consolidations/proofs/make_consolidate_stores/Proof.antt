@@ -19,9 +19,6 @@ slot-at-requires c κs =
     let s = c .before .before in
     omega (arith, slot-low (consolidating (s .args .z) (s .args .head) (s .args .page .now) (s .args .original .now) (s .args .spare .now) (s .args .bitmap .now)) (s .args .p) _ (s .pre .0 .has-slot) (c .slot-of .ensures), s .pre .0 .legal)
 
-freeing-record-requires : tie.Need-freeing-record-requires
-freeing-record-requires c κs = search needs
-
 make-pieces-requires : tie.Need-make-pieces-requires
 make-pieces-requires c κs =
     let s = c .before .before .before .before .before in
@@ -40,9 +37,6 @@ make-pieces-requires c κs =
       s .pre .2,
     )
 
-same-length : tie.Need-same-length
-same-length c = search needs
-
 returns : tie.Need-returns
 returns c =
     let s = c .before .before .before .before .before .before .before .before in
@@ -54,7 +48,7 @@ make-consolidate-stores-spec =
     (tie.spec
     slot-of-requires
     slot-at-requires
-    freeing-record-requires
+    (λ c κs. search needs)
     make-pieces-requires
-    same-length
+    (λ c. search needs)
     returns)

@@ -6,22 +6,13 @@ use Rattle.consolidations.proofs.ConsolidateMade.{line-made, page-made,
 use Rattle.consolidations.proofs.make_piece.Statement.{statement}
 use Rattle.consolidations.proofs.make_piece.Tie as tie
 
-copy-count-requires : tie.Need-copy-count-requires
-copy-count-requires c κs = search needs
-
 mul-c : tie.Need-mul-c
 mul-c c = omega (arith, copy-le _ _ (c .copy-count .ensures))
-
-in-piece-requires : tie.Need-in-piece-requires
-in-piece-requires c κs = search needs
 
 copy-words-requires : tie.Need-copy-words-requires
 copy-words-requires c κs =
     let s = c .before .before .before .before .before in
     (s .pre .0, s .pre .2, s .pre .3, omega (arith, c .before .before .before .copy-count .ensures, c .before .before .if1 .taken), omega (arith, c .before .in-piece .ensures), s .pre .7)
-
-same-length : tie.Need-same-length
-same-length c = search needs
 
 returns : tie.Need-returns
 returns c =
@@ -31,18 +22,6 @@ returns c =
       line-made (s .args .z) (s .args .head) (s .args .t) (s .args .e) (s .args .p) (s .args .at) (s .args .image .now) _ _ (omega (arith, c .before .before .before .before .before .before .copy-count .ensures, c .before .before .before .before .before .if1 .taken)) (omega (arith, c .before .before .before .before .in-piece .ensures)) (c .before .before .copy-words .ensures),
     )
 
-page-word-requires : tie.Need-page-word-requires
-page-word-requires c κs = search needs
-
-copy-to-requires : tie.Need-copy-to-requires
-copy-to-requires c κs = search needs
-
-store-word-requires : tie.Need-store-word-requires
-store-word-requires c κs = search needs
-
-same-length-2 : tie.Need-same-length-2
-same-length-2 c = search needs
-
 returns-2 : tie.Need-returns-2
 returns-2 c =
     let s = c .before .before .before .before .before .before .before .before .before .before in (
@@ -51,28 +30,10 @@ returns-2 c =
       page-made (s .args .z) (s .args .head) (s .args .t) (s .args .e) (s .args .p) (s .args .at) (s .args .image .now) _ (omega (arith, c .before .before .before .before .before .before .if2 .taken, c .before .before .before .before .before .before .before .before .copy-count .ensures)) (rw (c .before .before .before .before .page-word .ensures, c .before .before .before .copy-to .ensures) at (c .before .before .store-word .ensures)),
     )
 
-add-if3 : tie.Need-add-if3
-add-if3 c = search needs
-
-add-k : tie.Need-add-k
-add-k c = search needs
-
-sub-k : tie.Need-sub-k
-sub-k c = search needs
-
-in-piece-requires-2 : tie.Need-in-piece-requires-2
-in-piece-requires-2 c κs = search needs
-
-record-word-requires : tie.Need-record-word-requires
-record-word-requires c κs = search needs
-
 store-record-words-requires : tie.Need-store-record-words-requires
 store-record-words-requires c κs =
     let s = c .before .before .before .before .before .before .before .before in
     (s .pre .4, omega (arith, c .before .before .in-piece2 .ensures, c .before .before .before .if3 .taken), omega (arith, c .record-word .ensures, record-end (s .args .z) (s .pre .0) (s .args .head), s .pre .7))
-
-same-length-3 : tie.Need-same-length-3
-same-length-3 c = search needs
 
 returns-3 : tie.Need-returns-3
 returns-3 c =
@@ -81,15 +42,6 @@ returns-3 c =
       omega (arith, c .before .before .before .before .before .in-piece2 .ensures),
       record-made (s .args .z) (s .args .head) (s .args .t) (s .args .e) (s .args .p) (s .args .at) (s .args .image .now) _ _ (omega (arith, c .before .before .before .before .before .in-piece2 .ensures, c .before .before .before .before .before .before .if3 .taken, c .before .before .before .before .before .before .before .if2 .left, c .before .before .before .before .before .before .before .before .if1 .left, c .before .before .before .before .before .before .before .before .before .copy-count .ensures)) (omega (arith, c .before .before .before .before .before .in-piece2 .ensures, c .before .before .before .before .before .before .if3 .taken, c .before .before .before .before .before .before .before .if2 .left, c .before .before .before .before .before .before .before .before .if1 .left, c .before .before .before .before .before .before .before .before .before .copy-count .ensures)) (omega (arith, c .before .before .before .before .before .in-piece2 .ensures, c .before .before .before .before .before .before .if3 .taken, c .before .before .before .before .before .before .before .if2 .left, c .before .before .before .before .before .before .before .before .if1 .left, c .before .before .before .before .before .before .before .before .before .copy-count .ensures)) (rw (c .before .before .before .record-word .ensures, c .before .before .before .before .before .before .before .before .before .copy-count .ensures) at (c .before .before .store-record-words .ensures)),
     )
-
-position-requires : tie.Need-position-requires
-position-requires c κs = search needs
-
-store-word-requires-2 : tie.Need-store-word-requires-2
-store-word-requires-2 c κs = search needs
-
-same-length-4 : tie.Need-same-length-4
-same-length-4 c = search needs
 
 returns-4 : tie.Need-returns-4
 returns-4 c =
@@ -103,26 +55,26 @@ pub make-piece-spec : {M : Type 1} → statement M
 make-piece-spec =
     tie.close
     (tie.spec
-    copy-count-requires
+    (λ c κs. search needs)
     mul-c
-    in-piece-requires
+    (λ c κs. search needs)
     copy-words-requires
-    same-length
+    (λ c. search needs)
     returns
-    page-word-requires
-    copy-to-requires
-    store-word-requires
-    same-length-2
+    (λ c κs. search needs)
+    (λ c κs. search needs)
+    (λ c κs. search needs)
+    (λ c. search needs)
     returns-2
-    add-if3
-    add-k
-    sub-k
-    in-piece-requires-2
-    record-word-requires
+    (λ c. search needs)
+    (λ c. search needs)
+    (λ c. search needs)
+    (λ c κs. search needs)
+    (λ c κs. search needs)
     store-record-words-requires
-    same-length-3
+    (λ c. search needs)
     returns-3
-    position-requires
-    store-word-requires-2
-    same-length-4
+    (λ c κs. search needs)
+    (λ c κs. search needs)
+    (λ c. search needs)
     returns-4)

@@ -24,9 +24,6 @@ add-make-piece c =
     let s = c .before .before .before .before in
     omega (arith, copy-le (s .args .t .bitmap) _ refl, s .pre .6, c .before .loop-test .taken)
 
-sub-make-piece : tie.Need-sub-make-piece Inv-loop μ-loop
-sub-make-piece c = search needs
-
 make-piece-requires : tie.Need-make-piece-requires Inv-loop μ-loop
 make-piece-requires c κs =
     let s = c .before .before .before .before in
@@ -47,9 +44,6 @@ loop-again c =
       piece-turn (s .args .z) (s .args .head) (s .args .t) (s .args .e) (s .args .p) (s .args .from) (h .i) _ (s .args .image .now) _ _ (h .inv .2) (c .before .before .make-piece .ensures .2),
     )
 
-same-length : tie.Need-same-length Inv-loop μ-loop
-same-length c = search needs
-
 returns : tie.Need-returns Inv-loop μ-loop
 returns c = up-ends _ _ _ _ _ (c .before .loop .inv .0) (c .loop-test .left) (c .before .loop .inv .2)
 
@@ -61,10 +55,10 @@ make-pieces-spec =
     μ-loop
     loop-holds
     add-make-piece
-    sub-make-piece
+    (λ c. search needs)
     make-piece-requires
     add-i
     loop-less
     loop-again
-    same-length
+    (λ c. search needs)
     returns)

@@ -27,21 +27,6 @@ fits : (c : tie.Else1)
     Fits (x .from) (x .have) (c .before .lesser2 .result) (length (x .input .now)) (length (x .line .now)))
 fits c = record { source = omega arith; target = omega arith; word = omega arith }
 
-left-requires : tie.Need-left-requires
-left-requires c κs = search needs
-
-left-requires-2 : tie.Need-left-requires-2
-left-requires-2 c κs = search needs
-
-left-requires-3 : tie.Need-left-requires-3
-left-requires-3 c κs = search needs
-
-lesser-requires : tie.Need-lesser-requires
-lesser-requires c κs = search needs
-
-lesser-requires-2 : tie.Need-lesser-requires-2
-lesser-requires-2 c κs = search needs
-
 returns : tie.Need-returns
 returns c =
     let n = c .before in
@@ -49,26 +34,8 @@ returns c =
     let e : length (fitting (x .line .now) (x .have) (x .input .now) (x .from) (x .to)) ≡ 0 = sym (counted n) ∙ c .if1 .taken in
     (keeps-none (x .line .now) (x .have) (x .input .now) (x .from) (x .to) e, omega arith)
 
-add-copy : tie.Need-add-copy
-add-copy c = search needs
-
-sub-copy : tie.Need-sub-copy
-sub-copy c = search needs
-
-part-copy-start : tie.Need-part-copy-start
-part-copy-start c = search needs
-
-part-copy-end : tie.Need-part-copy-end
-part-copy-end c = search needs
-
 add-copy-2 : tie.Need-add-copy-2
 add-copy-2 c = let f = fits (c .before) in omega (arith, f .target, f .word)
-
-sub-copy-2 : tie.Need-sub-copy-2
-sub-copy-2 c = search needs
-
-part-copy-start-2 : tie.Need-part-copy-start-2
-part-copy-start-2 c = search needs
 
 part-copy-end-2 : tie.Need-part-copy-end-2
 part-copy-end-2 c = fits (c .before) .target
@@ -80,9 +47,6 @@ copy-requires c κs =
 
 add-result : tie.Need-add-result
 add-result c = let f = fits (c .before .before .before .before .before) in omega (arith, f .target, f .word)
-
-same-length : tie.Need-same-length
-same-length c = search needs
 
 returns-2 : tie.Need-returns-2
 returns-2 c =
@@ -100,21 +64,21 @@ pub keep-spec : {M : Type 1} → statement M
 keep-spec =
     tie.close
     (tie.spec
-    left-requires
-    left-requires-2
-    left-requires-3
-    lesser-requires
-    lesser-requires-2
+    (λ c κs. search needs)
+    (λ c κs. search needs)
+    (λ c κs. search needs)
+    (λ c κs. search needs)
+    (λ c κs. search needs)
     returns
-    add-copy
-    sub-copy
-    part-copy-start
-    part-copy-end
+    (λ c. search needs)
+    (λ c. search needs)
+    (λ c. search needs)
+    (λ c. search needs)
     add-copy-2
-    sub-copy-2
-    part-copy-start-2
+    (λ c. search needs)
+    (λ c. search needs)
     part-copy-end-2
     copy-requires
     add-result
-    same-length
+    (λ c. search needs)
     returns-2)

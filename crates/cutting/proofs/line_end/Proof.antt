@@ -9,13 +9,10 @@ returns c =
     let x = c .before .before .args in
     end-past (x .input .now) (x .from) (c .if1 .taken)
 
-find-requires : tie.Need-find-requires
-find-requires c κs = search needs
-
 returns-2 : tie.Need-returns-2
 returns-2 c =
     let x = c .before .before .before .args in
     end-found (x .input .now) (x .from) (c .find .result) (c .before .if1 .left) (c .find .ensures .0)
 
 pub line-end-spec : {M : Type 1} → statement M
-line-end-spec = tie.close (tie.spec returns find-requires returns-2)
+line-end-spec = tie.close (tie.spec returns (λ c κs. search needs) returns-2)

@@ -20,29 +20,14 @@ abbrev μ-loop : tie.MeasureT-loop
 fits : (c : tie.After-width Inv-loop μ-loop) → (let x = c .before .before .args in x .at + c .width .result ≤ length (x .target .now))
 fits c = omega (arith, decimal-le (c .before .before .args .v), c .width .ensures)
 
-width-requires : tie.Need-width-requires Inv-loop μ-loop
-width-requires c κs = search needs
-
 loop-holds : tie.Need-loop-holds Inv-loop μ-loop
 loop-holds c = (search needs, refl, refl)
-
-sub-k : tie.Need-sub-k Inv-loop μ-loop
-sub-k c = search needs
-
-add-target : tie.Need-add-target Inv-loop μ-loop
-add-target c = search needs
-
-cast-target : tie.Need-cast-target Inv-loop μ-loop
-cast-target c = search needs
 
 add-target-2 : tie.Need-add-target-2 Inv-loop μ-loop
 add-target-2 c = omega (arith, fits (c .before .before))
 
 slice-write-target : tie.Need-slice-write-target Inv-loop μ-loop
 slice-write-target c = omega (arith, fits (c .before .before))
-
-loop-less : tie.Need-loop-less Inv-loop μ-loop
-loop-less c = search needs
 
 loop-again : tie.Need-loop-again Inv-loop μ-loop
 loop-again c =
@@ -55,9 +40,6 @@ loop-again c =
 
 add-result : tie.Need-add-result Inv-loop μ-loop
 add-result c = omega (arith, fits (c .before .before))
-
-same-length : tie.Need-same-length Inv-loop μ-loop
-same-length c = search needs
 
 returns : tie.Need-returns Inv-loop μ-loop
 returns c =
@@ -76,15 +58,15 @@ put-decimal-spec =
     (tie.spec
     Inv-loop
     μ-loop
-    width-requires
+    (λ c κs. search needs)
     loop-holds
-    sub-k
-    add-target
-    cast-target
+    (λ c. search needs)
+    (λ c. search needs)
+    (λ c. search needs)
     add-target-2
     slice-write-target
-    loop-less
+    (λ c. search needs)
     loop-again
     add-result
-    same-length
+    (λ c. search needs)
     returns)

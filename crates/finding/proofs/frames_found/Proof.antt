@@ -14,15 +14,6 @@ good1 c =
     let rows = writeRowsOf (a .z) (a .next) (a .page .now) (a .original .now) (a .spare .now) (a .opened .now) (a .held .now) (a .writer) (a .p) (c .before .before .before .slot-of .result) (a .line) (a .offset) (a .length) (c .before .before .page-frame .result) in
     args-good (a .z) (a .writer) (a .p) (a .line) (a .offset) (a .length) (none-apply rows (omega arith) (sym (c .before .write-row .ensures) ∙ c .if1 .left) .0)
 
-slot-of-requires : tie.Need-slot-of-requires
-slot-of-requires c κs = search needs
-
-page-frame-requires : tie.Need-page-frame-requires
-page-frame-requires c κs = search needs
-
-write-row-requires : tie.Need-write-row-requires
-write-row-requires c κs = search needs
-
 returns : tie.Need-returns
 returns c =
     (rw (c .before .before .page-frame .ensures, c .before .before .before .slot-of .ensures) at (c .before .write-row .ensures), rw (c .before .before .before .slot-of .ensures) at (c .before .before .page-frame .ensures), λ z. absurd (c .if1 .taken z))
@@ -38,9 +29,9 @@ pub frames-found-spec : {M : Type 1} → statement M
 frames-found-spec =
     tie.close
     (tie.spec
-    slot-of-requires
-    page-frame-requires
-    write-row-requires
+    (λ c κs. search needs)
+    (λ c κs. search needs)
+    (λ c κs. search needs)
     returns
     seen-frame-requires
     returns-2)

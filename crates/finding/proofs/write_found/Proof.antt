@@ -42,9 +42,6 @@ past2 : (c : tie.Else2) → Past (first (c .before .before .before .before .befo
 past2 c =
     let q = quiet1 (c .before .before) .past in (q .0, (q .1 .0, (q .1 .1 .0, (or-left (short (c .before .before .before .before .before .before)) (leb (c .before .before .before .before .before .before .args .z .pages) (c .before .before .before .before .before .before .args .p)) (c .if2 .left), tt))))
 
-first-row-requires : tie.Need-first-row-requires
-first-row-requires c κs = search needs
-
 returns : tie.Need-returns
 returns c =
     let s = c .before .before .before .before in
@@ -73,7 +70,7 @@ pub write-found-spec : {M : Type 1} → statement M
 write-found-spec =
     tie.close
     (tie.spec
-    first-row-requires
+    (λ c κs. search needs)
     returns
     returns-2
     frames-found-requires

@@ -72,9 +72,6 @@ returns-5 : tie.Need-returns-5
 unfolding formOf
 returns-5 c = form-at (table (c .before .before .before .before .before)) 4 (omega arith) (past4 (c .before)) (c .if5 .taken)
 
-has-data-requires : tie.Need-has-data-requires
-has-data-requires c κs = search needs
-
 returns-6 : tie.Need-returns-6
 unfolding formOf
 returns-6 c = form-at (table (c .before .before .before .before .before .before .before)) 5 (omega arith) (past5 (c .before .before)) (write-test (c .before) ∙ c .if6 .taken)
@@ -112,7 +109,7 @@ form-of-spec =
     returns-3
     returns-4
     returns-5
-    has-data-requires
+    (λ c κs. search needs)
     returns-6
     returns-7
     returns-8

@@ -12,9 +12,6 @@ use Rattle.fresh.proofs.Puts.{format-refused, format-taken}
 use Rattle.fresh.proofs.format.Statement.{statement}
 use Rattle.fresh.proofs.format.Tie as tie
 
-sizes-ok-requires : tie.Need-sizes-ok-requires
-sizes-ok-requires c κs = search needs
-
 returns : tie.Need-returns
 returns c =
     let x = c .before .before .before .args in
@@ -34,9 +31,6 @@ put-fresh-requires c κs =
     let h = c .before .before .before in
     (legal _ (held _ _ (h .before .sizes-ok .ensures) (h .if1 .left)), rw (c .before .before .image-length .ensures) at (c .before .if2 .left))
 
-same-length : tie.Need-same-length
-same-length c = search needs
-
 returns-3 : tie.Need-returns-3
 returns-3 c =
     let h = c .before .before .before .before .before .before in
@@ -47,10 +41,10 @@ pub format-spec : {M : Type 1} → statement M
 format-spec =
     tie.close
     (tie.spec
-    sizes-ok-requires
+    (λ c κs. search needs)
     returns
     image-length-requires
     returns-2
     put-fresh-requires
-    same-length
+    (λ c. search needs)
     returns-3)

@@ -16,26 +16,8 @@ Inv-loop z t₀ s₀ t s = (s ≤ z .slots) × (t ≡ upTo s (λ k u. withSlot u
 abbrev μ-loop : tie.MeasureT-loop
 μ-loop z t₀ s₀ t s = z .slots - s
 
-empty-table-requires : tie.Need-empty-table-requires Inv-loop μ-loop
-empty-table-requires c κs = search needs
-
 loop-holds : tie.Need-loop-holds Inv-loop μ-loop
 loop-holds c = (search needs, c .empty-table .ensures ∙ up-none _ _)
-
-add-free-slot : tie.Need-add-free-slot Inv-loop μ-loop
-add-free-slot c = search needs
-
-free-slot-requires : tie.Need-free-slot-requires Inv-loop μ-loop
-free-slot-requires c κs = search needs
-
-with-slot-requires : tie.Need-with-slot-requires Inv-loop μ-loop
-with-slot-requires c κs = search needs
-
-add-s : tie.Need-add-s Inv-loop μ-loop
-add-s c = search needs
-
-loop-less : tie.Need-loop-less Inv-loop μ-loop
-loop-less c = search needs
 
 loop-again : tie.Need-loop-again Inv-loop μ-loop
 loop-again c =
@@ -52,12 +34,12 @@ fresh-table-spec =
     (tie.spec
     Inv-loop
     μ-loop
-    empty-table-requires
+    (λ c κs. search needs)
     loop-holds
-    add-free-slot
-    free-slot-requires
-    with-slot-requires
-    add-s
-    loop-less
+    (λ c. search needs)
+    (λ c κs. search needs)
+    (λ c κs. search needs)
+    (λ c. search needs)
+    (λ c. search needs)
     loop-again
     returns)

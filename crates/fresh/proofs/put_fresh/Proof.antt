@@ -4,33 +4,6 @@ use Rattle.fresh.proofs.Puts.{fresh-puts}
 use Rattle.fresh.proofs.put_fresh.Statement.{statement}
 use Rattle.fresh.proofs.put_fresh.Tie as tie
 
-put-header-requires : tie.Need-put-header-requires
-put-header-requires c κs = search needs
-
-put-pages-requires : tie.Need-put-pages-requires
-put-pages-requires c κs = search needs
-
-put-slots-requires : tie.Need-put-slots-requires
-put-slots-requires c κs = search needs
-
-slot-word-requires : tie.Need-slot-word-requires
-slot-word-requires c κs = search needs
-
-mul-at : tie.Need-mul-at
-mul-at c = search needs
-
-image-length-requires : tie.Need-image-length-requires
-image-length-requires c κs = search needs
-
-sub-fill-words : tie.Need-sub-fill-words
-sub-fill-words c = search needs
-
-fill-words-requires : tie.Need-fill-words-requires
-fill-words-requires c κs = search needs
-
-same-length : tie.Need-same-length
-same-length c = search needs
-
 returns : tie.Need-returns
 returns c =
     let h = c .before .before .before .before in
@@ -43,13 +16,13 @@ pub put-fresh-spec : {M : Type 1} → statement M
 put-fresh-spec =
     tie.close
     (tie.spec
-    put-header-requires
-    put-pages-requires
-    put-slots-requires
-    slot-word-requires
-    mul-at
-    image-length-requires
-    sub-fill-words
-    fill-words-requires
-    same-length
+    (λ c κs. search needs)
+    (λ c κs. search needs)
+    (λ c κs. search needs)
+    (λ c κs. search needs)
+    (λ c. search needs)
+    (λ c κs. search needs)
+    (λ c. search needs)
+    (λ c κs. search needs)
+    (λ c. search needs)
     returns)

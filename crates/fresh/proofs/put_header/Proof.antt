@@ -4,24 +4,6 @@ use Rattle.fresh.proofs.Puts.{header-puts}
 use Rattle.fresh.proofs.put_header.Statement.{statement}
 use Rattle.fresh.proofs.put_header.Tie as tie
 
-store-word-requires : tie.Need-store-word-requires
-store-word-requires c κs = search needs
-
-store-word-requires-2 : tie.Need-store-word-requires-2
-store-word-requires-2 c κs = search needs
-
-store-word-requires-3 : tie.Need-store-word-requires-3
-store-word-requires-3 c κs = search needs
-
-store-word-requires-4 : tie.Need-store-word-requires-4
-store-word-requires-4 c κs = search needs
-
-fill-words-requires : tie.Need-fill-words-requires
-fill-words-requires c κs = search needs
-
-same-length : tie.Need-same-length
-same-length c = search needs
-
 returns : tie.Need-returns
 returns c =
     let e = c .before .before in
@@ -34,10 +16,10 @@ pub put-header-spec : {M : Type 1} → statement M
 put-header-spec =
     tie.close
     (tie.spec
-    store-word-requires
-    store-word-requires-2
-    store-word-requires-3
-    store-word-requires-4
-    fill-words-requires
-    same-length
+    (λ c κs. search needs)
+    (λ c κs. search needs)
+    (λ c κs. search needs)
+    (λ c κs. search needs)
+    (λ c κs. search needs)
+    (λ c. search needs)
     returns)

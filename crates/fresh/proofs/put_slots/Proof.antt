@@ -20,41 +20,11 @@ Inv-loop image₀ z at i₀ image i = (i ≤ 3 * z .slots) × (length image ≡ 
 abbrev μ-loop : tie.MeasureT-loop
 μ-loop image₀ z at i₀ image i = 3 * z .slots - i
 
-slot-word-requires : tie.Need-slot-word-requires Inv-loop μ-loop
-slot-word-requires c κs = search needs
-
-mul-at : tie.Need-mul-at Inv-loop μ-loop
-mul-at c = search needs
-
 loop-holds : tie.Need-loop-holds Inv-loop μ-loop
 loop-holds c = (search needs, refl, puts-none _ _ _)
 
-mul-if1 : tie.Need-mul-if1 Inv-loop μ-loop
-mul-if1 c = search needs
-
-add-free-slot : tie.Need-add-free-slot Inv-loop μ-loop
-add-free-slot c = search needs
-
-free-slot-requires : tie.Need-free-slot-requires Inv-loop μ-loop
-free-slot-requires c κs = search needs
-
 word-of-slot-requires : tie.Need-word-of-slot-requires Inv-loop μ-loop
 word-of-slot-requires c κs = rw (c .free-slot .ensures) (search needs)
-
-mul-put-word : tie.Need-mul-put-word Inv-loop μ-loop
-mul-put-word c = search needs
-
-add-put-word : tie.Need-add-put-word Inv-loop μ-loop
-add-put-word c = search needs
-
-put-word-requires : tie.Need-put-word-requires Inv-loop μ-loop
-put-word-requires c κs = search needs
-
-add-i : tie.Need-add-i Inv-loop μ-loop
-add-i c = search needs
-
-loop-less : tie.Need-loop-less Inv-loop μ-loop
-loop-less c = search needs
 
 loop-again : tie.Need-loop-again Inv-loop μ-loop
 loop-again c =
@@ -63,9 +33,6 @@ loop-again c =
     let v : c .before .before .before .before .word-of-slot .result ≡ freshSlot (x .z) (h .loop .i) =
     c .before .before .before .before .word-of-slot .ensures ∙ ap (λ (t : Slot). wordOfSlot t (h .loop .i % 3)) (c .before .before .before .before .before .free-slot .ensures) in
     (search needs, search needs, rw (h .before .slot-word .ensures) at (c .before .before .put-word .ensures) ∙ puts-turn _ _ _ _ _ _ (h .loop .inv .2) v)
-
-same-length : tie.Need-same-length Inv-loop μ-loop
-same-length c = search needs
 
 returns : tie.Need-returns Inv-loop μ-loop
 returns c =
@@ -78,18 +45,18 @@ put-slots-spec =
     (tie.spec
     Inv-loop
     μ-loop
-    slot-word-requires
-    mul-at
+    (λ c κs. search needs)
+    (λ c. search needs)
     loop-holds
-    mul-if1
-    add-free-slot
-    free-slot-requires
+    (λ c. search needs)
+    (λ c. search needs)
+    (λ c κs. search needs)
     word-of-slot-requires
-    mul-put-word
-    add-put-word
-    put-word-requires
-    add-i
-    loop-less
+    (λ c. search needs)
+    (λ c. search needs)
+    (λ c κs. search needs)
+    (λ c. search needs)
+    (λ c. search needs)
     loop-again
-    same-length
+    (λ c. search needs)
     returns)

@@ -20,9 +20,6 @@ loop-holds c = (omega arith, omega arith, refl)
 mul-h : tie.Need-mul-h Inv-loop μ-loop
 mul-h c = omega arith
 
-shared-slice-read-h : tie.Need-shared-slice-read-h Inv-loop μ-loop
-shared-slice-read-h c = search needs
-
 cast-h : tie.Need-cast-h Inv-loop μ-loop
 cast-h c = omega (arith, c .shared-slice-known .given (c .before .before .loop .i))
 
@@ -49,7 +46,7 @@ hash-spec =
     μ-loop
     loop-holds
     mul-h
-    shared-slice-read-h
+    (λ c. search needs)
     cast-h
     add-h
     add-i

@@ -8,24 +8,6 @@ use borrow.Author.Needs.{needs}
 use Rattle.image.proofs.frame.Statement.{statement}
 use Rattle.image.proofs.frame.Tie as tie
 
-line-word-requires : tie.Need-line-word-requires
-line-word-requires c κs = search needs
-
-mul-at : tie.Need-mul-at
-mul-at c = search needs
-
-add-result : tie.Need-add-result
-add-result c = search needs
-
-sub-result : tie.Need-sub-result
-sub-result c = search needs
-
-part-result-start : tie.Need-part-result-start
-part-result-start c = search needs
-
-part-result-end : tie.Need-part-result-end
-part-result-end c = search needs
-
 returns : tie.Need-returns
 unfolding part
 returns c =
@@ -37,10 +19,10 @@ pub frame-spec : {M : Type 1} → statement M
 frame-spec =
     tie.close
     (tie.spec
-    line-word-requires
-    mul-at
-    add-result
-    sub-result
-    part-result-start
-    part-result-end
+    (λ c κs. search needs)
+    (λ c. search needs)
+    (λ c. search needs)
+    (λ c. search needs)
+    (λ c. search needs)
+    (λ c. search needs)
     returns)

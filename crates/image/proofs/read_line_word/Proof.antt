@@ -6,9 +6,6 @@ use borrow.Author.Needs.{needs}
 use Rattle.image.proofs.read_line_word.Statement.{statement}
 use Rattle.image.proofs.read_line_word.Tie as tie
 
-frame-requires : tie.Need-frame-requires
-frame-requires c κs = search needs
-
 frame-line-word-requires : tie.Need-frame-line-word-requires
 frame-line-word-requires c κs =
     let x = c .before .before .args in
@@ -21,4 +18,4 @@ returns c =
     ∙ frame-word (x .image .now) (x .z) (x .f) (omega arith) (omega arith) (c .before .frame .ensures) (x .l) (x .k) (omega arith) (omega arith)
 
 pub read-line-word-spec : {M : Type 1} → statement M
-read-line-word-spec = tie.close (tie.spec frame-requires frame-line-word-requires returns)
+read-line-word-spec = tie.close (tie.spec (λ c κs. search needs) frame-line-word-requires returns)

@@ -9,30 +9,6 @@ use borrow.Author.Needs.{needs}
 use Rattle.image.proofs.store_line_word.Statement.{statement}
 use Rattle.image.proofs.store_line_word.Tie as tie
 
-line-word-requires : tie.Need-line-word-requires
-line-word-requires c κs = search needs
-
-mul-at : tie.Need-mul-at
-mul-at c = search needs
-
-add-put-frame-line-word : tie.Need-add-put-frame-line-word
-add-put-frame-line-word c = search needs
-
-sub-put-frame-line-word : tie.Need-sub-put-frame-line-word
-sub-put-frame-line-word c = search needs
-
-part-put-frame-line-word-start : tie.Need-part-put-frame-line-word-start
-part-put-frame-line-word-start c = search needs
-
-part-put-frame-line-word-end : tie.Need-part-put-frame-line-word-end
-part-put-frame-line-word-end c = search needs
-
-put-frame-line-word-requires : tie.Need-put-frame-line-word-requires
-put-frame-line-word-requires c κs = search needs
-
-same-length : tie.Need-same-length
-same-length c = search needs
-
 returns : tie.Need-returns
 unfolding part
 returns c =
@@ -47,12 +23,12 @@ pub store-line-word-spec : {M : Type 1} → statement M
 store-line-word-spec =
     tie.close
     (tie.spec
-    line-word-requires
-    mul-at
-    add-put-frame-line-word
-    sub-put-frame-line-word
-    part-put-frame-line-word-start
-    part-put-frame-line-word-end
-    put-frame-line-word-requires
-    same-length
+    (λ c κs. search needs)
+    (λ c. search needs)
+    (λ c. search needs)
+    (λ c. search needs)
+    (λ c. search needs)
+    (λ c. search needs)
+    (λ c κs. search needs)
+    (λ c. search needs)
     returns)

@@ -4,21 +4,12 @@ use Rattle.workbench.proofs.Formed.{has-replaced, has-not}
 use Rattle.image_calls.proofs.mount.Statement.{statement}
 use Rattle.image_calls.proofs.mount.Tie as tie
 
-mount-requires : tie.Need-mount-requires
-mount-requires c κs = search needs
-
-replacing-requires : tie.Need-replacing-requires
-replacing-requires c κs = search needs
-
 returns : tie.Need-returns
 returns c = has-replaced _ _ _ _ _ (eq-eqb _ 0 (c .before .before .if1 .taken)) (c .before .mount .ensures) (c .replacing .ensures)
-
-other-requires : tie.Need-other-requires
-other-requires c κs = search needs
 
 returns-2 : tie.Need-returns-2
 returns-2 c = has-not _ _ _ _ (ne-eqb _ 0 (c .before .if1 .left)) (c .other .ensures)
 
 pub mount-spec : {M : Type 1} → statement M
 mount-spec =
-    tie.close (tie.spec mount-requires replacing-requires returns other-requires returns-2)
+    tie.close (tie.spec (λ c κs. search needs) (λ c κs. search needs) returns (λ c κs. search needs) returns-2)

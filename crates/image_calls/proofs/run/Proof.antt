@@ -6,26 +6,11 @@ use Rattle.workbench.proofs.Formed.{has-called}
 use Rattle.image_calls.proofs.run.Statement.{statement}
 use Rattle.image_calls.proofs.run.Tie as tie
 
-element-copy-out-run : tie.Need-element-copy-out-run
-element-copy-out-run c = search needs
-
-run-requires : tie.Need-run-requires
-run-requires c κs = search needs
-
-called-requires : tie.Need-called-requires
-called-requires c κs = search needs
-
-same-length : tie.Need-same-length
-same-length c = search needs
-
 returns : tie.Need-returns
 returns c =
     let form = eq-eqb _ 1 (c .before .before .before .before .before .before .if1 .taken) in
     let done = c .before .before .before .run .ensures in
     (has-called _ _ _ _ _ form (done .0) (c .called .ensures), done .1 ∙ row-yes _ _ _ form)
-
-other-requires : tie.Need-other-requires
-other-requires c κs = search needs
 
 returns-2 : tie.Need-returns-2
 returns-2 c = rw (ne-eqb _ 1 (c .before .if1 .left)) (c .other .ensures, refl)
@@ -34,10 +19,10 @@ pub run-spec : {M : Type 1} → statement M
 run-spec =
     tie.close
     (tie.spec
-    element-copy-out-run
-    run-requires
-    called-requires
-    same-length
+    (λ c. search needs)
+    (λ c κs. search needs)
+    (λ c κs. search needs)
+    (λ c. search needs)
     returns
-    other-requires
+    (λ c κs. search needs)
     returns-2)

@@ -6,27 +6,15 @@ use Rattle.workbench.proofs.Formed.{has-called}
 use Rattle.image_calls.proofs.step.Statement.{statement}
 use Rattle.image_calls.proofs.step.Tie as tie
 
-step-requires : tie.Need-step-requires
-step-requires c κs = search needs
-
-called-requires : tie.Need-called-requires
-called-requires c κs = search needs
-
-same-length : tie.Need-same-length
-same-length c = search needs
-
 returns : tie.Need-returns
 returns c =
     let form = eq-eqb _ 0 (c .before .before .before .before .before .if1 .taken) in
     let done = c .before .before .before .step .ensures in
     (has-called _ _ _ _ _ form (done .0) (c .called .ensures), done .1 ∙ row-yes _ _ _ form)
 
-other-requires : tie.Need-other-requires
-other-requires c κs = search needs
-
 returns-2 : tie.Need-returns-2
 returns-2 c = rw (ne-eqb _ 0 (c .before .if1 .left)) (c .other .ensures, refl)
 
 pub step-spec : {M : Type 1} → statement M
 step-spec =
-    tie.close (tie.spec step-requires called-requires same-length returns other-requires returns-2)
+    tie.close (tie.spec (λ c κs. search needs) (λ c κs. search needs) (λ c. search needs) returns (λ c κs. search needs) returns-2)

@@ -21,26 +21,8 @@ long c z =
     let h : 64 ≤ length (a .target .now) = read-long (a .bench .st) (a .image .now) (arg (a .t3) 0) (arg (a .t3) 1) (arg (a .t3) 2) (a .target .now) (sym (row c) ∙ z) in
     omega (arith, c .before .before .before .read .kept .1 .1 .1 .1 .1 .0)
 
-element-copy-out-read : tie.Need-element-copy-out-read
-element-copy-out-read c = search needs
-
-element-copy-out-read-2 : tie.Need-element-copy-out-read-2
-element-copy-out-read-2 c = search needs
-
-element-copy-out-read-3 : tie.Need-element-copy-out-read-3
-element-copy-out-read-3 c = search needs
-
-read-requires : tie.Need-read-requires
-read-requires c κs = search needs
-
-number-of-requires : tie.Need-number-of-requires
-number-of-requires c κs = search needs
-
 said-requires : tie.Need-said-requires
 said-requires c κs = long (c .before)
-
-same-length : tie.Need-same-length
-same-length c = search needs
 
 returns : tie.Need-returns
 returns c = c .said .ensures ∙ ap₂ lineSaid (row (c .before .before)) (c .before .before .before .before .before .read .ensures .1)
@@ -49,11 +31,11 @@ pub read-into-spec : {M : Type 1} → statement M
 read-into-spec =
     tie.close
     (tie.spec
-    element-copy-out-read
-    element-copy-out-read-2
-    element-copy-out-read-3
-    read-requires
-    number-of-requires
+    (λ c. search needs)
+    (λ c. search needs)
+    (λ c. search needs)
+    (λ c κs. search needs)
+    (λ c κs. search needs)
     said-requires
-    same-length
+    (λ c. search needs)
     returns)

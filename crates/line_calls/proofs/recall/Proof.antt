@@ -6,26 +6,17 @@ use Rattle.line_calls.proofs.Targets.{target-small, take-zeros}
 use Rattle.line_calls.proofs.recall.Statement.{statement}
 use Rattle.line_calls.proofs.recall.Tie as tie
 
-element-copy-out-t : tie.Need-element-copy-out-t
-element-copy-out-t c = search needs
-
 array-borrow-prefix-target : tie.Need-array-borrow-prefix-target
 array-borrow-prefix-target c = target-small (c .before .before .before .args .t3) 3 2 (c .if1 .taken)
 
 slice-aggregate-recall-into : tie.Need-slice-aggregate-recall-into
 slice-aggregate-recall-into c = sym (length-take-le _ (replicate 128 0) (target-small (c .before .before .before .before .args .t3) 3 2 (c .before .if1 .taken)))
 
-recall-into-requires : tie.Need-recall-into-requires
-recall-into-requires c κs = search needs
-
 returns : tie.Need-returns
 returns c =
     let form = c .before .before .before .if1 .taken in
     let zeros = take-zeros _ 128 (target-small (c .before .before .before .before .before .before .args .t3) 3 2 form) in
     rw (form, c .before .recall-into .ensures, zeros)
-
-other-requires : tie.Need-other-requires
-other-requires c κs = search needs
 
 returns-2 : tie.Need-returns-2
 returns-2 c = rw (c .before .if1 .left) (c .other .ensures)
@@ -34,10 +25,10 @@ pub recall-spec : {M : Type 1} → statement M
 recall-spec =
     tie.close
     (tie.spec
-    element-copy-out-t
+    (λ c. search needs)
     array-borrow-prefix-target
     slice-aggregate-recall-into
-    recall-into-requires
+    (λ c κs. search needs)
     returns
-    other-requires
+    (λ c κs. search needs)
     returns-2)

@@ -16,20 +16,8 @@ long c z =
     let h : 64 ≤ length (a .target .now) = recall-long (a .image .now) (arg (a .t2) 0) (arg (a .t2) 1) (a .target .now) (sym (c .recall .ensures .0) ∙ z) in
     omega (arith, c .recall .kept .1 .1 .1 .0)
 
-element-copy-out-recall : tie.Need-element-copy-out-recall
-element-copy-out-recall c = search needs
-
-element-copy-out-recall-2 : tie.Need-element-copy-out-recall-2
-element-copy-out-recall-2 c = search needs
-
-recall-requires : tie.Need-recall-requires
-recall-requires c κs = search needs
-
 said-requires : tie.Need-said-requires
 said-requires c κs = long (c .before .before .before)
-
-same-length : tie.Need-same-length
-same-length c = search needs
 
 returns : tie.Need-returns
 returns c =
@@ -40,9 +28,9 @@ pub recall-into-spec : {M : Type 1} → statement M
 recall-into-spec =
     tie.close
     (tie.spec
-    element-copy-out-recall
-    element-copy-out-recall-2
-    recall-requires
+    (λ c. search needs)
+    (λ c. search needs)
+    (λ c κs. search needs)
     said-requires
-    same-length
+    (λ c. search needs)
     returns)

@@ -11,9 +11,6 @@ slice-aggregate-hash c =
     let s = c .before .before .before in
     sym (length-take-le 64 (s .args .target .now) (s .pre (c .before .if1 .taken)))
 
-hash-requires : tie.Need-hash-requires
-hash-requires c κs = search needs
-
 returns : tie.Need-returns
 returns c = rw (c .before .before .if1 .taken) (ap Hash (c .hash .ensures))
 
@@ -21,4 +18,4 @@ returns-2 : tie.Need-returns-2
 returns-2 c = rw (ne-eqb _ 0 (c .if1 .left))
 
 pub said-spec : {M : Type 1} → statement M
-said-spec = tie.close (tie.spec slice-aggregate-hash hash-requires returns returns-2)
+said-spec = tie.close (tie.spec slice-aggregate-hash (λ c κs. search needs) returns returns-2)

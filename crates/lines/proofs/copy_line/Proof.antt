@@ -17,24 +17,12 @@ abbrev μ-loop : tie.MeasureT-loop
 loop-holds : tie.Need-loop-holds Inv-loop μ-loop
 loop-holds c = (search needs, refl, up-none _ _)
 
-copy-line-word-requires : tie.Need-copy-line-word-requires Inv-loop μ-loop
-copy-line-word-requires c κs = search needs
-
-add-k : tie.Need-add-k Inv-loop μ-loop
-add-k c = search needs
-
-loop-less : tie.Need-loop-less Inv-loop μ-loop
-loop-less c = search needs
-
 loop-again : tie.Need-loop-again Inv-loop μ-loop
 loop-again c =
     let h = c .before .before .before .before .before in
     let x = h .before .before .args in
     let e = up-turn (copyStore (x .z) (x .from) (x .to) (x .l)) (x .image .now) _ (h .loop .k) (h .loop .inv .2) in
     (search needs, search needs, rw (c .before .before .copy-line-word .ensures) e)
-
-same-length : tie.Need-same-length Inv-loop μ-loop
-same-length c = search needs
 
 returns : tie.Need-returns Inv-loop μ-loop
 returns c =
@@ -49,9 +37,9 @@ copy-line-spec =
     Inv-loop
     μ-loop
     loop-holds
-    copy-line-word-requires
-    add-k
-    loop-less
+    (λ c κs. search needs)
+    (λ c. search needs)
+    (λ c. search needs)
     loop-again
-    same-length
+    (λ c. search needs)
     returns)

@@ -10,36 +10,6 @@ use borrow.Author.Needs.{needs}
 use Rattle.lines.proofs.merged_line.Statement.{statement}
 use Rattle.lines.proofs.merged_line.Tie as tie
 
-slice-aggregate-read-line : tie.Need-slice-aggregate-read-line
-slice-aggregate-read-line c = search needs
-
-read-line-requires : tie.Need-read-line-requires
-read-line-requires c κs = search needs
-
-sub-copy : tie.Need-sub-copy
-sub-copy c = search needs
-
-part-copy-start : tie.Need-part-copy-start
-part-copy-start c = search needs
-
-part-copy-end : tie.Need-part-copy-end
-part-copy-end c = search needs
-
-add-copy : tie.Need-add-copy
-add-copy c = search needs
-
-sub-copy-2 : tie.Need-sub-copy-2
-sub-copy-2 c = search needs
-
-part-line-start : tie.Need-part-line-start
-part-line-start c = search needs
-
-part-line-end : tie.Need-part-line-end
-part-line-end c = search needs
-
-copy-requires : tie.Need-copy-requires
-copy-requires c κs = search needs
-
 abbrev line : tie.After-line5 → List ℕ
 line c =
     let x = c .before .before .before .before .before .before .before .before .before .before .args in
@@ -87,16 +57,16 @@ pub merged-line-spec : {M : Type 1} → statement M
 merged-line-spec =
     tie.close
     (tie.spec
-    slice-aggregate-read-line
-    read-line-requires
-    sub-copy
-    part-copy-start
-    part-copy-end
-    add-copy
-    sub-copy-2
-    part-line-start
-    part-line-end
-    copy-requires
+    (λ c. search needs)
+    (λ c κs. search needs)
+    (λ c. search needs)
+    (λ c. search needs)
+    (λ c. search needs)
+    (λ c. search needs)
+    (λ c. search needs)
+    (λ c. search needs)
+    (λ c. search needs)
+    (λ c κs. search needs)
     slice-aggregate-words-of
     words-of-requires
     returns)

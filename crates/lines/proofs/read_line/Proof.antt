@@ -8,20 +8,11 @@ use borrow.Author.Needs.{needs}
 use Rattle.lines.proofs.read_line.Statement.{statement}
 use Rattle.lines.proofs.read_line.Tie as tie
 
-frame-requires : tie.Need-frame-requires
-frame-requires c κs = search needs
-
-mul-copy-words : tie.Need-mul-copy-words
-mul-copy-words c = search needs
-
 copy-words-requires : tie.Need-copy-words-requires
 copy-words-requires c κs =
     let x = c .before .before .before .before .args in
     let n : length (c .before .frame .result .now) ≡ 4096 = length-frame (x .image .now) (x .z) (x .f) (omega arith) (omega arith) (c .before .frame .ensures) in
     (omega arith, search needs)
-
-same-length : tie.Need-same-length
-same-length c = search needs
 
 returns : tie.Need-returns
 returns c =
@@ -31,4 +22,4 @@ returns c =
 
 pub read-line-spec : {M : Type 1} → statement M
 read-line-spec =
-    tie.close (tie.spec frame-requires mul-copy-words copy-words-requires same-length returns)
+    tie.close (tie.spec (λ c κs. search needs) (λ c. search needs) copy-words-requires (λ c. search needs) returns)

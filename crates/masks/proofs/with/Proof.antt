@@ -7,12 +7,9 @@ use Rattle.masks.proofs.Members.{shifted-one}
 use Rattle.masks.proofs.with.Statement.{statement}
 use Rattle.masks.proofs.with.Tie as tie
 
-shl-result : tie.Need-shl-result
-shl-result c = search needs
-
 returns : tie.Need-returns
 unfolding withLine
 returns c = ap (bitOr (c .args .m)) (shifted-one (c .args .i) (c .pre))
 
 pub with-spec : {M : Type 1} → statement M
-with-spec = tie.close (tie.spec shl-result returns)
+with-spec = tie.close (tie.spec (λ c. search needs) returns)

@@ -109,17 +109,8 @@ placed : (c : tie.Else5)
     → Positions (c .before .before .before .before .before .before .before .before .sizes-from .result) (c .before .before .before .read-word2 .result) (c .before .before .read-word3 .result)
 placed c = positions _ _ _ (held _ _ (c .before .positions-ok .ensures) (c .if5 .left))
 
-turned-back-requires : tie.Need-turned-back-requires
-turned-back-requires c κs = search needs
-
 returns : tie.Need-returns
 returns c = c .turned-back .ensures ∙ mount-refused _ 0 (search needs) tt (lt-ltb _ _ (c .before .if1 .taken))
-
-read-word-requires : tie.Need-read-word-requires
-read-word-requires c κs = search needs
-
-turned-back-requires-2 : tie.Need-turned-back-requires-2
-turned-back-requires-2 c κs = search needs
 
 returns-2 : tie.Need-returns-2
 returns-2 c =
@@ -127,38 +118,17 @@ returns-2 c =
     ∙ mount-refused _ 1 (search needs) (past1 (c .before .before .before))
     (ap not (ne-eqb _ _ (λ e. c .before .if2 .taken (c .before .before .read-word .ensures ∙ e))))
 
-sizes-from-requires : tie.Need-sizes-from-requires
-sizes-from-requires c κs = search needs
-
-sizes-ok-requires : tie.Need-sizes-ok-requires
-sizes-ok-requires c κs = search needs
-
-turned-back-requires-3 : tie.Need-turned-back-requires-3
-turned-back-requires-3 c κs = search needs
-
 returns-3 : tie.Need-returns-3
 returns-3 c = c .turned-back3 .ensures ∙ mount-refused _ 2 (search needs) (past2 (c .before .before .before .before)) (ap not (sym (sizes-test (c .before .before))) ∙ c .before .if3 .taken)
 
 image-length-requires : tie.Need-image-length-requires
 image-length-requires c κs = lawful c
 
-turned-back-requires-4 : tie.Need-turned-back-requires-4
-turned-back-requires-4 c κs = search needs
-
 returns-4 : tie.Need-returns-4
 returns-4 c = c .turned-back4 .ensures ∙ mount-refused _ 3 (search needs) (past3 (c .before .before .before)) (lt-ltb _ _ (rw (length-test (c .before .before)) at (c .before .if4 .taken)))
 
-read-word-requires-2 : tie.Need-read-word-requires-2
-read-word-requires-2 c κs = search needs
-
-read-word-requires-3 : tie.Need-read-word-requires-3
-read-word-requires-3 c κs = search needs
-
 positions-ok-requires : tie.Need-positions-ok-requires
 positions-ok-requires c κs = lawful (c .before .before .before .before)
-
-turned-back-requires-5 : tie.Need-turned-back-requires-5
-turned-back-requires-5 c κs = search needs
 
 returns-5 : tie.Need-returns-5
 returns-5 c = c .turned-back5 .ensures ∙ mount-refused _ 4 (search needs) (past4 (c .before .before .before .before .before)) (ap not (sym (positions-test (c .before .before))) ∙ c .before .if5 .taken)
@@ -171,9 +141,6 @@ records-ok-requires c κs =
     let h = c .before .before .before .before .before in
     let p = placed (c .before) in
     (lawful (h .before .before), long h, p .tail-low, rw (c .live-count .ensures) (p .live-high))
-
-turned-back-requires-6 : tie.Need-turned-back-requires-6
-turned-back-requires-6 c κs = search needs
 
 returns-6 : tie.Need-returns-6
 returns-6 c = c .turned-back6 .ensures ∙ mount-refused _ 5 (search needs) (past5 (c .before .before .before .before)) (ap not (sym (records-test (c .before .before))) ∙ c .before .if6 .taken)
@@ -189,9 +156,6 @@ table-ok-requires c κs =
     let h = c .before .before .before .before .before .before .before .before in
     (lawful (h .before .before), long h)
 
-turned-back-requires-7 : tie.Need-turned-back-requires-7
-turned-back-requires-7 c κs = search needs
-
 returns-7 : tie.Need-returns-7
 returns-7 c = c .turned-back7 .ensures ∙ mount-refused _ 6 (search needs) (past6 (c .before .before .before .before)) (ap not (sym (table-test (c .before .before))) ∙ c .before .if7 .taken)
 
@@ -202,29 +166,29 @@ pub judge-spec : {M : Type 1} → statement M
 judge-spec =
     tie.close
     (tie.spec
-    turned-back-requires
+    (λ c κs. search needs)
     returns
-    read-word-requires
-    turned-back-requires-2
+    (λ c κs. search needs)
+    (λ c κs. search needs)
     returns-2
-    sizes-from-requires
-    sizes-ok-requires
-    turned-back-requires-3
+    (λ c κs. search needs)
+    (λ c κs. search needs)
+    (λ c κs. search needs)
     returns-3
     image-length-requires
-    turned-back-requires-4
+    (λ c κs. search needs)
     returns-4
-    read-word-requires-2
-    read-word-requires-3
+    (λ c κs. search needs)
+    (λ c κs. search needs)
     positions-ok-requires
-    turned-back-requires-5
+    (λ c κs. search needs)
     returns-5
     live-count-requires
     records-ok-requires
-    turned-back-requires-6
+    (λ c κs. search needs)
     returns-6
     replayed-requires
     table-ok-requires
-    turned-back-requires-7
+    (λ c κs. search needs)
     returns-7
     returns-8)

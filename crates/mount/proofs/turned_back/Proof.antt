@@ -3,11 +3,8 @@ use borrow.Author.Needs.{needs}
 use Rattle.mount.proofs.turned_back.Statement.{statement}
 use Rattle.mount.proofs.turned_back.Tie as tie
 
-empty-table-requires : tie.Need-empty-table-requires
-empty-table-requires c κs = search needs
-
 returns : tie.Need-returns
 returns c = cc
 
 pub turned-back-spec : {M : Type 1} → statement M
-turned-back-spec = tie.close (tie.spec empty-table-requires returns)
+turned-back-spec = tie.close (tie.spec (λ c κs. search needs) returns)

@@ -3,19 +3,10 @@ use Rattle.mounting.proofs.Found.{format-known, format-legal, format-re
 use Rattle.mounting.proofs.format.Statement.{statement}
 use Rattle.mounting.proofs.format.Tie as tie
 
-format-requires : tie.Need-format-requires
-format-requires c κs = search needs
-
-no-state-requires : tie.Need-no-state-requires
-no-state-requires c κs = search needs
-
 refused-requires : tie.Need-refused-requires
 refused-requires c κs =
     let s = c .before .before .before .before .before .before .before in
     format-known (s .args .z) (s .args .image .now) _ (c .before .before .before .before .format .ensures .0)
-
-same-length : tie.Need-same-length
-same-length c = search needs
 
 returns : tie.Need-returns
 returns c =
@@ -27,15 +18,6 @@ fresh-table-requires c κs =
     let s = c .before .before .before .before .before .before in
     format-legal (s .args .z) (s .args .image .now) _ (c .before .before .before .format .ensures .0) (c .if1 .left)
 
-quiet-state-requires : tie.Need-quiet-state-requires
-quiet-state-requires c κs = search needs
-
-taken-requires : tie.Need-taken-requires
-taken-requires c κs = search needs
-
-same-length-2 : tie.Need-same-length-2
-same-length-2 c = search needs
-
 returns-2 : tie.Need-returns-2
 returns-2 c =
     let s = c .before .before .before .before .before .before .before .before .before in
@@ -45,13 +27,13 @@ pub format-spec : {M : Type 1} → statement M
 format-spec =
     tie.close
     (tie.spec
-    format-requires
-    no-state-requires
+    (λ c κs. search needs)
+    (λ c κs. search needs)
     refused-requires
-    same-length
+    (λ c. search needs)
     returns
     fresh-table-requires
-    quiet-state-requires
-    taken-requires
-    same-length-2
+    (λ c κs. search needs)
+    (λ c κs. search needs)
+    (λ c. search needs)
     returns-2)

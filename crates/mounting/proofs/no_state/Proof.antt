@@ -4,12 +4,6 @@ use Rattle.refinement.specs.Mount.{quietState}
 use Rattle.mounting.proofs.no_state.Statement.{statement}
 use Rattle.mounting.proofs.no_state.Tie as tie
 
-empty-table-requires : tie.Need-empty-table-requires
-empty-table-requires c κs = search needs
-
-quiet-state-requires : tie.Need-quiet-state-requires
-quiet-state-requires c κs = search needs
-
 returns : tie.Need-returns
 returns c = c .quiet-state .ensures ∙ ap (quietState _ 0 0) (c .before .empty-table .ensures)
 
@@ -17,6 +11,6 @@ pub no-state-spec : {M : Type 1} → statement M
 no-state-spec =
     tie.close
     (tie.spec
-    empty-table-requires
-    quiet-state-requires
+    (λ c κs. search needs)
+    (λ c κs. search needs)
     returns)

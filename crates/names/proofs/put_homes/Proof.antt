@@ -7,15 +7,6 @@ use Rattle.names.proofs.Homes.{homes}
 use Rattle.names.proofs.put_homes.Statement.{statement}
 use Rattle.names.proofs.put_homes.Tie as tie
 
-put-words-requires : tie.Need-put-words-requires
-put-words-requires c κs = search needs
-
-put-originals-requires : tie.Need-put-originals-requires
-put-originals-requires c κs = search needs
-
-same-length : tie.Need-same-length
-same-length c = search needs
-
 returns : tie.Need-returns
 returns c =
     let h = c .before .before .before .before .before .before .before .before .before in
@@ -25,4 +16,4 @@ returns c =
     ∙ homes (word (x .image .now)) (x .z) (x .t4) (h .before .before .before .before .pre .0) (h .before .before .before .before .pre .3)
 
 pub put-homes-spec : {M : Type 1} → statement M
-put-homes-spec = tie.close (tie.spec put-words-requires put-originals-requires same-length returns)
+put-homes-spec = tie.close (tie.spec (λ c κs. search needs) (λ c κs. search needs) (λ c. search needs) returns)

@@ -10,33 +10,6 @@ use Rattle.names.proofs.Homes.{names-room, names-back}
 use Rattle.names.proofs.put_names.Statement.{statement}
 use Rattle.names.proofs.put_names.Tie as tie
 
-add-end : tie.Need-add-end
-add-end c = search needs
-
-sub-put-spares : tie.Need-sub-put-spares
-sub-put-spares c = search needs
-
-part-put-spares-start : tie.Need-part-put-spares-start
-part-put-spares-start c = search needs
-
-part-put-spares-end : tie.Need-part-put-spares-end
-part-put-spares-end c = search needs
-
-put-spares-requires : tie.Need-put-spares-requires
-put-spares-requires c κs = search needs
-
-mul-put-homes : tie.Need-mul-put-homes
-mul-put-homes c = search needs
-
-sub-put-homes : tie.Need-sub-put-homes
-sub-put-homes c = search needs
-
-part-put-homes-start : tie.Need-part-put-homes-start
-part-put-homes-start c = search needs
-
-part-put-homes-end : tie.Need-part-put-homes-end
-part-put-homes-end c = search needs
-
 put-homes-requires : tie.Need-put-homes-requires
 put-homes-requires c κs =
     let h = c .before .before .before in
@@ -44,9 +17,6 @@ put-homes-requires c κs =
     let n : length (h .put-spares .last .0) ≡ s .args .z .slots = ap length (h .put-spares .ensures) ∙ length-tab (s .args .z .slots) (λ k. getD (s .args .t4 .spare) k 0) in
     let k : s .args .z .pages + s .args .z .slots - s .args .z .slots ≡ s .args .z .pages = omega arith in
     (s .pre .0, s .pre .1, names-room (s .args .names .now) (h .put-spares .last .0) (s .args .z .slots) (s .args .z .pages + s .args .z .slots) n (search needs) (search needs) ∙ k, s .pre .3)
-
-same-length : tie.Need-same-length
-same-length c = search needs
 
 returns : tie.Need-returns
 unfolding frameNames
@@ -58,15 +28,15 @@ pub put-names-spec : {M : Type 1} → statement M
 put-names-spec =
     tie.close
     (tie.spec
-    add-end
-    sub-put-spares
-    part-put-spares-start
-    part-put-spares-end
-    put-spares-requires
-    mul-put-homes
-    sub-put-homes
-    part-put-homes-start
-    part-put-homes-end
+    (λ c. search needs)
+    (λ c. search needs)
+    (λ c. search needs)
+    (λ c. search needs)
+    (λ c κs. search needs)
+    (λ c. search needs)
+    (λ c. search needs)
+    (λ c. search needs)
+    (λ c. search needs)
     put-homes-requires
-    same-length
+    (λ c. search needs)
     returns)

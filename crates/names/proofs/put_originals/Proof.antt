@@ -21,30 +21,6 @@ abbrev μ-loop : tie.MeasureT-loop
 loop-holds : tie.Need-loop-holds Inv-loop μ-loop
 loop-holds c = (search needs, search needs, up-none _ _)
 
-mul-p : tie.Need-mul-p Inv-loop μ-loop
-mul-p c = search needs
-
-element-copy-out-p : tie.Need-element-copy-out-p Inv-loop μ-loop
-element-copy-out-p c = search needs
-
-mul-homes : tie.Need-mul-homes Inv-loop μ-loop
-mul-homes c = search needs
-
-element-copy-out-homes : tie.Need-element-copy-out-homes Inv-loop μ-loop
-element-copy-out-homes c = search needs
-
-mul-homes-2 : tie.Need-mul-homes-2 Inv-loop μ-loop
-mul-homes-2 c = search needs
-
-slice-write-homes : tie.Need-slice-write-homes Inv-loop μ-loop
-slice-write-homes c = search needs
-
-add-s : tie.Need-add-s Inv-loop μ-loop
-add-s c = search needs
-
-loop-less : tie.Need-loop-less Inv-loop μ-loop
-loop-less c = search needs
-
 loop-again : tie.Need-loop-again Inv-loop μ-loop
 loop-again c =
     let h = c .before .before .before .before .before in
@@ -52,9 +28,6 @@ loop-again c =
     let e : c .if2 .homes ≡ originalPut (x .z) (x .page .now) (x .original .now) (h .loop .s) (h .loop .homes) =
     ⊎-elim (λ w. w .2 ∙ row-yes _ _ _ (lt-ltb _ _ (w .0 .taken))) (λ w. row-no _ _ _ _ (le-ltb _ _ (w .0 .left)) (w .1)) (c .if2 .came) in
     (search needs, ap length e ∙ length-put-original (x .z) (x .page .now) (x .original .now) (h .loop .s) (h .loop .homes) ∙ h .loop .inv .1, e ∙ up-turn _ _ _ _ (h .loop .inv .2))
-
-same-length : tie.Need-same-length Inv-loop μ-loop
-same-length c = search needs
 
 returns : tie.Need-returns Inv-loop μ-loop
 returns c = up-ends _ _ _ _ _ (c .before .before .loop .inv .0) (c .if1 .left) (c .before .before .loop .inv .2)
@@ -66,14 +39,14 @@ put-originals-spec =
     Inv-loop
     μ-loop
     loop-holds
-    mul-p
-    element-copy-out-p
-    mul-homes
-    element-copy-out-homes
-    mul-homes-2
-    slice-write-homes
-    add-s
-    loop-less
+    (λ c. search needs)
+    (λ c. search needs)
+    (λ c. search needs)
+    (λ c. search needs)
+    (λ c. search needs)
+    (λ c. search needs)
+    (λ c. search needs)
+    (λ c. search needs)
     loop-again
-    same-length
+    (λ c. search needs)
     returns)

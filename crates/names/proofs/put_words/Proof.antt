@@ -20,31 +20,10 @@ abbrev μ-loop : tie.MeasureT-loop
 loop-holds : tie.Need-loop-holds Inv-loop μ-loop
 loop-holds c = (search needs, search needs, filled-none _ _)
 
-page-word-requires : tie.Need-page-word-requires Inv-loop μ-loop
-page-word-requires c κs = search needs
-
-read-word-requires : tie.Need-read-word-requires Inv-loop μ-loop
-read-word-requires c κs = search needs
-
-mul-homes : tie.Need-mul-homes Inv-loop μ-loop
-mul-homes c = search needs
-
-slice-write-homes : tie.Need-slice-write-homes Inv-loop μ-loop
-slice-write-homes c = search needs
-
-add-p : tie.Need-add-p Inv-loop μ-loop
-add-p c = search needs
-
-loop-less : tie.Need-loop-less Inv-loop μ-loop
-loop-less c = search needs
-
 loop-again : tie.Need-loop-again Inv-loop μ-loop
 loop-again c =
     let h = c .before .before .before .before in
     (search needs, simp length-set (search needs), filled-turn _ _ _ _ _ (h .loop .inv .2) (c .read-word .ensures ∙ ap (word (h .before .before .before .args .image .now)) (c .before .page-word .ensures)))
-
-same-length : tie.Need-same-length Inv-loop μ-loop
-same-length c = search needs
 
 returns : tie.Need-returns Inv-loop μ-loop
 returns c =
@@ -59,12 +38,12 @@ put-words-spec =
     Inv-loop
     μ-loop
     loop-holds
-    page-word-requires
-    read-word-requires
-    mul-homes
-    slice-write-homes
-    add-p
-    loop-less
+    (λ c κs. search needs)
+    (λ c κs. search needs)
+    (λ c. search needs)
+    (λ c. search needs)
+    (λ c. search needs)
+    (λ c. search needs)
     loop-again
-    same-length
+    (λ c. search needs)
     returns)

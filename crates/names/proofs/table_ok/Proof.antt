@@ -12,36 +12,18 @@ use Rattle.names.proofs.Homes.{length-names}
 use Rattle.names.proofs.table_ok.Statement.{statement}
 use Rattle.names.proofs.table_ok.Tie as tie
 
-slots-shaped-requires : tie.Need-slots-shaped-requires
-slots-shaped-requires c κs = search needs
-
 returns : tie.Need-returns
 returns c = and-stops _ _ _ (c .before .slots-shaped .ensures) (c .if1 .taken)
-
-pages-apart-requires : tie.Need-pages-apart-requires
-pages-apart-requires c κs = search needs
 
 returns-2 : tie.Need-returns-2
 returns-2 c =
     let h = c .before .before .before .before in
     and-goes _ _ _ _ (h .before .slots-shaped .ensures) (h .if1 .left) (and-stops _ _ _ (c .before .pages-apart .ensures) (c .if2 .taken))
 
-slice-aggregate-put-names : tie.Need-slice-aggregate-put-names
-slice-aggregate-put-names c = search needs
-
 put-names-requires : tie.Need-put-names-requires
 put-names-requires c κs =
     let s = c .before .before .before .before .before .before .before .before .before .before .before .before .before in
     (s .pre .0, s .pre .1, search needs, held _ _ (c .before .before .pages-apart .ensures) (c .before .if2 .left))
-
-slice-aggregate-each-once : tie.Need-slice-aggregate-each-once
-slice-aggregate-each-once c = search needs
-
-add-each-once : tie.Need-add-each-once
-add-each-once c = search needs
-
-each-once-requires : tie.Need-each-once-requires
-each-once-requires c κs = search needs
 
 returns-3 : tie.Need-returns-3
 returns-3 c =
@@ -57,13 +39,13 @@ pub table-ok-spec : {M : Type 1} → statement M
 table-ok-spec =
     tie.close
     (tie.spec
-    slots-shaped-requires
+    (λ c κs. search needs)
     returns
-    pages-apart-requires
+    (λ c κs. search needs)
     returns-2
-    slice-aggregate-put-names
+    (λ c. search needs)
     put-names-requires
-    slice-aggregate-each-once
-    add-each-once
-    each-once-requires
+    (λ c. search needs)
+    (λ c. search needs)
+    (λ c κs. search needs)
     returns-3)

@@ -8,9 +8,6 @@ use Rattle.needs.proofs.checkpoint_needs.Tie as tie
 returns : tie.Need-returns
 returns c = rw (eq-eqb _ _ (c .if1 .taken))
 
-recorded-count-requires : tie.Need-recorded-count-requires
-recorded-count-requires c κs = search needs
-
 mul-result : tie.Need-mul-result
 mul-result c = omega (arith, recorded-le _ _ _ (c .recorded-count .ensures), c .before .before .pre)
 
@@ -22,4 +19,4 @@ returns-2 c = rw (ne-eqb _ _ (c .before .if1 .left), c .recorded-count .ensures)
 
 pub checkpoint-needs-spec : {M : Type 1} → statement M
 checkpoint-needs-spec =
-    tie.close (tie.spec returns recorded-count-requires mul-result add-result returns-2)
+    tie.close (tie.spec returns (λ c κs. search needs) mul-result add-result returns-2)

@@ -3,12 +3,6 @@ use borrow.Author.Needs.{needs}
 use Rattle.needs.proofs.commit_needs.Statement.{statement}
 use Rattle.needs.proofs.commit_needs.Tie as tie
 
-mul-result : tie.Need-mul-result
-mul-result c = search needs
-
-add-result : tie.Need-add-result
-add-result c = search needs
-
 returns : tie.Need-returns
 returns c = rw (eq-eqb _ _ (c .if1 .taken))
 
@@ -16,4 +10,4 @@ returns-2 : tie.Need-returns-2
 returns-2 c = rw (ne-eqb _ _ (c .if1 .left))
 
 pub commit-needs-spec : {M : Type 1} → statement M
-commit-needs-spec = tie.close (tie.spec mul-result add-result returns returns-2)
+commit-needs-spec = tie.close (tie.spec (λ c. search needs) (λ c. search needs) returns returns-2)

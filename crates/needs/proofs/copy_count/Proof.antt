@@ -6,9 +6,6 @@ use Rattle.operations.specs.Operations.{copyCount}
 use Rattle.needs.proofs.copy_count.Statement.{statement}
 use Rattle.needs.proofs.copy_count.Tie as tie
 
-count-requires : tie.Need-count-requires
-count-requires c κs = search needs
-
 sub-result : tie.Need-sub-result
 sub-result c = omega (arith, c .before .count .ensures, count-lines-le (c .before .before .args .bitmap))
 
@@ -21,4 +18,4 @@ unfolding copyCount
 returns-2 c = rw (← c .before .count .ensures, lt-leb _ _ (c .if1 .left))
 
 pub copy-count-spec : {M : Type 1} → statement M
-copy-count-spec = tie.close (tie.spec count-requires sub-result returns returns-2)
+copy-count-spec = tie.close (tie.spec (λ c κs. search needs) sub-result returns returns-2)

@@ -19,41 +19,17 @@ slot-low : (c : tie.After-slot-of) → c .slot-of .result < c .before .before .b
 slot-low c =
     rw (c .slot-of .ensures) (subst (Asked (c .before .before .before .before .args .z) (c .before .before .before .before .args .page .now)) (c .before .before .op2 .given .1) (c .before .before .before .before .pre .1))
 
-enum-told : tie.Need-enum-told
-enum-told c = search needs
-
-enum-told-2 : tie.Need-enum-told-2
-enum-told-2 c = search needs
-
-enum-known-op : tie.Need-enum-known-op
-enum-known-op c = search needs
-
 held-count-requires : tie.Need-held-count-requires
 held-count-requires c κs = (c .before .before .before .pre .0, subst (Asked (c .before .before .before .args .z) (c .before .before .before .args .page .now)) (c .before .op .given .1) (c .before .before .before .pre .1))
 
 commit-needs-requires : tie.Need-commit-needs-requires
 commit-needs-requires c κs = omega (arith, held-le _ _ _ _ (c .held-count .ensures), c .before .before .before .before .pre .0)
 
-enum-known-op-2 : tie.Need-enum-known-op-2
-enum-known-op-2 c = search needs
-
-slot-of-requires : tie.Need-slot-of-requires
-slot-of-requires c κs = search needs
-
 mul-consolidate-needs : tie.Need-mul-consolidate-needs
 mul-consolidate-needs c = omega (arith, slot-low c, c .before .before .before .before .pre .0)
 
 element-copy-out-consolidate-needs : tie.Need-element-copy-out-consolidate-needs
 element-copy-out-consolidate-needs c = omega (arith, slot-low c, c .before .before .before .before .pre .0)
-
-consolidate-needs-requires : tie.Need-consolidate-needs-requires
-consolidate-needs-requires c κs = search needs
-
-enum-told-3 : tie.Need-enum-told-3
-enum-told-3 c = search needs
-
-checkpoint-needs-requires : tie.Need-checkpoint-needs-requires
-checkpoint-needs-requires c κs = search needs
 
 returns : tie.Need-returns
 returns c = sym (ap (count (c .before .before)) (c .enum-told .given .1))
@@ -74,18 +50,18 @@ pub op-needs-spec : {M : Type 1} → statement M
 op-needs-spec =
     tie.close
     (tie.spec
-    enum-told
-    enum-told-2
-    enum-known-op
+    (λ c. search needs)
+    (λ c. search needs)
+    (λ c. search needs)
     held-count-requires
     commit-needs-requires
-    enum-known-op-2
-    slot-of-requires
+    (λ c. search needs)
+    (λ c κs. search needs)
     mul-consolidate-needs
     element-copy-out-consolidate-needs
-    consolidate-needs-requires
-    enum-told-3
-    checkpoint-needs-requires
+    (λ c κs. search needs)
+    (λ c. search needs)
+    (λ c κs. search needs)
     returns
     returns-2
     returns-3

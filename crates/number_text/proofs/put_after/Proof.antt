@@ -4,15 +4,6 @@ use Rattle.number_text.proofs.Puts.{put-then}
 use Rattle.number_text.proofs.put_after.Statement.{statement}
 use Rattle.number_text.proofs.put_after.Tie as tie
 
-put-byte-requires : tie.Need-put-byte-requires
-put-byte-requires c κs = search needs
-
-put-decimal-requires : tie.Need-put-decimal-requires
-put-decimal-requires c κs = search needs
-
-same-length : tie.Need-same-length
-same-length c = search needs
-
 returns : tie.Need-returns
 returns c =
     let s = c .before .before .before .before .before .before .before .before .before in
@@ -23,4 +14,4 @@ returns c =
     (omega arith)
 
 pub put-after-spec : {M : Type 1} → statement M
-put-after-spec = tie.close (tie.spec put-byte-requires put-decimal-requires same-length returns)
+put-after-spec = tie.close (tie.spec (λ c κs. search needs) (λ c κs. search needs) (λ c. search needs) returns)

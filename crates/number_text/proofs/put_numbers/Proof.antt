@@ -17,12 +17,6 @@ abbrev μ-loop : tie.MeasureT-loop
 loop-holds : tie.Need-loop-holds Inv-loop μ-loop
 loop-holds c = (omega arith, refl, numbers-none (c .before .before .args .out .now) (c .before .before .args .at) (c .before .before .args .numbers .now))
 
-mul-put-after : tie.Need-mul-put-after Inv-loop μ-loop
-mul-put-after c = search needs
-
-shared-slice-read-put-after : tie.Need-shared-slice-read-put-after Inv-loop μ-loop
-shared-slice-read-put-after c = search needs
-
 put-after-requires : tie.Need-put-after-requires Inv-loop μ-loop
 put-after-requires c κs =
     let l = c .before .before .before .loop in
@@ -55,8 +49,8 @@ put-numbers-spec =
     Inv-loop
     μ-loop
     loop-holds
-    mul-put-after
-    shared-slice-read-put-after
+    (λ c. search needs)
+    (λ c. search needs)
     put-after-requires
     add-i
     loop-less

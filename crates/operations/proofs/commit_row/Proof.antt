@@ -8,17 +8,8 @@ use Rattle.operations.proofs.commit_row.Tie as tie
 returns : tie.Need-returns
 returns c = rw (lt-ltb _ _ (c .if1 .taken))
 
-is-open-requires : tie.Need-is-open-requires
-is-open-requires c κs = search needs
-
 returns-2 : tie.Need-returns-2
 returns-2 c = rw (le-ltb _ _ (c .before .before .if1 .left), ← c .before .is-open .ensures, c .if2 .taken)
-
-held-count-requires : tie.Need-held-count-requires
-held-count-requires c κs = search needs
-
-live-count-requires : tie.Need-live-count-requires
-live-count-requires c κs = search needs
 
 add-if3 : tie.Need-add-if3
 add-if3 c = omega (arith, held-le _ _ _ _ (c .before .held-count .ensures), c .live-count .ensures, c .before .before .before .before .before .pre)
@@ -34,10 +25,10 @@ commit-row-spec =
     tie.close
     (tie.spec
     returns
-    is-open-requires
+    (λ c κs. search needs)
     returns-2
-    held-count-requires
-    live-count-requires
+    (λ c κs. search needs)
+    (λ c κs. search needs)
     add-if3
     returns-3
     returns-4)

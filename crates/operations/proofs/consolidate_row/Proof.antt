@@ -6,23 +6,11 @@ use Rattle.operations.proofs.consolidate_row.Tie as tie
 returns : tie.Need-returns
 returns c = rw (le-leb _ _ (c .if1 .taken))
 
-slot-of-requires : tie.Need-slot-of-requires
-slot-of-requires c κs = search needs
-
 returns-2 : tie.Need-returns-2
 returns-2 c = rw (lt-leb _ _ (c .before .before .before .if1 .left), ← c .before .before .slot-of .ensures, le-ltb _ _ (c .if2 .taken))
 
-some-hold-requires : tie.Need-some-hold-requires
-some-hold-requires c κs = search needs
-
 returns-3 : tie.Need-returns-3
 returns-3 c = rw (lt-leb _ _ (c .before .before .before .before .before .if1 .left), ← c .before .before .before .before .slot-of .ensures, lt-ltb _ _ (c .before .before .if2 .left), ← c .before .some-hold .ensures, c .if3 .taken)
-
-live-count-requires : tie.Need-live-count-requires
-live-count-requires c κs = search needs
-
-add-if4 : tie.Need-add-if4
-add-if4 c = search needs
 
 returns-4 : tie.Need-returns-4
 returns-4 c = rw (lt-leb _ _ (c .before .before .before .before .before .before .before .before .if1 .left), ← c .before .before .before .before .before .before .before .slot-of .ensures, lt-ltb _ _ (c .before .before .before .before .before .if2 .left), ← c .before .before .before .before .some-hold .ensures, c .before .before .before .if3 .left, ← c .before .before .live-count .ensures, lt-ltb _ _ (c .if4 .taken))
@@ -35,11 +23,11 @@ consolidate-row-spec =
     tie.close
     (tie.spec
     returns
-    slot-of-requires
+    (λ c κs. search needs)
     returns-2
-    some-hold-requires
+    (λ c κs. search needs)
     returns-3
-    live-count-requires
-    add-if4
+    (λ c κs. search needs)
+    (λ c. search needs)
     returns-4
     returns-5)

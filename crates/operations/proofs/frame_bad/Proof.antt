@@ -3,23 +3,11 @@ use borrow.Author.Needs.{needs}
 use Rattle.operations.proofs.frame_bad.Statement.{statement}
 use Rattle.operations.proofs.frame_bad.Tie as tie
 
-mul-result : tie.Need-mul-result
-mul-result c = search needs
-
-element-copy-out-result : tie.Need-element-copy-out-result
-element-copy-out-result c = search needs
-
 returns : tie.Need-returns
 returns c = rw (lt-ltb _ _ (c .before .if1 .taken))
 
-add-if2 : tie.Need-add-if2
-add-if2 c = search needs
-
 returns-2 : tie.Need-returns-2
 returns-2 c = rw (le-ltb _ _ (c .before .before .if1 .left), le-leb _ _ (c .if2 .taken))
-
-frame-of-slot-requires : tie.Need-frame-of-slot-requires
-frame-of-slot-requires c κs = search needs
 
 returns-3 : tie.Need-returns-3
 returns-3 c = rw (le-ltb _ _ (c .before .before .before .if1 .left), lt-leb _ _ (c .before .if2 .left)) (c .frame-of-slot .ensures)
@@ -28,10 +16,10 @@ pub frame-bad-spec : {M : Type 1} → statement M
 frame-bad-spec =
     tie.close
     (tie.spec
-    mul-result
-    element-copy-out-result
+    (λ c. search needs)
+    (λ c. search needs)
     returns
-    add-if2
+    (λ c. search needs)
     returns-2
-    frame-of-slot-requires
+    (λ c κs. search needs)
     returns-3)

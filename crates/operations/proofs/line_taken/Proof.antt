@@ -6,11 +6,8 @@ use Rattle.operations.proofs.line_taken.Tie as tie
 returns : tie.Need-returns
 returns c = rw (le-ltb _ _ (c .if1 .taken))
 
-others-hold-requires : tie.Need-others-hold-requires
-others-hold-requires c κs = search needs
-
 returns-2 : tie.Need-returns-2
 returns-2 c = rw (lt-ltb _ _ (c .before .if1 .left)) (c .others-hold .ensures)
 
 pub line-taken-spec : {M : Type 1} → statement M
-line-taken-spec = tie.close (tie.spec returns others-hold-requires returns-2)
+line-taken-spec = tie.close (tie.spec returns (λ c κs. search needs) returns-2)

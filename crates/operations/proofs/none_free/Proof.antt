@@ -6,11 +6,8 @@ use Rattle.operations.proofs.none_free.Tie as tie
 returns : tie.Need-returns
 returns c = rw (lt-leb _ _ (c .if1 .taken))
 
-free-after-requires : tie.Need-free-after-requires
-free-after-requires c κs = search needs
-
 returns-2 : tie.Need-returns-2
 returns-2 c = rw (le-leb _ _ (c .before .before .if1 .left), c .before .free-after .ensures)
 
 pub none-free-spec : {M : Type 1} → statement M
-none-free-spec = tie.close (tie.spec returns free-after-requires returns-2)
+none-free-spec = tie.close (tie.spec returns (λ c κs. search needs) returns-2)

@@ -13,33 +13,6 @@ row c op =
     let a = c .args in
     refusal (opRowsOf (a .z) (a .head) (a .tail) (a .next) (a .page .now) (a .original .now) (a .spare .now) (a .opened .now) (a .held .now) op (a .frame))
 
-enum-told : tie.Need-enum-told
-enum-told c = search needs
-
-enum-known-op : tie.Need-enum-known-op
-enum-known-op c = search needs
-
-slot-of-requires : tie.Need-slot-of-requires
-slot-of-requires c κs = search needs
-
-write-row-requires : tie.Need-write-row-requires
-write-row-requires c κs = search needs
-
-enum-known-op-2 : tie.Need-enum-known-op-2
-enum-known-op-2 c = search needs
-
-commit-row-requires : tie.Need-commit-row-requires
-commit-row-requires c κs = search needs
-
-enum-known-op-3 : tie.Need-enum-known-op-3
-enum-known-op-3 c = search needs
-
-consolidate-row-requires : tie.Need-consolidate-row-requires
-consolidate-row-requires c κs = search needs
-
-enum-told-2 : tie.Need-enum-told-2
-enum-told-2 c = search needs
-
 returns : tie.Need-returns
 returns c = sym (ap (row (c .before .before)) (c .enum-told .given .1))
 
@@ -59,15 +32,15 @@ pub op-row-spec : {M : Type 1} → statement M
 op-row-spec =
     tie.close
     (tie.spec
-    enum-told
-    enum-known-op
-    slot-of-requires
-    write-row-requires
-    enum-known-op-2
-    commit-row-requires
-    enum-known-op-3
-    consolidate-row-requires
-    enum-told-2
+    (λ c. search needs)
+    (λ c. search needs)
+    (λ c κs. search needs)
+    (λ c κs. search needs)
+    (λ c. search needs)
+    (λ c κs. search needs)
+    (λ c. search needs)
+    (λ c κs. search needs)
+    (λ c. search needs)
     returns
     returns-2
     returns-3

@@ -13,11 +13,5 @@ returns c = rw (lt-ltb 64 (c .before .args .offset + c .before .args .length) (o
 returns-2 : tie.Need-returns-2
 returns-2 c = rw (lt-ltb 64 (c .before .before .args .offset + c .before .before .args .length) (omega arith), or-true)
 
-add-result : tie.Need-add-result
-add-result c = search needs
-
-returns-3 : tie.Need-returns-3
-returns-3 c = search needs
-
 pub write-args-bad-spec : {M : Type 1} → statement M
-write-args-bad-spec = tie.close (tie.spec returns returns-2 add-result returns-3)
+write-args-bad-spec = tie.close (tie.spec returns returns-2 (λ c. search needs) (λ c. search needs))

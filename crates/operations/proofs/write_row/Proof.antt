@@ -31,9 +31,6 @@ past4 c = let p = past3 (c .before .before) in (p .0, (p .1 .0, (p .1 .1 .0, (sy
 good : (c : tie.Else1) → let a = c .before .before .args in ArgsGood (a .z) (a .writer) (a .p) (a .line) (a .offset) (a .length)
 good c = let a = c .before .before .args in args-good (a .z) (a .writer) (a .p) (a .line) (a .offset) (a .length) (past1 c .0)
 
-write-args-bad-requires : tie.Need-write-args-bad-requires
-write-args-bad-requires c κs = search needs
-
 returns : tie.Need-returns
 returns c = row-at (rows (c .before .before)) 0 (omega arith) tt (sym (c .before .write-args-bad .ensures) ∙ c .if1 .taken)
 
@@ -49,14 +46,8 @@ line-taken-requires c κs = (c .before .before .before .before .pre .0, good (c 
 returns-3 : tie.Need-returns-3
 returns-3 c = row-at (rows (c .before .before .before .before .before .before)) 2 (omega arith) (past2 (c .before .before)) (sym (c .before .line-taken .ensures) ∙ c .if3 .taken)
 
-none-free-requires : tie.Need-none-free-requires
-none-free-requires c κs = search needs
-
 returns-4 : tie.Need-returns-4
 returns-4 c = row-at (rows (c .before .before .before .before .before .before .before .before)) 3 (omega arith) (past3 (c .before .before)) (sym (c .before .none-free .ensures) ∙ c .if4 .taken)
-
-frame-bad-requires : tie.Need-frame-bad-requires
-frame-bad-requires c κs = search needs
 
 returns-5 : tie.Need-returns-5
 returns-5 c = row-at (rows (c .before .before .before .before .before .before .before .before .before .before)) 4 (omega arith) (past4 (c .before .before)) (sym (c .before .frame-bad .ensures) ∙ c .if5 .taken)
@@ -70,14 +61,14 @@ pub write-row-spec : {M : Type 1} → statement M
 write-row-spec =
     tie.close
     (tie.spec
-    write-args-bad-requires
+    (λ c κs. search needs)
     returns
     is-open-requires
     returns-2
     line-taken-requires
     returns-3
-    none-free-requires
+    (λ c κs. search needs)
     returns-4
-    frame-bad-requires
+    (λ c κs. search needs)
     returns-5
     returns-6)

@@ -5,24 +5,6 @@ use Rattle.pending_text.specs.Numbers.{opNumbers}
 use Rattle.pending_text.proofs.op_numbers.Statement.{statement}
 use Rattle.pending_text.proofs.op_numbers.Tie as tie
 
-enum-told : tie.Need-enum-told
-enum-told c = search needs
-
-enum-known-op : tie.Need-enum-known-op
-enum-known-op c = search needs
-
-enum-known-op-2 : tie.Need-enum-known-op-2
-enum-known-op-2 c = search needs
-
-enum-known-op-3 : tie.Need-enum-known-op-3
-enum-known-op-3 c = search needs
-
-enum-told-2 : tie.Need-enum-told-2
-enum-told-2 c = search needs
-
-returns : tie.Need-returns
-returns c = search needs
-
 returns-2 : tie.Need-returns-2
 returns-2 c = sym (ap (λ (o : Op). opNumbers o (c .before .before .before .args .made) (c .before .before .before .args .frame)) (c .before .op .given .1))
 
@@ -39,12 +21,12 @@ pub op-numbers-spec : {M : Type 1} → statement M
 op-numbers-spec =
     tie.close
     (tie.spec
-    enum-told
-    enum-known-op
-    enum-known-op-2
-    enum-known-op-3
-    enum-told-2
-    returns
+    (λ c. search needs)
+    (λ c. search needs)
+    (λ c. search needs)
+    (λ c. search needs)
+    (λ c. search needs)
+    (λ c. search needs)
     returns-2
     returns-3
     returns-4

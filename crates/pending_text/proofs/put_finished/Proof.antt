@@ -4,30 +4,9 @@ use Rattle.number_text.proofs.Puts.{put-none}
 use Rattle.pending_text.proofs.put_finished.Statement.{statement}
 use Rattle.pending_text.proofs.put_finished.Tie as tie
 
-enum-told : tie.Need-enum-told
-enum-told c = search needs
-
-enum-told-2 : tie.Need-enum-told-2
-enum-told-2 c = search needs
-
-put-line-requires : tie.Need-put-line-requires
-put-line-requires c κs = search needs
-
-enum-told-3 : tie.Need-enum-told-3
-enum-told-3 c = search needs
-
-enum-told-4 : tie.Need-enum-told-4
-enum-told-4 c = search needs
-
-enum-told-5 : tie.Need-enum-told-5
-enum-told-5 c = search needs
-
 returns : tie.Need-returns
 unfolding blanked
 returns c = rw (c .enum-told .given .1) (put-none (c .before .before .before .args .out .now) (c .before .before .before .args .at))
-
-same-length : tie.Need-same-length
-same-length c = search needs
 
 returns-2 : tie.Need-returns-2
 returns-2 c = rw (c .before .before .before .before .enum-told2 .given .1) (c .before .before .put-line .ensures)
@@ -48,14 +27,14 @@ pub put-finished-spec : {M : Type 1} → statement M
 put-finished-spec =
     tie.close
     (tie.spec
-    enum-told
-    enum-told-2
-    put-line-requires
-    enum-told-3
-    enum-told-4
-    enum-told-5
+    (λ c. search needs)
+    (λ c. search needs)
+    (λ c κs. search needs)
+    (λ c. search needs)
+    (λ c. search needs)
+    (λ c. search needs)
     returns
-    same-length
+    (λ c. search needs)
     returns-2
     returns-3
     returns-4

@@ -26,9 +26,6 @@ mul-byte-numbers c = omega arith
 array-read-byte-numbers : tie.Need-array-read-byte-numbers Inv-loop μ-loop
 array-read-byte-numbers c = omega arith
 
-byte-numbers-requires : tie.Need-byte-numbers-requires Inv-loop μ-loop
-byte-numbers-requires c κs = search needs
-
 slice-aggregate-put-numbers : tie.Need-slice-aggregate-put-numbers Inv-loop μ-loop
 slice-aggregate-put-numbers c = sym (ap length (c .before .before .byte-numbers .ensures) ∙ length-bytes 8 _)
 
@@ -75,7 +72,7 @@ put-line-spec =
     loop-holds
     mul-byte-numbers
     array-read-byte-numbers
-    byte-numbers-requires
+    (λ c κs. search needs)
     slice-aggregate-put-numbers
     put-numbers-requires
     add-i

@@ -8,15 +8,6 @@ use Rattle.pending_text.proofs.Lengths.{length-op}
 use Rattle.pending_text.proofs.put_pending.Statement.{statement}
 use Rattle.pending_text.proofs.put_pending.Tie as tie
 
-op-numbers-requires : tie.Need-op-numbers-requires
-op-numbers-requires c κs = search needs
-
-slice-aggregate-put-numbers : tie.Need-slice-aggregate-put-numbers
-slice-aggregate-put-numbers c = search needs
-
-put-numbers-requires : tie.Need-put-numbers-requires
-put-numbers-requires c κs = search needs
-
 put-finished-requires : tie.Need-put-finished-requires
 put-finished-requires c κs =
     let s = c .before .before .before .before .before .before .before .before .before in
@@ -25,9 +16,6 @@ put-finished-requires c κs =
     let p = s .args .p in
     let eight : length (nums .result) ≡ 8 = ap length (nums .ensures) ∙ length-op (p .op) (p .made) (p .frame) in
     omega (arith, length-blanked (nums .result))
-
-same-length : tie.Need-same-length
-same-length c = search needs
 
 returns : tie.Need-returns
 returns c =
@@ -44,9 +32,9 @@ pub put-pending-spec : {M : Type 1} → statement M
 put-pending-spec =
     tie.close
     (tie.spec
-    op-numbers-requires
-    slice-aggregate-put-numbers
-    put-numbers-requires
+    (λ c κs. search needs)
+    (λ c. search needs)
+    (λ c κs. search needs)
     put-finished-requires
-    same-length
+    (λ c. search needs)
     returns)

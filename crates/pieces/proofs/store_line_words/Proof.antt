@@ -16,32 +16,8 @@ abbrev μ-loop : tie.MeasureT-loop
 loop-holds : tie.Need-loop-holds Inv-loop μ-loop
 loop-holds c = (search needs, refl, up-none _ _)
 
-add-store-line-word : tie.Need-add-store-line-word Inv-loop μ-loop
-add-store-line-word c = search needs
-
-add-store-line-word-2 : tie.Need-add-store-line-word-2 Inv-loop μ-loop
-add-store-line-word-2 c = search needs
-
-mul-store-line-word : tie.Need-mul-store-line-word Inv-loop μ-loop
-mul-store-line-word c = search needs
-
-element-copy-out-store-line-word : tie.Need-element-copy-out-store-line-word Inv-loop μ-loop
-element-copy-out-store-line-word c = search needs
-
-store-line-word-requires : tie.Need-store-line-word-requires Inv-loop μ-loop
-store-line-word-requires c κs = search needs
-
-add-i : tie.Need-add-i Inv-loop μ-loop
-add-i c = search needs
-
-loop-less : tie.Need-loop-less Inv-loop μ-loop
-loop-less c = search needs
-
 loop-again : tie.Need-loop-again Inv-loop μ-loop
 loop-again c = (search needs, search needs, c .before .before .store-line-word .ensures ∙ up-turn _ _ _ _ (c .before .before .before .before .before .before .loop .inv .2))
-
-same-length : tie.Need-same-length Inv-loop μ-loop
-same-length c = search needs
 
 returns : tie.Need-returns Inv-loop μ-loop
 returns c = up-ends _ _ _ _ _ (c .before .loop .inv .0) (c .loop-test .left) (c .before .loop .inv .2)
@@ -53,13 +29,13 @@ store-line-words-spec =
     Inv-loop
     μ-loop
     loop-holds
-    add-store-line-word
-    add-store-line-word-2
-    mul-store-line-word
-    element-copy-out-store-line-word
-    store-line-word-requires
-    add-i
-    loop-less
+    (λ c. search needs)
+    (λ c. search needs)
+    (λ c. search needs)
+    (λ c. search needs)
+    (λ c κs. search needs)
+    (λ c. search needs)
+    (λ c. search needs)
     loop-again
-    same-length
+    (λ c. search needs)
     returns)

@@ -12,12 +12,6 @@ use Rattle.powerhit.proofs.perform_kept.Tie as tie
 low : (c : tie.Joined2) → c .if2 .end < length (c .before .before .before .before .before .args .line .now)
 low c = ⊎-elim (λ w. omega arith) (λ w. omega arith) (c .if2 .came)
 
-returns : tie.Need-returns
-returns c = search needs
-
-sub-end : tie.Need-sub-end
-sub-end c = search needs
-
 slice-write-line : tie.Need-slice-write-line
 slice-write-line c = low c
 
@@ -30,33 +24,18 @@ slice-reshare-prefix-perform-lines c = simp length-set (omega (arith, low (c .be
 slice-aggregate-perform-lines : tie.Need-slice-aggregate-perform-lines
 slice-aggregate-perform-lines c = sym (length-take-le _ _ (simp length-set (omega (arith, low (c .before .before .before)))))
 
-perform-lines-requires : tie.Need-perform-lines-requires
-perform-lines-requires c κs = search needs
-
-same-length : tie.Need-same-length
-same-length c = search needs
-
-same-length-2 : tie.Need-same-length-2
-same-length-2 c = search needs
-
-same-length-3 : tie.Need-same-length-3
-same-length-3 c = search needs
-
-returns-2 : tie.Need-returns-2
-returns-2 c = search needs
-
 pub perform-kept-spec : {M : Type 1} → statement M
 perform-kept-spec =
     tie.close
     (tie.spec
-    returns
-    sub-end
+    (λ c. search needs)
+    (λ c. search needs)
     slice-write-line
     add-perform-lines
     slice-reshare-prefix-perform-lines
     slice-aggregate-perform-lines
-    perform-lines-requires
-    same-length
-    same-length-2
-    same-length-3
-    returns-2)
+    (λ c κs. search needs)
+    (λ c. search needs)
+    (λ c. search needs)
+    (λ c. search needs)
+    (λ c. search needs))

@@ -6,9 +6,6 @@ use Rattle.printing.proofs.Puts.{as-put}
 use Rattle.printing.proofs.put_answered.Statement.{statement}
 use Rattle.printing.proofs.put_answered.Tie as tie
 
-put-three-requires : tie.Need-put-three-requires
-put-three-requires c κs = search needs
-
 put-decimal-requires : tie.Need-put-decimal-requires
 put-decimal-requires c κs =
     let s = c .before .before .before .before .before .before in
@@ -33,9 +30,6 @@ put-three-requires-2 c κs =
     let stores-le = decimal-le (s .args .stores) in
     omega arith
 
-same-length : tie.Need-same-length
-same-length c = search needs
-
 returns : tie.Need-returns
 returns c =
     let s = c .before .before .before .before .before .before .before .before .before .before .before .before .before .before .before .before .before in
@@ -57,9 +51,9 @@ pub put-answered-spec : {M : Type 1} → statement M
 put-answered-spec =
     tie.close
     (tie.spec
-    put-three-requires
+    (λ c κs. search needs)
     put-decimal-requires
     put-after-requires
     put-three-requires-2
-    same-length
+    (λ c. search needs)
     returns)

@@ -7,18 +7,12 @@ use Rattle.printing.proofs.Puts.{as-put}
 use Rattle.printing.proofs.put_output.Statement.{statement}
 use Rattle.printing.proofs.put_output.Tie as tie
 
-put-decimal-requires : tie.Need-put-decimal-requires
-put-decimal-requires c κs = search needs
-
 put-fields-requires : tie.Need-put-fields-requires
 put-fields-requires c κs =
     let s = c .before .before .before .before .before .before in
     let number = c .before .before .before .put-decimal in
     let number-le = decimal-le (s .args .n) in
     omega arith
-
-same-length : tie.Need-same-length
-same-length c = search needs
 
 returns : tie.Need-returns
 unfolding outputLine
@@ -35,7 +29,7 @@ pub put-output-spec : {M : Type 1} → statement M
 put-output-spec =
     tie.close
     (tie.spec
-    put-decimal-requires
+    (λ c κs. search needs)
     put-fields-requires
-    same-length
+    (λ c. search needs)
     returns)

@@ -7,9 +7,6 @@ use Rattle.printing.proofs.Puts.{as-put}
 use Rattle.printing.proofs.put_shown.Statement.{statement}
 use Rattle.printing.proofs.put_shown.Tie as tie
 
-put-three-requires : tie.Need-put-three-requires
-put-three-requires c κs = search needs
-
 put-three-requires-2 : tie.Need-put-three-requires-2
 put-three-requires-2 c κs =
     let s = c .before .before .before .before .before .before in
@@ -32,9 +29,6 @@ put-byte-requires c κs =
     let byte-le = decimal-le (s .args .byte) in
     omega arith
 
-same-length : tie.Need-same-length
-same-length c = search needs
-
 returns : tie.Need-returns
 unfolding digitsOf
 returns c =
@@ -56,9 +50,9 @@ pub put-shown-spec : {M : Type 1} → statement M
 put-shown-spec =
     tie.close
     (tie.spec
-    put-three-requires
+    (λ c κs. search needs)
     put-three-requires-2
     put-after-requires
     put-byte-requires
-    same-length
+    (λ c. search needs)
     returns)

@@ -5,9 +5,6 @@ use Rattle.printing.proofs.Puts.{as-put}
 use Rattle.printing.proofs.put_three.Statement.{statement}
 use Rattle.printing.proofs.put_three.Tie as tie
 
-put-byte-requires : tie.Need-put-byte-requires
-put-byte-requires c κs = search needs
-
 put-byte-requires-2 : tie.Need-put-byte-requires-2
 put-byte-requires-2 c κs =
     let s = c .before .before .before .before .before .before in
@@ -20,9 +17,6 @@ put-byte-requires-3 c κs =
     let first = c .before .before .before .before .before .before .before .put-byte in
     let second = c .before .before .before .put-byte2 in
     omega arith
-
-same-length : tie.Need-same-length
-same-length c = search needs
 
 returns : tie.Need-returns
 returns c =
@@ -40,8 +34,8 @@ pub put-three-spec : {M : Type 1} → statement M
 put-three-spec =
     tie.close
     (tie.spec
-    put-byte-requires
+    (λ c κs. search needs)
     put-byte-requires-2
     put-byte-requires-3
-    same-length
+    (λ c. search needs)
     returns)

@@ -5,9 +5,6 @@ use Rattle.number_text.proofs.Puts.{put-then}
 use Rattle.printing.proofs.put_unknown.Statement.{statement}
 use Rattle.printing.proofs.put_unknown.Tie as tie
 
-put-three-requires : tie.Need-put-three-requires
-put-three-requires c κs = search needs
-
 put-three-requires-2 : tie.Need-put-three-requires-2
 put-three-requires-2 c κs =
     let s = c .before .before .before .before .before .before in
@@ -20,9 +17,6 @@ put-three-requires-3 c κs =
     let call = c .before .before .before .before .before .before .before .put-three in
     let answer = c .before .before .before .put-three2 in
     omega arith
-
-same-length : tie.Need-same-length
-same-length c = search needs
 
 returns : tie.Need-returns
 unfolding digitsOf
@@ -41,8 +35,8 @@ pub put-unknown-spec : {M : Type 1} → statement M
 put-unknown-spec =
     tie.close
     (tie.spec
-    put-three-requires
+    (λ c κs. search needs)
     put-three-requires-2
     put-three-requires-3
-    same-length
+    (λ c. search needs)
     returns)

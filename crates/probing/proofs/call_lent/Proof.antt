@@ -8,29 +8,14 @@ use borrow.Author.Needs.{needs}
 use Rattle.probing.proofs.call_lent.Statement.{statement}
 use Rattle.probing.proofs.call_lent.Tie as tie
 
-slice-relend-prefix-call : tie.Need-slice-relend-prefix-call
-slice-relend-prefix-call c = search needs
-
 slice-aggregate-call : tie.Need-slice-aggregate-call
 slice-aggregate-call c = sym (length-take-le (c .before .before .before .args .bench .lent) (c .before .before .before .args .buffer .now) (omega (arith, c .before .if1 .taken)))
-
-call-requires : tie.Need-call-requires
-call-requires c κs = search needs
-
-same-length : tie.Need-same-length
-same-length c = search needs
 
 returns : tie.Need-returns
 returns c =
     let a = c .before .before .before .before .before .before .args in
     let call = c .before .before .call .ensures in
     (call .0, ap (λ (l : List ℕ). l ++ drop (a .bench .lent) (a .buffer .now)) (call .1))
-
-call-requires-2 : tie.Need-call-requires-2
-call-requires-2 c κs = search needs
-
-same-length-2 : tie.Need-same-length-2
-same-length-2 c = search needs
 
 returns-2 : tie.Need-returns-2
 returns-2 c =
@@ -43,11 +28,11 @@ pub call-lent-spec : {M : Type 1} → statement M
 call-lent-spec =
     tie.close
     (tie.spec
-    slice-relend-prefix-call
+    (λ c. search needs)
     slice-aggregate-call
-    call-requires
-    same-length
+    (λ c κs. search needs)
+    (λ c. search needs)
     returns
-    call-requires-2
-    same-length-2
+    (λ c κs. search needs)
+    (λ c. search needs)
     returns-2)

@@ -6,11 +6,8 @@ use Rattle.probing.proofs.show_numbers.Tie as tie
 returns : tie.Need-returns
 returns c = rw (c .if1 .taken)
 
-other-requires : tie.Need-other-requires
-other-requires c κs = search needs
-
 returns-2 : tie.Need-returns-2
 returns-2 c = rw (ne-eqb _ 0 (c .before .if1 .left)) (c .other .ensures)
 
 pub show-numbers-spec : {M : Type 1} → statement M
-show-numbers-spec = tie.close (tie.spec returns other-requires returns-2)
+show-numbers-spec = tie.close (tie.spec returns (λ c κs. search needs) returns-2)

@@ -7,46 +7,13 @@ use Rattle.probing.specs.Lines.{turnOf, bufferAfter}
 use Rattle.probing.proofs.turn.Statement.{statement}
 use Rattle.probing.proofs.turn.Tie as tie
 
-lend-requires : tie.Need-lend-requires
-lend-requires c κs = search needs
-
-set-byte-requires : tie.Need-set-byte-requires
-set-byte-requires c κs = search needs
-
-set-word-requires : tie.Need-set-word-requires
-set-word-requires c κs = search needs
-
-set-number-requires : tie.Need-set-number-requires
-set-number-requires c κs = search needs
-
-set-pending-requires : tie.Need-set-pending-requires
-set-pending-requires c κs = search needs
-
-set-line-byte-requires : tie.Need-set-line-byte-requires
-set-line-byte-requires c κs = search needs
-
-show-numbers-requires : tie.Need-show-numbers-requires
-show-numbers-requires c κs = search needs
-
-show-hash-requires : tie.Need-show-hash-requires
-show-hash-requires c κs = search needs
-
-call-lent-requires : tie.Need-call-lent-requires
-call-lent-requires c κs = search needs
-
 returns : tie.Need-returns
 unfolding turnOf bufferAfter callBytes
 returns c = rw (c .before .match .keys1) (c .lend .ensures, sym (take-append-drop (c .before .before .before .args .bench .lent) (c .before .before .before .args .buffer .now)))
 
-same-length : tie.Need-same-length
-same-length c = search needs
-
 returns-2 : tie.Need-returns-2
 unfolding turnOf bufferAfter
 returns-2 c = rw (c .before .before .before .before .match .keys2) (c .before .before .set-byte .ensures .0, c .before .before .set-byte .ensures .1)
-
-same-length-2 : tie.Need-same-length-2
-same-length-2 c = search needs
 
 returns-3 : tie.Need-returns-3
 unfolding turnOf bufferAfter
@@ -68,15 +35,9 @@ returns-7 : tie.Need-returns-7
 unfolding turnOf bufferAfter callBytes
 returns-7 c = rw (c .before .match .keys7) (c .show-numbers .ensures, sym (take-append-drop (c .before .before .before .args .bench .lent) (c .before .before .before .args .buffer .now)))
 
-same-length-3 : tie.Need-same-length-3
-same-length-3 c = search needs
-
 returns-8 : tie.Need-returns-8
 unfolding turnOf bufferAfter callBytes
 returns-8 c = rw (c .before .before .match .keys8) (c .show-hash .ensures, sym (take-append-drop (c .before .before .before .before .args .bench .lent) (c .before .before .before .before .args .buffer .now)))
-
-same-length-4 : tie.Need-same-length-4
-same-length-4 c = search needs
 
 returns-9 : tie.Need-returns-9
 unfolding turnOf bufferAfter
@@ -97,25 +58,25 @@ pub turn-spec : {M : Type 1} → statement M
 turn-spec =
     tie.close
     (tie.spec
-    lend-requires
-    set-byte-requires
-    set-word-requires
-    set-number-requires
-    set-pending-requires
-    set-line-byte-requires
-    show-numbers-requires
-    show-hash-requires
-    call-lent-requires
+    (λ c κs. search needs)
+    (λ c κs. search needs)
+    (λ c κs. search needs)
+    (λ c κs. search needs)
+    (λ c κs. search needs)
+    (λ c κs. search needs)
+    (λ c κs. search needs)
+    (λ c κs. search needs)
+    (λ c κs. search needs)
     returns
-    same-length
+    (λ c. search needs)
     returns-2
-    same-length-2
+    (λ c. search needs)
     returns-3
     returns-4
     returns-5
     returns-6
     returns-7
-    same-length-3
+    (λ c. search needs)
     returns-8
-    same-length-4
+    (λ c. search needs)
     returns-9)

@@ -49,12 +49,6 @@ seen3 : (c : tie.Else3) → let a = c .before .before .before .before .before .b
 unfolding pageFrame seenFrame
 seen3 c = c .before .line-found .ensures .1 (c .if3 .left)
 
-first-row-requires : tie.Need-first-row-requires
-first-row-requires c κs = search needs
-
-answer-of-requires : tie.Need-answer-of-requires
-answer-of-requires c κs = search needs
-
 returns : tie.Need-returns
 returns c =
     let s = c .before .before .before .before .before .before .before .before .before .before .before .before .before .before .before in
@@ -95,9 +89,6 @@ read-line-requires c κs =
       a .target-long,
     )
 
-same-length : tie.Need-same-length
-same-length c = search needs
-
 returns-4 : tie.Need-returns-4
 returns-4 c =
     let a = c .before .before .before .before .before .before .before .before .before .before .before .before .before .before .before .before .before .before .before .before .before .before .before .before .before .before .before .before .before .args in
@@ -110,12 +101,12 @@ pub read-spec : {M : Type 1} → statement M
 read-spec =
     tie.close
     (tie.spec
-    first-row-requires
-    answer-of-requires
+    (λ c κs. search needs)
+    (λ c κs. search needs)
     returns
     returns-2
     line-found-requires
     returns-3
     read-line-requires
-    same-length
+    (λ c. search needs)
     returns-4)

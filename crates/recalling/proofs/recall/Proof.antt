@@ -6,9 +6,6 @@ use Rattle.recalling.proofs.Recalled.{Recalled, recalled, recall-unmoun
 use Rattle.recalling.proofs.recall.Statement.{statement}
 use Rattle.recalling.proofs.recall.Tie as tie
 
-judge-requires : tie.Need-judge-requires
-judge-requires c κs = search needs
-
 returns : tie.Need-returns
 returns c =
     let n = recall-unmounted _ _ _ _ _ (c .before .before .judge .ensures) (c .if1 .taken) in
@@ -32,9 +29,6 @@ read-line-requires c κs =
     let h = past (c .before .before) in
     (h .legal, h .low _ (c .before .recall-frame .ensures), h .line-low, h .fits, h .target-long)
 
-same-length : tie.Need-same-length
-same-length c = search needs
-
 returns-3 : tie.Need-returns-3
 returns-3 c =
     let h = past (c .before .before .before .before .before) in
@@ -44,10 +38,10 @@ pub recall-spec : {M : Type 1} → statement M
 recall-spec =
     tie.close
     (tie.spec
-    judge-requires
+    (λ c κs. search needs)
     returns
     returns-2
     recall-frame-requires
     read-line-requires
-    same-length
+    (λ c. search needs)
     returns-3)

@@ -8,25 +8,10 @@ use Rattle.refinement.specs.Frames.{committedFrame}
 use Rattle.recalling.proofs.recall_frame.Statement.{statement}
 use Rattle.recalling.proofs.recall_frame.Tie as tie
 
-slot-of-requires : tie.Need-slot-of-requires
-slot-of-requires c κs = search needs
-
-slot-in-requires : tie.Need-slot-in-requires
-slot-in-requires c κs = search needs
-
-committed-frame-requires : tie.Need-committed-frame-requires
-committed-frame-requires c κs = search needs
-
 returns : tie.Need-returns
 returns c =
     rw (← c .before .before .before .before .slot-of .ensures, lt-ltb _ _ (c .before .before .if1 .taken))
     (c .committed-frame .ensures ∙ ap (λ (t : Slot). committedFrame t (c .before .before .before .before .before .before .before .before .args .line)) (c .before .slot-in .ensures))
-
-page-word-requires : tie.Need-page-word-requires
-page-word-requires c κs = search needs
-
-read-word-requires : tie.Need-read-word-requires
-read-word-requires c κs = search needs
 
 returns-2 : tie.Need-returns-2
 returns-2 c =
@@ -37,10 +22,10 @@ pub recall-frame-spec : {M : Type 1} → statement M
 recall-frame-spec =
     tie.close
     (tie.spec
-    slot-of-requires
-    slot-in-requires
-    committed-frame-requires
+    (λ c κs. search needs)
+    (λ c κs. search needs)
+    (λ c κs. search needs)
     returns
-    page-word-requires
-    read-word-requires
+    (λ c κs. search needs)
+    (λ c κs. search needs)
     returns-2)

@@ -19,12 +19,6 @@ Inv-loop page s p k₀ k = (k ≤ s) × (allBelow k (λ j. not (eqb p (getD page
 abbrev μ-loop : tie.MeasureT-loop
 μ-loop page s p k₀ k = s - k
 
-mul-p : tie.Need-mul-p Inv-loop μ-loop
-mul-p c = search needs
-
-element-copy-out-p : tie.Need-element-copy-out-p Inv-loop μ-loop
-element-copy-out-p c = search needs
-
 returns : tie.Need-returns Inv-loop μ-loop
 returns c =
     let x = c .before .before .args in
@@ -33,23 +27,11 @@ returns c =
 loop-holds : tie.Need-loop-holds Inv-loop μ-loop
 loop-holds c = (search needs, all-none _)
 
-mul-if2 : tie.Need-mul-if2 Inv-loop μ-loop
-mul-if2 c = search needs
-
-element-copy-out-if2 : tie.Need-element-copy-out-if2 Inv-loop μ-loop
-element-copy-out-if2 c = search needs
-
 returns-2 : tie.Need-returns-2 Inv-loop μ-loop
 returns-2 c =
     let h = c .before .before .before in
     let x = h .before .before .before .args in
     or-goes _ _ _ (ne-eqb (getD (x .page .now) (x .s) 0) noPage (h .before .if1 .left)) (all-stops _ _ (h .loop .k) _ (c .before .before .loop-test .taken) refl (ap not (eq-eqb _ _ (c .if2 .taken))))
-
-add-k : tie.Need-add-k Inv-loop μ-loop
-add-k c = search needs
-
-loop-less : tie.Need-loop-less Inv-loop μ-loop
-loop-less c = search needs
 
 loop-again : tie.Need-loop-again Inv-loop μ-loop
 loop-again c = (search needs, all-turn _ _ _ (c .before .before .before .loop .inv .1) refl (ap not (ne-eqb _ _ (c .if2 .left))))
@@ -65,14 +47,14 @@ page-apart-spec =
     (tie.spec
     Inv-loop
     μ-loop
-    mul-p
-    element-copy-out-p
+    (λ c. search needs)
+    (λ c. search needs)
     returns
     loop-holds
-    mul-if2
-    element-copy-out-if2
+    (λ c. search needs)
+    (λ c. search needs)
     returns-2
-    add-k
-    loop-less
+    (λ c. search needs)
+    (λ c. search needs)
     loop-again
     returns-3)

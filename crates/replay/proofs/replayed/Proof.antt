@@ -19,17 +19,8 @@ Inv-loop image z tail n t₀ i₀ t i = (i ≤ n) × (t ≡ upTo i (λ k u. repl
 abbrev μ-loop : tie.MeasureT-loop
 μ-loop image z tail n t₀ i₀ t i = n - i
 
-table-from-requires : tie.Need-table-from-requires Inv-loop μ-loop
-table-from-requires c κs = search needs
-
 loop-holds : tie.Need-loop-holds Inv-loop μ-loop
 loop-holds c = (search needs, c .table-from .ensures ∙ up-none _ _)
-
-live-record-requires : tie.Need-live-record-requires Inv-loop μ-loop
-live-record-requires c κs = search needs
-
-position-requires : tie.Need-position-requires Inv-loop μ-loop
-position-requires c κs = search needs
 
 -- the record's slot is one of the S
 low : (c : tie.After-position Inv-loop μ-loop) → c .before .live-record .result .slot < 16
@@ -72,12 +63,6 @@ mul-t-5 c = omega (arith, low c)
 element-write-t-5 : tie.Need-element-write-t-5 Inv-loop μ-loop
 element-write-t-5 c = omega (arith, low c)
 
-add-i : tie.Need-add-i Inv-loop μ-loop
-add-i c = search needs
-
-loop-less : tie.Need-loop-less Inv-loop μ-loop
-loop-less c = search needs
-
 loop-again : tie.Need-loop-again Inv-loop μ-loop
 loop-again c =
     let h = c .before .before .before in
@@ -93,10 +78,10 @@ replayed-spec =
     (tie.spec
     Inv-loop
     μ-loop
-    table-from-requires
+    (λ c κs. search needs)
     loop-holds
-    live-record-requires
-    position-requires
+    (λ c κs. search needs)
+    (λ c κs. search needs)
     mul-t
     element-write-t
     mul-t-2
@@ -107,7 +92,7 @@ replayed-spec =
     element-write-t-4
     mul-t-5
     element-write-t-5
-    add-i
-    loop-less
+    (λ c. search needs)
+    (λ c. search needs)
     loop-again
     returns)

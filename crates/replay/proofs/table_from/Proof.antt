@@ -17,47 +17,8 @@ Inv-loop image z t₀ s₀ t s = (s ≤ z .slots) × (t ≡ upTo s (λ k u. with
 abbrev μ-loop : tie.MeasureT-loop
 μ-loop image z t₀ s₀ t s = z .slots - s
 
-empty-table-requires : tie.Need-empty-table-requires Inv-loop μ-loop
-empty-table-requires c κs = search needs
-
 loop-holds : tie.Need-loop-holds Inv-loop μ-loop
 loop-holds c = (search needs, c .empty-table .ensures ∙ up-none _ _)
-
-slot-word-requires : tie.Need-slot-word-requires Inv-loop μ-loop
-slot-word-requires c κs = search needs
-
-slot-from-requires : tie.Need-slot-from-requires Inv-loop μ-loop
-slot-from-requires c κs = search needs
-
-mul-t : tie.Need-mul-t Inv-loop μ-loop
-mul-t c = search needs
-
-element-write-t : tie.Need-element-write-t Inv-loop μ-loop
-element-write-t c = search needs
-
-mul-t-2 : tie.Need-mul-t-2 Inv-loop μ-loop
-mul-t-2 c = search needs
-
-element-write-t-2 : tie.Need-element-write-t-2 Inv-loop μ-loop
-element-write-t-2 c = search needs
-
-mul-t-3 : tie.Need-mul-t-3 Inv-loop μ-loop
-mul-t-3 c = search needs
-
-element-write-t-3 : tie.Need-element-write-t-3 Inv-loop μ-loop
-element-write-t-3 c = search needs
-
-mul-t-4 : tie.Need-mul-t-4 Inv-loop μ-loop
-mul-t-4 c = search needs
-
-element-write-t-4 : tie.Need-element-write-t-4 Inv-loop μ-loop
-element-write-t-4 c = search needs
-
-add-s : tie.Need-add-s Inv-loop μ-loop
-add-s c = search needs
-
-loop-less : tie.Need-loop-less Inv-loop μ-loop
-loop-less c = search needs
 
 loop-again : tie.Need-loop-again Inv-loop μ-loop
 loop-again c =
@@ -75,19 +36,19 @@ table-from-spec =
     (tie.spec
     Inv-loop
     μ-loop
-    empty-table-requires
+    (λ c κs. search needs)
     loop-holds
-    slot-word-requires
-    slot-from-requires
-    mul-t
-    element-write-t
-    mul-t-2
-    element-write-t-2
-    mul-t-3
-    element-write-t-3
-    mul-t-4
-    element-write-t-4
-    add-s
-    loop-less
+    (λ c κs. search needs)
+    (λ c κs. search needs)
+    (λ c. search needs)
+    (λ c. search needs)
+    (λ c. search needs)
+    (λ c. search needs)
+    (λ c. search needs)
+    (λ c. search needs)
+    (λ c. search needs)
+    (λ c. search needs)
+    (λ c. search needs)
+    (λ c. search needs)
     loop-again
     returns)

@@ -7,9 +7,6 @@ use Rattle.reporting.proofs.Texts.{start-text}
 use Rattle.reporting.proofs.put_hash.Statement.{statement}
 use Rattle.reporting.proofs.put_hash.Tie as tie
 
-put-start-requires : tie.Need-put-start-requires
-put-start-requires c κs = search needs
-
 put-after-requires : tie.Need-put-after-requires
 put-after-requires c κs =
     let s = c .before .before .before .before .before .before in
@@ -26,9 +23,6 @@ put-byte-requires c κs =
     let d = decimal-le (s .args .h) in
     omega arith
 
-same-length : tie.Need-same-length
-same-length c = search needs
-
 returns : tie.Need-returns
 returns c =
     let s = c .before .before .before .before .before .before .before .before .before .before .before .before .before in
@@ -43,8 +37,8 @@ pub put-hash-spec : {M : Type 1} → statement M
 put-hash-spec =
     tie.close
     (tie.spec
-    put-start-requires
+    (λ c κs. search needs)
     put-after-requires
     put-byte-requires
-    same-length
+    (λ c. search needs)
     returns)

@@ -7,9 +7,6 @@ use Rattle.reporting.proofs.Texts.{start-text}
 use Rattle.reporting.proofs.put_numbered.Statement.{statement}
 use Rattle.reporting.proofs.put_numbered.Tie as tie
 
-put-start-requires : tie.Need-put-start-requires
-put-start-requires c κs = search needs
-
 put-state-requires : tie.Need-put-state-requires
 put-state-requires c κs =
     let s = c .before .before .before .before .before .before in
@@ -26,9 +23,6 @@ put-byte-requires c κs =
     let d = state-text (s .args .st) in
     omega arith
 
-same-length : tie.Need-same-length
-same-length c = search needs
-
 returns : tie.Need-returns
 returns c =
     let s = c .before .before .before .before .before .before .before .before .before .before .before .before .before in
@@ -43,8 +37,8 @@ pub put-numbered-spec : {M : Type 1} → statement M
 put-numbered-spec =
     tie.close
     (tie.spec
-    put-start-requires
+    (λ c κs. search needs)
     put-state-requires
     put-byte-requires
-    same-length
+    (λ c. search needs)
     returns)

@@ -6,9 +6,6 @@ use Rattle.printing.proofs.Puts.{as-put}
 use Rattle.reporting.proofs.put_start.Statement.{statement}
 use Rattle.reporting.proofs.put_start.Tie as tie
 
-put-decimal-requires : tie.Need-put-decimal-requires
-put-decimal-requires c κs = search needs
-
 put-byte-requires : tie.Need-put-byte-requires
 put-byte-requires c κs =
     let s = c .before .before .before .before .before .before in
@@ -44,9 +41,6 @@ put-after-requires-2 c κs =
     let z = decimal-le 0 in
     omega arith
 
-same-length : tie.Need-same-length
-same-length c = search needs
-
 returns : tie.Need-returns
 returns c =
     let s = c .before .before .before .before .before .before .before .before .before .before .before .before .before .before .before .before .before .before .before .before .before in
@@ -69,10 +63,10 @@ pub put-start-spec : {M : Type 1} → statement M
 put-start-spec =
     tie.close
     (tie.spec
-    put-decimal-requires
+    (λ c κs. search needs)
     put-byte-requires
     put-byte-requires-2
     put-after-requires
     put-after-requires-2
-    same-length
+    (λ c. search needs)
     returns)

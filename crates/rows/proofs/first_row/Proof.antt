@@ -27,9 +27,6 @@ past2 : (c : tie.Else2) → Past (rows (c .before .before .before .before)) 2
 past2 c =
     (sym (ap not (c .before .before .before .state-ok .ensures)) ∙ c .before .before .if1 .left, (le-ltb _ _ (rw (c .before .image-length .ensures) at (c .if2 .left)), tt))
 
-state-ok-requires : tie.Need-state-ok-requires
-state-ok-requires c κs = search needs
-
 returns : tie.Need-returns
 returns c = row-at (rows (c .before .before)) 0 (omega arith) tt (sym (ap not (c .before .state-ok .ensures)) ∙ c .if1 .taken)
 
@@ -39,9 +36,6 @@ image-length-requires c κs = ranges-of (st (c .before .before)) (held _ _ (c .b
 returns-2 : tie.Need-returns-2
 returns-2 c =
     row-at (rows (c .before .before .before .before)) 1 (omega arith) (sym (ap not (c .before .before .before .state-ok .ensures)) ∙ c .before .before .if1 .left, tt) (lt-ltb _ _ (rw (c .before .image-length .ensures) at (c .if2 .taken)))
-
-is-idle-requires : tie.Need-is-idle-requires
-is-idle-requires c κs = search needs
 
 past3 : (c : tie.Else3) → Past (rows (c .before .before .before .before .before .before)) 3
 past3 c =
@@ -70,11 +64,11 @@ pub first-row-spec : {M : Type 1} → statement M
 first-row-spec =
     tie.close
     (tie.spec
-    state-ok-requires
+    (λ c κs. search needs)
     returns
     image-length-requires
     returns-2
-    is-idle-requires
+    (λ c κs. search needs)
     returns-3
     returns-4
     returns-5)

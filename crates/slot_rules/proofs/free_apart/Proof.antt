@@ -15,47 +15,11 @@ Inv-loop original spare s o e k₀ k = (k ≤ s) × (allBelow k (freeApart origi
 abbrev μ-loop : tie.MeasureT-loop
 μ-loop original spare s o e k₀ k = s - k
 
-mul-o : tie.Need-mul-o Inv-loop μ-loop
-mul-o c = search needs
-
-element-copy-out-o : tie.Need-element-copy-out-o Inv-loop μ-loop
-element-copy-out-o c = search needs
-
-mul-e : tie.Need-mul-e Inv-loop μ-loop
-mul-e c = search needs
-
-element-copy-out-e : tie.Need-element-copy-out-e Inv-loop μ-loop
-element-copy-out-e c = search needs
-
 loop-holds : tie.Need-loop-holds Inv-loop μ-loop
 loop-holds c = (search needs, all-none _)
 
-mul-if1 : tie.Need-mul-if1 Inv-loop μ-loop
-mul-if1 c = search needs
-
-element-copy-out-if1 : tie.Need-element-copy-out-if1 Inv-loop μ-loop
-element-copy-out-if1 c = search needs
-
-mul-if1-2 : tie.Need-mul-if1-2 Inv-loop μ-loop
-mul-if1-2 c = search needs
-
-element-copy-out-if1-2 : tie.Need-element-copy-out-if1-2 Inv-loop μ-loop
-element-copy-out-if1-2 c = search needs
-
-mul-if1-3 : tie.Need-mul-if1-3 Inv-loop μ-loop
-mul-if1-3 c = search needs
-
-element-copy-out-if1-3 : tie.Need-element-copy-out-if1-3 Inv-loop μ-loop
-element-copy-out-if1-3 c = search needs
-
 returns : tie.Need-returns Inv-loop μ-loop
 returns c = all-stops _ _ _ _ (c .before .before .before .before .loop-test .taken) refl (not-true _ (c .if1 .taken))
-
-add-k : tie.Need-add-k Inv-loop μ-loop
-add-k c = search needs
-
-loop-less : tie.Need-loop-less Inv-loop μ-loop
-loop-less c = search needs
 
 loop-again : tie.Need-loop-again Inv-loop μ-loop
 loop-again c = (search needs, all-turn _ _ _ (c .before .before .before .before .before .loop .inv .1) refl (not-false _ (c .if1 .left)))
@@ -69,19 +33,19 @@ free-apart-spec =
     (tie.spec
     Inv-loop
     μ-loop
-    mul-o
-    element-copy-out-o
-    mul-e
-    element-copy-out-e
+    (λ c. search needs)
+    (λ c. search needs)
+    (λ c. search needs)
+    (λ c. search needs)
     loop-holds
-    mul-if1
-    element-copy-out-if1
-    mul-if1-2
-    element-copy-out-if1-2
-    mul-if1-3
-    element-copy-out-if1-3
+    (λ c. search needs)
+    (λ c. search needs)
+    (λ c. search needs)
+    (λ c. search needs)
+    (λ c. search needs)
+    (λ c. search needs)
     returns
-    add-k
-    loop-less
+    (λ c. search needs)
+    (λ c. search needs)
     loop-again
     returns-2)

@@ -19,17 +19,8 @@ abbrev μ-loop : tie.MeasureT-loop
 loop-holds : tie.Need-loop-holds Inv-loop μ-loop
 loop-holds c = (search needs, all-none _)
 
-slot-fine-requires : tie.Need-slot-fine-requires Inv-loop μ-loop
-slot-fine-requires c κs = search needs
-
 returns : tie.Need-returns Inv-loop μ-loop
 returns c = all-stops _ _ _ _ (c .before .before .if1 .taken) (c .before .slot-fine .ensures) (not-true _ (c .if2 .taken))
-
-add-s : tie.Need-add-s Inv-loop μ-loop
-add-s c = search needs
-
-loop-less : tie.Need-loop-less Inv-loop μ-loop
-loop-less c = search needs
 
 loop-again : tie.Need-loop-again Inv-loop μ-loop
 loop-again c = (search needs, all-turn _ _ _ (c .before .before .before .before .loop .inv .1) (c .before .slot-fine .ensures) (not-false _ (c .if2 .left)))
@@ -44,9 +35,9 @@ slots-fine-spec =
     Inv-loop
     μ-loop
     loop-holds
-    slot-fine-requires
+    (λ c κs. search needs)
     returns
-    add-s
-    loop-less
+    (λ c. search needs)
+    (λ c. search needs)
     loop-again
     returns-2)

@@ -3,32 +3,17 @@ use borrow.Author.Tests.{le-leb, lt-leb, ne-eqb}
 use Rattle.state_edits.proofs.set_field.Statement.{statement}
 use Rattle.state_edits.proofs.set_field.Tie as tie
 
-set-header-requires : tie.Need-set-header-requires
-set-header-requires c κs = search needs
-
 returns : tie.Need-returns
 returns c = rw (le-leb _ 5 (c .before .if1 .taken)) (c .set-header .ensures)
-
-set-slot-requires : tie.Need-set-slot-requires
-set-slot-requires c κs = search needs
 
 returns-2 : tie.Need-returns-2
 returns-2 c = rw (lt-leb _ 5 (c .before .before .if1 .left), le-leb _ 10 (c .before .if2 .taken)) (c .set-slot .ensures)
 
-set-open-requires : tie.Need-set-open-requires
-set-open-requires c κs = search needs
-
 returns-3 : tie.Need-returns-3
 returns-3 c = rw (c .before .if3 .taken) (c .set-open .ensures)
 
-set-held-requires : tie.Need-set-held-requires
-set-held-requires c κs = search needs
-
 returns-4 : tie.Need-returns-4
 returns-4 c = rw (c .before .if4 .taken) (c .set-held .ensures)
-
-other-requires : tie.Need-other-requires
-other-requires c κs = search needs
 
 returns-5 : tie.Need-returns-5
 returns-5 c =
@@ -42,13 +27,13 @@ pub set-field-spec : {M : Type 1} → statement M
 set-field-spec =
     tie.close
     (tie.spec
-    set-header-requires
+    (λ c κs. search needs)
     returns
-    set-slot-requires
+    (λ c κs. search needs)
     returns-2
-    set-open-requires
+    (λ c κs. search needs)
     returns-3
-    set-held-requires
+    (λ c κs. search needs)
     returns-4
-    other-requires
+    (λ c κs. search needs)
     returns-5)

@@ -17,18 +17,6 @@ use Rattle.state_text.proofs.put_state.Tie as tie
 low : (c : tie.After-smaller) → c .smaller .result ≤ 16
 low c = omega (arith, c .smaller .ensures)
 
-smaller-requires : tie.Need-smaller-requires
-smaller-requires c κs = search needs
-
-put-after-requires : tie.Need-put-after-requires
-put-after-requires c κs = search needs
-
-header-numbers-requires : tie.Need-header-numbers-requires
-header-numbers-requires c κs = search needs
-
-slice-aggregate-put-numbers : tie.Need-slice-aggregate-put-numbers
-slice-aggregate-put-numbers c = search needs
-
 put-numbers-requires : tie.Need-put-numbers-requires
 put-numbers-requires c κs =
     let s = c .before .before .before .before .before .before .before .before .before in
@@ -84,9 +72,6 @@ put-pending-requires c κs =
     let g = writers-text (s .args .st .writers) (n .result) few in
     omega arith
 
-same-length : tie.Need-same-length
-same-length c = search needs
-
 returns : tie.Need-returns
 returns c =
     let s = c .before .before .before .before .before .before .before .before .before .before .before .before .before .before .before .before .before .before .before .before .before .before .before .before in
@@ -120,13 +105,13 @@ pub put-state-spec : {M : Type 1} → statement M
 put-state-spec =
     tie.close
     (tie.spec
-    smaller-requires
-    put-after-requires
-    header-numbers-requires
-    slice-aggregate-put-numbers
+    (λ c κs. search needs)
+    (λ c κs. search needs)
+    (λ c κs. search needs)
+    (λ c. search needs)
     put-numbers-requires
     put-slots-requires
     put-writers-requires
     put-pending-requires
-    same-length
+    (λ c. search needs)
     returns)

@@ -9,15 +9,6 @@ use Rattle.state_text.proofs.Lengths.{length-open}
 use Rattle.state_text.proofs.put_writers.Statement.{statement}
 use Rattle.state_text.proofs.put_writers.Tie as tie
 
-open-numbers-requires : tie.Need-open-numbers-requires
-open-numbers-requires c κs = search needs
-
-slice-aggregate-put-numbers : tie.Need-slice-aggregate-put-numbers
-slice-aggregate-put-numbers c = search needs
-
-put-numbers-requires : tie.Need-put-numbers-requires
-put-numbers-requires c κs = search needs
-
 put-held-requires : tie.Need-put-held-requires
 put-held-requires c κs =
     let s = c .before .before .before .before .before .before .before .before .before in
@@ -25,9 +16,6 @@ put-held-requires c κs =
     let first = c .before .before .before .before .put-numbers in
     let four : length (nums .result) ≡ 4 = ap length (nums .ensures) ∙ length-open (s .args .ws) in
     omega (arith, length-blanked (nums .result))
-
-same-length : tie.Need-same-length
-same-length c = search needs
 
 returns : tie.Need-returns
 returns c =
@@ -44,9 +32,9 @@ pub put-writers-spec : {M : Type 1} → statement M
 put-writers-spec =
     tie.close
     (tie.spec
-    open-numbers-requires
-    slice-aggregate-put-numbers
-    put-numbers-requires
+    (λ c κs. search needs)
+    (λ c. search needs)
+    (λ c κs. search needs)
     put-held-requires
-    same-length
+    (λ c. search needs)
     returns)

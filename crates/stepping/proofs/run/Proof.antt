@@ -11,12 +11,6 @@ last-long c = search needs
 go-on-requires : tie.Need-go-on-requires
 go-on-requires c κs = last-long (c .before .before .before .before .before .before .before .before .before .before .before .before .before .before .before .before .before .before)
 
-answer-of-requires : tie.Need-answer-of-requires
-answer-of-requires c κs = search needs
-
-same-length : tie.Need-same-length
-same-length c = search needs
-
 returns : tie.Need-returns
 returns c = let e = c .before .before .before .before .go-on .ensures in
     (answer-known _ _ _ _ (e .0) (c .before .answer-of .ensures) ∙ e .1 .0, e .1 .1)
@@ -26,6 +20,6 @@ run-spec =
     tie.close
     (tie.spec
     go-on-requires
-    answer-of-requires
-    same-length
+    (λ c κs. search needs)
+    (λ c. search needs)
     returns)

@@ -4,12 +4,6 @@ use Rattle.stepping.proofs.Running.{step-outcome, step-bytes}
 use Rattle.stepping.proofs.step.Statement.{statement}
 use Rattle.stepping.proofs.step.Tie as tie
 
-run-requires : tie.Need-run-requires
-run-requires c κs = search needs
-
-same-length : tie.Need-same-length
-same-length c = search needs
-
 returns : tie.Need-returns
 returns c =
     let s = c .before .before .before .before .before in
@@ -19,6 +13,6 @@ pub step-spec : {M : Type 1} → statement M
 step-spec =
     tie.close
     (tie.spec
-    run-requires
-    same-length
+    (λ c κs. search needs)
+    (λ c. search needs)
     returns)

@@ -21,35 +21,17 @@ st c =
     let a = c .args in
     stateOf (a .z) (a .head) (a .tail) (a .next) (a .page .now) (a .original .now) (a .spare .now) (a .bitmap .now) (a .last .now) (a .opened .now) (a .held .now) (a .pending)
 
-enum-told : tie.Need-enum-told
-enum-told c = search needs
-
-enum-known-op : tie.Need-enum-known-op
-enum-known-op c = search needs
-
 complete-write-requires : tie.Need-complete-write-requires
 complete-write-requires c κs = let s = c .before .before .before .before .before .before .before in
     let t = write-of (st s) (s .pre .1) (c .before .before .before .before .before .op .given .1) in (s .pre .0 .legal, s .pre .0 .next-low, t .args .writer-low, t .args .line-low)
-
-enum-known-op-2 : tie.Need-enum-known-op-2
-enum-known-op-2 c = search needs
 
 complete-commit-requires : tie.Need-complete-commit-requires
 complete-commit-requires c κs = let s = c .before .before .before .before .before .before .before in
     (s .pre .0 .legal, s .pre .0 .head-low, commit-of (st s) (s .pre .1) (c .before .before .before .before .before .op2 .given .1) .writer-low)
 
-enum-known-op-3 : tie.Need-enum-known-op-3
-enum-known-op-3 c = search needs
-
 complete-consolidate-requires : tie.Need-complete-consolidate-requires
 complete-consolidate-requires c κs = let s = c .before .before .before .before .before .before .before .before in
     (s .pre .0 .legal, s .pre .0 .head-low, ltb-true _ _ (consolidate-of (st s) (s .pre .1) (c .before .before .before .before .before .before .op3 .given .1) .has-slot))
-
-enum-told-2 : tie.Need-enum-told-2
-enum-told-2 c = search needs
-
-complete-checkpoint-requires : tie.Need-complete-checkpoint-requires
-complete-checkpoint-requires c κs = search needs
 
 returns : tie.Need-returns
 returns c = contradicts (ap isIdle (c .enum-told .given .1)) (c .before .before .pre .2)
@@ -82,15 +64,15 @@ pub complete-spec : {M : Type 1} → statement M
 complete-spec =
     tie.close
     (tie.spec
-    enum-told
-    enum-known-op
+    (λ c. search needs)
+    (λ c. search needs)
     complete-write-requires
-    enum-known-op-2
+    (λ c. search needs)
     complete-commit-requires
-    enum-known-op-3
+    (λ c. search needs)
     complete-consolidate-requires
-    enum-told-2
-    complete-checkpoint-requires
+    (λ c. search needs)
+    (λ c κs. search needs)
     returns
     returns-2
     returns-3

@@ -4,21 +4,12 @@ use Rattle.workbench.proofs.Formed.{has-called, has-not}
 use Rattle.transaction_calls.proofs.checkpoint.Statement.{statement}
 use Rattle.transaction_calls.proofs.checkpoint.Tie as tie
 
-checkpoint-requires : tie.Need-checkpoint-requires
-checkpoint-requires c κs = search needs
-
-called-requires : tie.Need-called-requires
-called-requires c κs = search needs
-
 returns : tie.Need-returns
 returns c = has-called _ _ _ _ _ (eq-eqb _ 0 (c .before .before .if1 .taken)) (c .before .checkpoint .ensures) (c .called .ensures)
-
-other-requires : tie.Need-other-requires
-other-requires c κs = search needs
 
 returns-2 : tie.Need-returns-2
 returns-2 c = has-not _ _ _ _ (ne-eqb _ 0 (c .before .if1 .left)) (c .other .ensures)
 
 pub checkpoint-spec : {M : Type 1} → statement M
 checkpoint-spec =
-    tie.close (tie.spec checkpoint-requires called-requires returns other-requires returns-2)
+    tie.close (tie.spec (λ c κs. search needs) (λ c κs. search needs) returns (λ c κs. search needs) returns-2)

@@ -4,22 +4,13 @@ use Rattle.workbench.proofs.Formed.{has-called, has-not}
 use Rattle.transaction_calls.proofs.write.Statement.{statement}
 use Rattle.transaction_calls.proofs.write.Tie as tie
 
-has-data-requires : tie.Need-has-data-requires
-has-data-requires c κs = search needs
-
 write-requires : tie.Need-write-requires
 write-requires c κs = sym (c .before .before .before .has-data .ensures) ∙ c .before .before .if1 .taken
-
-called-requires : tie.Need-called-requires
-called-requires c κs = search needs
 
 returns : tie.Need-returns
 returns c =
     let form = sym (c .before .before .before .before .before .has-data .ensures) ∙ c .before .before .before .before .if1 .taken in
     has-called _ _ _ _ _ form (c .before .write .ensures) (c .called .ensures)
-
-other-requires : tie.Need-other-requires
-other-requires c κs = search needs
 
 returns-2 : tie.Need-returns-2
 returns-2 c =
@@ -29,4 +20,4 @@ returns-2 c =
 pub write-spec : {M : Type 1} → statement M
 write-spec =
     tie.close
-    (tie.spec has-data-requires write-requires called-requires returns other-requires returns-2)
+    (tie.spec (λ c κs. search needs) write-requires (λ c κs. search needs) returns (λ c κs. search needs) returns-2)

@@ -3,9 +3,6 @@ use Rattle.refinement.specs.Calls.{checkpointOf}
 use Rattle.transactions.proofs.checkpoint.Statement.{statement}
 use Rattle.transactions.proofs.checkpoint.Tie as tie
 
-ask-requires : tie.Need-ask-requires
-ask-requires c κs = search needs
-
 returns : tie.Need-returns
 unfolding checkpointOf
 returns c = c .ask .ensures
@@ -14,5 +11,5 @@ pub checkpoint-spec : {M : Type 1} → statement M
 checkpoint-spec =
     tie.close
     (tie.spec
-    ask-requires
+    (λ c κs. search needs)
     returns)

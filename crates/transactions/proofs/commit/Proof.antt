@@ -3,9 +3,6 @@ use Rattle.refinement.specs.Calls.{commitOf}
 use Rattle.transactions.proofs.commit.Statement.{statement}
 use Rattle.transactions.proofs.commit.Tie as tie
 
-ask-requires : tie.Need-ask-requires
-ask-requires c κs = search needs
-
 returns : tie.Need-returns
 unfolding commitOf
 returns c = c .ask .ensures
@@ -14,5 +11,5 @@ pub commit-spec : {M : Type 1} → statement M
 commit-spec =
     tie.close
     (tie.spec
-    ask-requires
+    (λ c κs. search needs)
     returns)

@@ -3,9 +3,6 @@ use Rattle.refinement.specs.Calls.{consolidateOf}
 use Rattle.transactions.proofs.consolidate.Statement.{statement}
 use Rattle.transactions.proofs.consolidate.Tie as tie
 
-ask-requires : tie.Need-ask-requires
-ask-requires c κs = search needs
-
 returns : tie.Need-returns
 unfolding consolidateOf
 returns c = c .ask .ensures
@@ -14,5 +11,5 @@ pub consolidate-spec : {M : Type 1} → statement M
 consolidate-spec =
     tie.close
     (tie.spec
-    ask-requires
+    (λ c κs. search needs)
     returns)

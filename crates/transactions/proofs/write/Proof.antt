@@ -11,9 +11,6 @@ use Rattle.transactions.proofs.Writing.{write-none, write-refused, writ
 use Rattle.transactions.proofs.write.Statement.{statement}
 use Rattle.transactions.proofs.write.Tie as tie
 
-write-found-requires : tie.Need-write-found-requires
-write-found-requires c κs = search needs
-
 refused-requires : tie.Need-refused-requires
 refused-requires c κs =
     let a = c .before .before .before .before .before .before .before .before .before .before .before .before .before .before .before .args in
@@ -39,12 +36,6 @@ merged-line-requires c κs =
       q .1,
     )
 
-pending-from-requires : tie.Need-pending-from-requires
-pending-from-requires c κs = search needs
-
-taken-requires : tie.Need-taken-requires
-taken-requires c κs = search needs
-
 returns-2 : tie.Need-returns-2
 returns-2 c =
     let a = c .before .before .before .before .before .before .before .before .before .before .before .before .before .before .before .before .before .before .before .args in
@@ -54,10 +45,10 @@ pub write-spec : {M : Type 1} → statement M
 write-spec =
     tie.close
     (tie.spec
-    write-found-requires
+    (λ c κs. search needs)
     refused-requires
     returns
     merged-line-requires
-    pending-from-requires
-    taken-requires
+    (λ c κs. search needs)
+    (λ c κs. search needs)
     returns-2)

@@ -15,9 +15,6 @@ st c =
     let a = c .args in
     stateOf (a .z) (a .head) (a .tail) (a .next) (a .page .now) (a .original .now) (a .spare .now) (a .bitmap .now) (a .last .now) (a .opened .now) (a .held .now) (a .pending)
 
-is-idle-requires : tie.Need-is-idle-requires
-is-idle-requires c κs = search needs
-
 returns : tie.Need-returns
 unfolding pendingOk
 returns c = rw (← c .before .is-idle .ensures, c .if1 .taken)
@@ -42,7 +39,7 @@ pub pending-ok-spec : {M : Type 1} → statement M
 pending-ok-spec =
     tie.close
     (tie.spec
-    is-idle-requires
+    (λ c κs. search needs)
     returns
     op-row-requires
     returns-2

@@ -32,9 +32,6 @@ ranged3 c = ranged (st (c .before .before .before .before .before .before)) (slo
 lasts4 : (c : tie.Else4) → let s = st (c .before .before .before .before .before .before .before .before) in lastsOk (s .sizes) (s .head) (s .tail) (s .table .last) ≡ true
 lasts4 c = held _ _ (c .before .lasts-ok .ensures) (c .if4 .left)
 
-slots-ok-requires : tie.Need-slots-ok-requires
-slots-ok-requires c κs = search needs
-
 returns : tie.Need-returns
 unfolding stateOk slotsOk
 returns c = and-stops _ _ _ (c .before .slots-ok .ensures) (c .if1 .taken)
@@ -68,7 +65,7 @@ pub state-ok-spec : {M : Type 1} → statement M
 state-ok-spec =
     tie.close
     (tie.spec
-    slots-ok-requires
+    (λ c κs. search needs)
     returns
     held-ok-requires
     returns-2

@@ -16,9 +16,6 @@ after s = withWriters (s .args .st) (closedWriter (s .args .st .sizes) (s .args 
 taken1 : (c : tie.Else1) → let a = c .before .before .before .before .before .before .before .before .before .before .before .before .args in AbortTaken (a .st) (a .writer)
 taken1 c = let a = c .before .before .before .before .before .before .before .before .before .before .before .before .args in abort-taken (a .st) (a .writer) (sym (c .before .writer-row .ensures) ∙ c .if1 .left)
 
-writer-row-requires : tie.Need-writer-row-requires
-writer-row-requires c κs = search needs
-
 refused-requires : tie.Need-refused-requires
 refused-requires c κs = let a = c .before .before .before .before .before .before .before .before .before .before .before .before .args in rw (c .before .writer-row .ensures) (row-known (abortRows (a .st) (a .writer)) (omega arith))
 
@@ -34,9 +31,6 @@ set-open-requires c κs = taken1 (c .before) .writer-low
 let-go-requires : tie.Need-let-go-requires
 let-go-requires c κs = let t = taken1 (c .before .before .before .before) in (ranges-of (c .before .before .before .before .before .before .before .before .before .before .before .before .before .before .before .before .args .st) (t .is-valid) .legal, t .writer-low)
 
-taken-requires : tie.Need-taken-requires
-taken-requires c κs = search needs
-
 returns-2 : tie.Need-returns-2
 unfolding abortOf closedWriter
 returns-2 c =
@@ -48,10 +42,10 @@ pub abort-spec : {M : Type 1} → statement M
 abort-spec =
     tie.close
     (tie.spec
-    writer-row-requires
+    (λ c κs. search needs)
     refused-requires
     returns
     set-open-requires
     let-go-requires
-    taken-requires
+    (λ c κs. search needs)
     returns-2)

@@ -7,9 +7,6 @@ use Rattle.refinement.specs.Calls.{beginRows, beginOf, withWriters}
 use Rattle.writers.proofs.begin.Statement.{statement}
 use Rattle.writers.proofs.begin.Tie as tie
 
-writer-row-requires : tie.Need-writer-row-requires
-writer-row-requires c κs = search needs
-
 refused-requires : tie.Need-refused-requires
 refused-requires c κs = let a = c .before .before .before .before .before .before .before .before .before .before .before .before .args in rw (c .before .writer-row .ensures) (row-known (beginRows (a .st) (a .writer)) (omega arith))
 
@@ -22,9 +19,6 @@ returns c =
 set-open-requires : tie.Need-set-open-requires
 set-open-requires c κs = let a = c .before .before .before .before .before .before .before .before .before .before .before .before .before .args in begin-taken (a .st) (a .writer) (sym (c .before .before .writer-row .ensures) ∙ c .before .if1 .left) .writer-low
 
-taken-requires : tie.Need-taken-requires
-taken-requires c κs = search needs
-
 returns-2 : tie.Need-returns-2
 unfolding beginOf
 returns-2 c =
@@ -36,9 +30,9 @@ pub begin-spec : {M : Type 1} → statement M
 begin-spec =
     tie.close
     (tie.spec
-    writer-row-requires
+    (λ c κs. search needs)
     refused-requires
     returns
     set-open-requires
-    taken-requires
+    (λ c κs. search needs)
     returns-2)

@@ -23,23 +23,14 @@ past2 c = (sym (ap not (c .before .before .before .state-ok .ensures)) ∙ c .be
 past3 : (c : tie.Else3) → Past (rows (c .before .before .before .before .before)) 3
 past3 c = let p = past2 (c .before) in (p .0, (p .1 .0, (le-ltb _ _ (c .if3 .left), tt)))
 
-state-ok-requires : tie.Need-state-ok-requires
-state-ok-requires c κs = search needs
-
 returns : tie.Need-returns
 returns c = row-at (rows (c .before .before)) 0 (omega arith) tt (sym (ap not (c .before .state-ok .ensures)) ∙ c .if1 .taken)
-
-is-idle-requires : tie.Need-is-idle-requires
-is-idle-requires c κs = search needs
 
 returns-2 : tie.Need-returns-2
 returns-2 c = row-at (rows (c .before .before .before .before)) 1 (omega arith) (sym (ap not (c .before .before .before .state-ok .ensures)) ∙ c .before .before .if1 .left, tt) (sym (ap not (c .before .is-idle .ensures)) ∙ c .if2 .taken)
 
 returns-3 : tie.Need-returns-3
 returns-3 c = row-at (rows (c .before .before .before .before .before)) 2 (omega arith) (past2 (c .before)) (lt-ltb _ _ (c .if3 .taken))
-
-element-copy-out-open : tie.Need-element-copy-out-open
-element-copy-out-open c = search needs
 
 past4 : (c : tie.Else4) → Past (rows (c .before .before .before .before .before .before .before)) 4
 past4 c = let p = past3 (c .before .before) in (p .0, (p .1 .0, (p .1 .1 .0, (c .if4 .left, tt))))
@@ -59,12 +50,12 @@ pub writer-row-spec : {M : Type 1} → statement M
 writer-row-spec =
     tie.close
     (tie.spec
-    state-ok-requires
+    (λ c κs. search needs)
     returns
-    is-idle-requires
+    (λ c κs. search needs)
     returns-2
     returns-3
-    element-copy-out-open
+    (λ c. search needs)
     returns-4
     returns-5
     returns-6)

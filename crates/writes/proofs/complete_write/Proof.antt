@@ -5,12 +5,6 @@ use borrow.Author.Needs.{needs}
 use Rattle.writes.proofs.complete_write.Statement.{statement}
 use Rattle.writes.proofs.complete_write.Tie as tie
 
-slot-of-requires : tie.Need-slot-of-requires
-slot-of-requires c κs = search needs
-
-write-slot-requires : tie.Need-write-slot-requires
-write-slot-requires c κs = search needs
-
 hold-requires : tie.Need-hold-requires
 hold-requires c κs = let s = c .before .before .before .before .before in
     (s .pre .2, omega (arith, write-slot-low (s .args .z) (s .args .page .now) (s .args .next) (s .args .p) _ (s .pre .0) (c .before .write-slot .ensures), s .pre .0), s .pre .3)
@@ -50,8 +44,8 @@ pub complete-write-spec : {M : Type 1} → statement M
 complete-write-spec =
     tie.close
     (tie.spec
-    slot-of-requires
-    write-slot-requires
+    (λ c κs. search needs)
+    (λ c κs. search needs)
     hold-requires
     returns
     put-requires

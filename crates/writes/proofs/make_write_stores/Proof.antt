@@ -7,9 +7,6 @@ use Rattle.refinement.proofs.WritePlaces.{write-frame-low}
 use Rattle.writes.proofs.make_write_stores.Statement.{statement}
 use Rattle.writes.proofs.make_write_stores.Tie as tie
 
-write-frame-requires : tie.Need-write-frame-requires
-write-frame-requires c κs = search needs
-
 store-line-words-requires : tie.Need-store-line-words-requires
 store-line-words-requires c κs =
     let s = c .before .before .before in (
@@ -20,9 +17,6 @@ store-line-words-requires c κs =
       s .pre .5,
     )
 
-same-length : tie.Need-same-length
-same-length c = search needs
-
 returns : tie.Need-returns
 returns c =
     let s = c .before .before .before .before .before .before in
@@ -32,4 +26,4 @@ returns c =
 pub make-write-stores-spec : {M : Type 1} → statement M
 make-write-stores-spec =
     tie.close
-    (tie.spec write-frame-requires store-line-words-requires same-length returns)
+    (tie.spec (λ c κs. search needs) store-line-words-requires (λ c. search needs) returns)

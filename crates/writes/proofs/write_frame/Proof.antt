@@ -6,16 +6,10 @@ use Rattle.writes.proofs.WriteMade.{write-frame-made}
 use Rattle.writes.proofs.write_frame.Statement.{statement}
 use Rattle.writes.proofs.write_frame.Tie as tie
 
-write-slot-requires : tie.Need-write-slot-requires
-write-slot-requires c κs = search needs
-
 slot-at-requires : tie.Need-slot-at-requires
 slot-at-requires c κs =
     let s = c .before in
     omega (arith, write-slot-low (s .args .z) (s .args .page .now) (s .args .next) (s .args .p) _ (s .pre .0) (c .write-slot .ensures), s .pre .0)
-
-other-frame-requires : tie.Need-other-frame-requires
-other-frame-requires c κs = search needs
 
 returns : tie.Need-returns
 returns c =
@@ -25,4 +19,4 @@ returns c =
 pub write-frame-spec : {M : Type 1} → statement M
 write-frame-spec =
     tie.close
-    (tie.spec write-slot-requires slot-at-requires other-frame-requires returns)
+    (tie.spec (λ c κs. search needs) slot-at-requires (λ c κs. search needs) returns)

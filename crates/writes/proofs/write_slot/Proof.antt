@@ -5,14 +5,8 @@ use Rattle.state.specs.Slots.{freeAfter}
 use Rattle.writes.proofs.write_slot.Statement.{statement}
 use Rattle.writes.proofs.write_slot.Tie as tie
 
-slot-of-requires : tie.Need-slot-of-requires
-slot-of-requires c κs = search needs
-
 returns : tie.Need-returns
 returns c = rw (← c .before .before .slot-of .ensures, lt-ltb _ _ (c .if1 .taken))
-
-free-after-requires : tie.Need-free-after-requires
-free-after-requires c κs = search needs
 
 round-slot-requires : tie.Need-round-slot-requires
 unfolding freeAfter
@@ -25,4 +19,4 @@ returns-2 c = rw (← c .before .before .before .before .slot-of .ensures, le-lt
 pub write-slot-spec : {M : Type 1} → statement M
 write-slot-spec =
     tie.close
-    (tie.spec slot-of-requires returns free-after-requires round-slot-requires returns-2)
+    (tie.spec (λ c κs. search needs) returns (λ c κs. search needs) round-slot-requires returns-2)

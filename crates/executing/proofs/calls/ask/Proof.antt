@@ -19,50 +19,8 @@ told : (s : tie.Start) (b : Ask) (x : Result) → s .args .a ≡ b → x ≡ exe
     → x ≡ exec (callOf (s .args .a) (s .args .count) (s .args .numbers .now)) (world s)
 told s b x e h = rw e h
 
-element-copy-out-first : tie.Need-element-copy-out-first
-element-copy-out-first c = search needs
-
-enum-told : tie.Need-enum-told
-enum-told c = search needs
-
-begin-requires : tie.Need-begin-requires
-begin-requires c κs = search needs
-
-enum-told-2 : tie.Need-enum-told-2
-enum-told-2 c = search needs
-
-commit-requires : tie.Need-commit-requires
-commit-requires c κs = search needs
-
-enum-told-3 : tie.Need-enum-told-3
-enum-told-3 c = search needs
-
-abort-requires : tie.Need-abort-requires
-abort-requires c κs = search needs
-
-enum-told-4 : tie.Need-enum-told-4
-enum-told-4 c = search needs
-
 write-requires : tie.Need-write-requires
 write-requires c κs = c .before .before .before .before .pre (c .enum-told4 .given .1)
-
-enum-told-5 : tie.Need-enum-told-5
-enum-told-5 c = search needs
-
-consolidate-requires : tie.Need-consolidate-requires
-consolidate-requires c κs = search needs
-
-enum-told-6 : tie.Need-enum-told-6
-enum-told-6 c = search needs
-
-checkpoint-requires : tie.Need-checkpoint-requires
-checkpoint-requires c κs = search needs
-
-enum-told-7 : tie.Need-enum-told-7
-enum-told-7 c = search needs
-
-remount-requires : tie.Need-remount-requires
-remount-requires c κs = search needs
 
 returns : tie.Need-returns
 unfolding exec
@@ -111,21 +69,21 @@ pub ask-spec : {M : Type 1} → statement M
 ask-spec =
     tie.close
     (tie.spec
-    element-copy-out-first
-    enum-told
-    begin-requires
-    enum-told-2
-    commit-requires
-    enum-told-3
-    abort-requires
-    enum-told-4
+    (λ c. search needs)
+    (λ c. search needs)
+    (λ c κs. search needs)
+    (λ c. search needs)
+    (λ c κs. search needs)
+    (λ c. search needs)
+    (λ c κs. search needs)
+    (λ c. search needs)
     write-requires
-    enum-told-5
-    consolidate-requires
-    enum-told-6
-    checkpoint-requires
-    enum-told-7
-    remount-requires
+    (λ c. search needs)
+    (λ c κs. search needs)
+    (λ c. search needs)
+    (λ c κs. search needs)
+    (λ c. search needs)
+    (λ c κs. search needs)
     returns
     returns-2
     returns-3

@@ -7,15 +7,6 @@ use Rattle.executing.specs.Called.{afterCut}
 use Rattle.executing.proofs.finishing.after_cut.Statement.{statement}
 use Rattle.executing.proofs.finishing.after_cut.Tie as tie
 
-enum-told : tie.Need-enum-told
-enum-told c = search needs
-
-enum-told-2 : tie.Need-enum-told-2
-enum-told-2 c = search needs
-
-remount-requires : tie.Need-remount-requires
-remount-requires c κs = search needs
-
 returns : tie.Need-returns
 returns c =
     let a = c .before .before .before .args in
@@ -31,8 +22,8 @@ pub after-cut-spec : {M : Type 1} → statement M
 after-cut-spec =
     tie.close
     (tie.spec
-    enum-told
-    enum-told-2
-    remount-requires
+    (λ c. search needs)
+    (λ c. search needs)
+    (λ c κs. search needs)
     returns
     returns-2)

@@ -3,37 +3,10 @@ use Rattle.executing.proofs.Finished.{finish-none, finish-made}
 use Rattle.executing.proofs.finishing.finish.Statement.{statement}
 use Rattle.executing.proofs.finishing.finish.Tie as tie
 
-number-of-requires : tie.Need-number-of-requires
-number-of-requires c κs = search needs
-
-stores-of-requires : tie.Need-stores-of-requires
-stores-of-requires c κs = search needs
-
-answered-requires : tie.Need-answered-requires
-answered-requires c κs = search needs
-
 returns : tie.Need-returns
 returns c =
     let a = c .before .before .before .before .before .before .args in
     finish-none (a .d) (a .cut) (a .letter) _ _ (a .image .now) (c .before .before .before .number-of .ensures) (c .before .before .stores-of .ensures) _ (c .before .if1 .taken) (c .answered .ensures)
-
-budget-of-requires : tie.Need-budget-of-requires
-budget-of-requires c κs = search needs
-
-run-requires : tie.Need-run-requires
-run-requires c κs = search needs
-
-stores-of-requires-2 : tie.Need-stores-of-requires-2
-stores-of-requires-2 c κs = search needs
-
-after-cut-requires : tie.Need-after-cut-requires
-after-cut-requires c κs = search needs
-
-answered-requires-2 : tie.Need-answered-requires-2
-answered-requires-2 c κs = search needs
-
-same-length : tie.Need-same-length
-same-length c = search needs
 
 returns-2 : tie.Need-returns-2
 returns-2 c =
@@ -52,14 +25,14 @@ pub finish-spec : {M : Type 1} → statement M
 finish-spec =
     tie.close
     (tie.spec
-    number-of-requires
-    stores-of-requires
-    answered-requires
+    (λ c κs. search needs)
+    (λ c κs. search needs)
+    (λ c κs. search needs)
     returns
-    budget-of-requires
-    run-requires
-    stores-of-requires-2
-    after-cut-requires
-    answered-requires-2
-    same-length
+    (λ c κs. search needs)
+    (λ c κs. search needs)
+    (λ c κs. search needs)
+    (λ c κs. search needs)
+    (λ c κs. search needs)
+    (λ c. search needs)
     returns-2)

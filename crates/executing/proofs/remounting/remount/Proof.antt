@@ -3,12 +3,6 @@ use Rattle.executing.proofs.Finished.{mount-taken, mount-refused}
 use Rattle.executing.proofs.remounting.remount.Statement.{statement}
 use Rattle.executing.proofs.remounting.remount.Tie as tie
 
-mount-requires : tie.Need-mount-requires
-mount-requires c κs = search needs
-
-number-of-requires : tie.Need-number-of-requires
-number-of-requires c κs = search needs
-
 returns : tie.Need-returns
 returns c =
     let a = c .before .before .before .before .args in
@@ -23,7 +17,7 @@ pub remount-spec : {M : Type 1} → statement M
 remount-spec =
     tie.close
     (tie.spec
-    mount-requires
-    number-of-requires
+    (λ c κs. search needs)
+    (λ c κs. search needs)
     returns
     returns-2)

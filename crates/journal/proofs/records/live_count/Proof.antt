@@ -7,15 +7,6 @@ use native.Mathlib.Omega.{arith}
 use Rattle.journal.proofs.records.live_count.Statement.{statement}
 use Rattle.journal.proofs.records.live_count.Tie as tie
 
-mul-result : tie.Need-mul-result
-mul-result c = search needs
-
-add-result : tie.Need-add-result
-add-result c = search needs
-
-sub-result : tie.Need-sub-result
-sub-result c = search needs
-
 returns : tie.Need-returns
 returns c =
     let a = c .before .before .args in
@@ -33,4 +24,4 @@ returns-2 c =
     e ∙ sym (mod-eq-sub-mod h ∙ mod-eq-of-lt l)
 
 pub live-count-spec : {M : Type 1} → statement M
-live-count-spec = tie.close (tie.spec mul-result add-result sub-result returns returns-2)
+live-count-spec = tie.close (tie.spec (λ c. search needs) (λ c. search needs) (λ c. search needs) returns returns-2)

@@ -9,12 +9,6 @@ use Rattle.journal.specs.Records.{recordFrom, liveRecord}
 use Rattle.journal.proofs.records.live_record.Statement.{statement}
 use Rattle.journal.proofs.records.live_record.Tie as tie
 
-position-requires : tie.Need-position-requires
-position-requires c κs = search needs
-
-record-word-requires : tie.Need-record-word-requires
-record-word-requires c κs = search needs
-
 record-from-requires : tie.Need-record-from-requires
 record-from-requires c κs = omega (arith, place-lt (c .before .before .before .args .z) (c .before .before .before .pre .0) (c .before .position .result))
 
@@ -25,4 +19,4 @@ returns c = let x = c .before .before .before .before .args in
 
 pub live-record-spec : {M : Type 1} → statement M
 live-record-spec =
-    tie.close (tie.spec position-requires record-word-requires record-from-requires returns)
+    tie.close (tie.spec (λ c κs. search needs) (λ c κs. search needs) record-from-requires returns)

@@ -7,20 +7,8 @@ use native.Mathlib.Omega.{arith}
 use Rattle.journal.proofs.records.position.Statement.{statement}
 use Rattle.journal.proofs.records.position.Tie as tie
 
-add-q : tie.Need-add-q
-add-q c = search needs
-
-mul-if1 : tie.Need-mul-if1
-mul-if1 c = search needs
-
 returns : tie.Need-returns
 returns c = sym (mod-eq-of-lt (c .if1 .taken))
-
-mul-result : tie.Need-mul-result
-mul-result c = search needs
-
-sub-result : tie.Need-sub-result
-sub-result c = search needs
 
 returns-2 : tie.Need-returns-2
 returns-2 c =
@@ -28,4 +16,4 @@ returns-2 c =
     sym (mod-eq-sub-mod h ∙ mod-eq-of-lt (search needs))
 
 pub position-spec : {M : Type 1} → statement M
-position-spec = tie.close (tie.spec add-q mul-if1 returns mul-result sub-result returns-2)
+position-spec = tie.close (tie.spec (λ c. search needs) (λ c. search needs) returns (λ c. search needs) (λ c. search needs) returns-2)

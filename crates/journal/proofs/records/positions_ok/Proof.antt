@@ -9,24 +9,15 @@ use Rattle.journal.specs.Records.{liveCount}
 use Rattle.journal.proofs.records.positions_ok.Statement.{statement}
 use Rattle.journal.proofs.records.positions_ok.Tie as tie
 
-mul-if1 : tie.Need-mul-if1
-mul-if1 c = search needs
-
 returns : tie.Need-returns
 returns c =
     let x = c .before .before .args in
     every-fails (ltb (x .head) (2 * x .z .places) ∷ ltb (x .tail) (2 * x .z .places) ∷ leb (liveCount (x .z) (x .head) (x .tail)) (x .z .places) ∷ []) 0 (le-ltb _ _ (c .if1 .taken))
 
-mul-if2 : tie.Need-mul-if2
-mul-if2 c = search needs
-
 returns-2 : tie.Need-returns-2
 returns-2 c =
     let x = c .before .before .before .before .args in
     every-fails (ltb (x .head) (2 * x .z .places) ∷ ltb (x .tail) (2 * x .z .places) ∷ leb (liveCount (x .z) (x .head) (x .tail)) (x .z .places) ∷ []) 1 (le-ltb _ _ (c .if2 .taken))
-
-live-count-requires : tie.Need-live-count-requires
-live-count-requires c κs = search needs
 
 returns-3 : tie.Need-returns-3
 returns-3 c =
@@ -35,4 +26,4 @@ returns-3 c =
 
 pub positions-ok-spec : {M : Type 1} → statement M
 positions-ok-spec =
-    tie.close (tie.spec mul-if1 returns mul-if2 returns-2 live-count-requires returns-3)
+    tie.close (tie.spec (λ c. search needs) returns (λ c. search needs) returns-2 (λ c κs. search needs) returns-3)

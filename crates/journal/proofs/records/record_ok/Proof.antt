@@ -3,11 +3,8 @@ use borrow.Author.Needs.{needs}
 use Rattle.journal.proofs.records.record_ok.Statement.{statement}
 use Rattle.journal.proofs.records.record_ok.Tie as tie
 
-is-shaped-requires : tie.Need-is-shaped-requires
-is-shaped-requires c κs = search needs
-
 returns : tie.Need-returns
 returns c = rw (c .is-shaped .ensures)
 
 pub record-ok-spec : {M : Type 1} → statement M
-record-ok-spec = tie.close (tie.spec is-shaped-requires returns)
+record-ok-spec = tie.close (tie.spec (λ c κs. search needs) returns)

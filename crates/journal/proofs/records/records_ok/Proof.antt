@@ -19,20 +19,8 @@ Inv-loop image z tail n before₀ i₀ before i = (i ≤ n) × (before ≡ liveR
 abbrev μ-loop : tie.MeasureT-loop
 μ-loop image z tail n before₀ i₀ before i = n - i
 
-live-record-requires : tie.Need-live-record-requires Inv-loop μ-loop
-live-record-requires c κs = search needs
-
 loop-holds : tie.Need-loop-holds Inv-loop μ-loop
 loop-holds c = (search needs, c .live-record .ensures, all-none _)
-
-position-requires : tie.Need-position-requires Inv-loop μ-loop
-position-requires c κs = search needs
-
-live-record-requires-2 : tie.Need-live-record-requires-2 Inv-loop μ-loop
-live-record-requires-2 c κs = search needs
-
-record-ok-requires : tie.Need-record-ok-requires Inv-loop μ-loop
-record-ok-requires c κs = search needs
 
 returns : tie.Need-returns Inv-loop μ-loop
 unfolding recordsOk
@@ -41,12 +29,6 @@ returns c = let x = c .before .before .before .before .before .before .before .b
     let i = c .before .before .before .before .before .loop .i in
     let r = right-read (x .z) (x .tail) e i (c .before .record-ok .ensures) (c .before .before .before .position .ensures) (c .before .before .before .before .before .loop .inv .1) (c .before .before .live-record2 .ensures) in
     all-stops (recordOk (x .z) (x .tail) e) (x .n) i _ (c .before .before .before .before .loop-test .taken) r (not-true _ (c .if1 .taken))
-
-add-i : tie.Need-add-i Inv-loop μ-loop
-add-i c = search needs
-
-loop-less : tie.Need-loop-less Inv-loop μ-loop
-loop-less c = search needs
 
 loop-again : tie.Need-loop-again Inv-loop μ-loop
 loop-again c =
@@ -67,13 +49,13 @@ records-ok-spec =
     (tie.spec
     Inv-loop
     μ-loop
-    live-record-requires
+    (λ c κs. search needs)
     loop-holds
-    position-requires
-    live-record-requires-2
-    record-ok-requires
+    (λ c κs. search needs)
+    (λ c κs. search needs)
+    (λ c κs. search needs)
     returns
-    add-i
-    loop-less
+    (λ c. search needs)
+    (λ c. search needs)
     loop-again
     returns-2)

@@ -5,20 +5,8 @@ use Rattle.bounded.proofs.Tests.{row-yes, row-no}
 use Rattle.journal.proofs.records.word_of_record.Statement.{statement}
 use Rattle.journal.proofs.records.word_of_record.Tie as tie
 
-mul-result : tie.Need-mul-result
-mul-result c = search needs
-
-add-result : tie.Need-add-result
-add-result c = search needs
-
 returns : tie.Need-returns
 returns c = row-yes _ _ _ (eq-eqb _ _ (c .before .before .if1 .taken))
-
-sub-word-of-slot : tie.Need-sub-word-of-slot
-sub-word-of-slot c = search needs
-
-word-of-slot-requires : tie.Need-word-of-slot-requires
-word-of-slot-requires c κs = search needs
 
 returns-2 : tie.Need-returns-2
 returns-2 c = row-no _ _ _ _ (ne-eqb _ _ (c .before .before .if1 .left)) (c .word-of-slot .ensures)
@@ -26,4 +14,4 @@ returns-2 c = row-no _ _ _ _ (ne-eqb _ _ (c .before .before .if1 .left)) (c .wor
 pub word-of-record-spec : {M : Type 1} → statement M
 word-of-record-spec =
     tie.close
-    (tie.spec mul-result add-result returns sub-word-of-slot word-of-slot-requires returns-2)
+    (tie.spec (λ c. search needs) (λ c. search needs) returns (λ c. search needs) (λ c κs. search needs) returns-2)

@@ -9,12 +9,6 @@ use Rattle.journal.proofs.slots.word_of_slot.Tie as tie
 returns : tie.Need-returns
 returns c = row-yes _ _ _ (eq-eqb _ _ (c .if1 .taken))
 
-mul-result : tie.Need-mul-result
-mul-result c = search needs
-
-add-result : tie.Need-add-result
-add-result c = search needs
-
 returns-2 : tie.Need-returns-2
 returns-2 c = row-no _ _ _ _ (ne-eqb _ _ (c .before .before .before .if1 .left)) (row-yes _ _ _ (eq-eqb _ _ (c .before .before .if2 .taken)))
 
@@ -22,4 +16,4 @@ returns-3 : tie.Need-returns-3
 returns-3 c = row-no _ _ _ _ (ne-eqb _ _ (c .before .if1 .left)) (row-no _ _ _ _ (ne-eqb _ _ (c .if2 .left)) refl)
 
 pub word-of-slot-spec : {M : Type 1} → statement M
-word-of-slot-spec = tie.close (tie.spec returns mul-result add-result returns-2 returns-3)
+word-of-slot-spec = tie.close (tie.spec returns (λ c. search needs) (λ c. search needs) returns-2 returns-3)

@@ -16,23 +16,11 @@ abbrev μ-loop : tie.MeasureT-loop
 loop-holds : tie.Need-loop-holds Inv-loop μ-loop
 loop-holds c = (refl, refl)
 
-line-end-requires : tie.Need-line-end-requires Inv-loop μ-loop
-line-end-requires c κs = search needs
-
-keep-requires : tie.Need-keep-requires Inv-loop μ-loop
-keep-requires c κs = search needs
-
 same-length : tie.Need-same-length Inv-loop μ-loop
 same-length c = c .before .before .before .before .before .before .before .loop .inv .0
 
 same-length-2 : tie.Need-same-length-2 Inv-loop μ-loop
 same-length-2 c = c .before .before .before .keep .kept .0 ∙ c .before .before .before .before .before .before .before .loop .inv .1
-
-returns : tie.Need-returns Inv-loop μ-loop
-returns c = search needs
-
-perform-kept-requires : tie.Need-perform-kept-requires Inv-loop μ-loop
-perform-kept-requires c κs = search needs
 
 add-from : tie.Need-add-from Inv-loop μ-loop
 add-from c =
@@ -61,9 +49,6 @@ same-length-3 c = c .before .loop .inv .0
 same-length-4 : tie.Need-same-length-4 Inv-loop μ-loop
 same-length-4 c = c .before .loop .inv .1
 
-returns-2 : tie.Need-returns-2 Inv-loop μ-loop
-returns-2 c = search needs
-
 pub perform-piece-spec : {M : Type 1} → statement M
 perform-piece-spec =
     tie.close
@@ -71,15 +56,15 @@ perform-piece-spec =
     Inv-loop
     μ-loop
     loop-holds
-    line-end-requires
-    keep-requires
+    (λ c κs. search needs)
+    (λ c κs. search needs)
     same-length
     same-length-2
-    returns
-    perform-kept-requires
+    (λ c. search needs)
+    (λ c κs. search needs)
     add-from
     loop-less
     loop-again
     same-length-3
     same-length-4
-    returns-2)
+    (λ c. search needs))

@@ -22,9 +22,6 @@ some c = ltb-true 0 (c .before .before .loop .turns) (and-left (ltb 0 (c .before
 loop-holds : tie.Need-loop-holds Inv-loop μ-loop
 loop-holds c = (refl, refl)
 
-read-piece-requires : tie.Need-read-piece-requires Inv-loop μ-loop
-read-piece-requires c κs = search needs
-
 sub-turns : tie.Need-sub-turns Inv-loop μ-loop
 sub-turns c = omega (arith, some (c .before .before .before .before .before .before .before .before))
 
@@ -43,9 +40,6 @@ same-length c = c .before .before .loop .inv .0
 same-length-2 : tie.Need-same-length-2 Inv-loop μ-loop
 same-length-2 c = c .before .before .loop .inv .1
 
-returns : tie.Need-returns Inv-loop μ-loop
-returns c = search needs
-
 pub read-all-spec : {M : Type 1} → statement M
 read-all-spec =
     tie.close
@@ -53,10 +47,10 @@ read-all-spec =
     Inv-loop
     μ-loop
     loop-holds
-    read-piece-requires
+    (λ c κs. search needs)
     sub-turns
     loop-less
     loop-again
     same-length
     same-length-2
-    returns)
+    (λ c. search needs))

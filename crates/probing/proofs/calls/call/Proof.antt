@@ -5,54 +5,9 @@ use Rattle.probing.specs.Calls.{callTurn, callBytes}
 use Rattle.probing.proofs.calls.call.Statement.{statement}
 use Rattle.probing.proofs.calls.call.Tie as tie
 
-format-requires : tie.Need-format-requires
-format-requires c κs = search needs
-
-mount-requires : tie.Need-mount-requires
-mount-requires c κs = search needs
-
-begin-requires : tie.Need-begin-requires
-begin-requires c κs = search needs
-
-abort-requires : tie.Need-abort-requires
-abort-requires c κs = search needs
-
-commit-requires : tie.Need-commit-requires
-commit-requires c κs = search needs
-
-consolidate-requires : tie.Need-consolidate-requires
-consolidate-requires c κs = search needs
-
-checkpoint-requires : tie.Need-checkpoint-requires
-checkpoint-requires c κs = search needs
-
-write-requires : tie.Need-write-requires
-write-requires c κs = search needs
-
-step-requires : tie.Need-step-requires
-step-requires c κs = search needs
-
-run-requires : tie.Need-run-requires
-run-requires c κs = search needs
-
-read-requires : tie.Need-read-requires
-read-requires c κs = search needs
-
-recall-requires : tie.Need-recall-requires
-recall-requires c κs = search needs
-
-other-requires : tie.Need-other-requires
-other-requires c κs = search needs
-
-same-length : tie.Need-same-length
-same-length c = search needs
-
 returns : tie.Need-returns
 unfolding callTurn callBytes
 returns c = rw (c .before .before .before .before .match .keys1) (c .before .before .format .ensures .0, c .before .before .format .ensures .1)
-
-same-length-2 : tie.Need-same-length-2
-same-length-2 c = search needs
 
 returns-2 : tie.Need-returns-2
 unfolding callTurn callBytes
@@ -66,57 +21,33 @@ returns-4 : tie.Need-returns-4
 unfolding callTurn callBytes
 returns-4 c = rw (c .before .match .keys4) (c .abort .ensures, refl)
 
-same-length-3 : tie.Need-same-length-3
-same-length-3 c = search needs
-
 returns-5 : tie.Need-returns-5
 unfolding callTurn callBytes
 returns-5 c = rw (c .before .before .match .keys5) (c .commit .ensures, refl)
-
-same-length-4 : tie.Need-same-length-4
-same-length-4 c = search needs
 
 returns-6 : tie.Need-returns-6
 unfolding callTurn callBytes
 returns-6 c = rw (c .before .before .match .keys6) (c .consolidate .ensures, refl)
 
-same-length-5 : tie.Need-same-length-5
-same-length-5 c = search needs
-
 returns-7 : tie.Need-returns-7
 unfolding callTurn callBytes
 returns-7 c = rw (c .before .before .match .keys7) (c .checkpoint .ensures, refl)
-
-same-length-6 : tie.Need-same-length-6
-same-length-6 c = search needs
 
 returns-8 : tie.Need-returns-8
 unfolding callTurn callBytes
 returns-8 c = rw (c .before .before .match .keys8) (c .write .ensures, refl)
 
-same-length-7 : tie.Need-same-length-7
-same-length-7 c = search needs
-
 returns-9 : tie.Need-returns-9
 unfolding callTurn callBytes
 returns-9 c = rw (c .before .before .before .before .match .keys9) (c .before .before .step .ensures .0, c .before .before .step .ensures .1)
-
-same-length-8 : tie.Need-same-length-8
-same-length-8 c = search needs
 
 returns-10 : tie.Need-returns-10
 unfolding callTurn callBytes
 returns-10 c = rw (c .before .before .before .before .match .keys10) (c .before .before .run .ensures .0, c .before .before .run .ensures .1)
 
-same-length-9 : tie.Need-same-length-9
-same-length-9 c = search needs
-
 returns-11 : tie.Need-returns-11
 unfolding callTurn callBytes
 returns-11 c = rw (c .before .before .match .keys11) (c .read .ensures, refl)
-
-same-length-10 : tie.Need-same-length-10
-same-length-10 c = search needs
 
 returns-12 : tie.Need-returns-12
 unfolding callTurn callBytes
@@ -144,39 +75,39 @@ pub call-spec : {M : Type 1} → statement M
 call-spec =
     tie.close
     (tie.spec
-    format-requires
-    mount-requires
-    begin-requires
-    abort-requires
-    commit-requires
-    consolidate-requires
-    checkpoint-requires
-    write-requires
-    step-requires
-    run-requires
-    read-requires
-    recall-requires
-    other-requires
-    same-length
+    (λ c κs. search needs)
+    (λ c κs. search needs)
+    (λ c κs. search needs)
+    (λ c κs. search needs)
+    (λ c κs. search needs)
+    (λ c κs. search needs)
+    (λ c κs. search needs)
+    (λ c κs. search needs)
+    (λ c κs. search needs)
+    (λ c κs. search needs)
+    (λ c κs. search needs)
+    (λ c κs. search needs)
+    (λ c κs. search needs)
+    (λ c. search needs)
     returns
-    same-length-2
+    (λ c. search needs)
     returns-2
     returns-3
     returns-4
-    same-length-3
+    (λ c. search needs)
     returns-5
-    same-length-4
+    (λ c. search needs)
     returns-6
-    same-length-5
+    (λ c. search needs)
     returns-7
-    same-length-6
+    (λ c. search needs)
     returns-8
-    same-length-7
+    (λ c. search needs)
     returns-9
-    same-length-8
+    (λ c. search needs)
     returns-10
-    same-length-9
+    (λ c. search needs)
     returns-11
-    same-length-10
+    (λ c. search needs)
     returns-12
     returns-13)

@@ -10,20 +10,11 @@ use Rattle.script.proofs.Printed.{perform-none, perform-done}
 use Rattle.script.proofs.performing.perform.Statement.{statement}
 use Rattle.script.proofs.performing.perform.Tie as tie
 
-has-room-requires : tie.Need-has-room-requires
-has-room-requires c κs = search needs
-
 returns : tie.Need-returns
 returns c =
     let a = c .before .before .before .before .before .args in
     let none = sym (c .before .has-room .ensures) ∙ not-true _ (c .if1 .taken) in
     perform-none (a .m) (a .image .now) (a .n) (a .line .now) (a .out .now) (a .at) none
-
-parse-requires : tie.Need-parse-requires
-parse-requires c κs = search needs
-
-turn-requires : tie.Need-turn-requires
-turn-requires c κs = search needs
 
 -- the test found room
 room-found : (c : tie.Else1) → leb (c .before .before .before .before .before .args .at + room) (length (c .before .before .before .before .before .args .out .now)) ≡ true
@@ -31,12 +22,6 @@ room-found c = sym (c .before .has-room .ensures) ∙ not-false _ (c .if1 .left)
 
 put-output-requires : tie.Need-put-output-requires
 put-output-requires c κs = leb-true _ _ (room-found (c .before .before .before .before .before .before .before))
-
-same-length : tie.Need-same-length
-same-length c = search needs
-
-same-length-2 : tie.Need-same-length-2
-same-length-2 c = search needs
 
 returns-2 : tie.Need-returns-2
 returns-2 c =
@@ -52,11 +37,11 @@ pub perform-spec : {M : Type 1} → statement M
 perform-spec =
     tie.close
     (tie.spec
-    has-room-requires
+    (λ c κs. search needs)
     returns
-    parse-requires
-    turn-requires
+    (λ c κs. search needs)
+    (λ c κs. search needs)
     put-output-requires
-    same-length
-    same-length-2
+    (λ c. search needs)
+    (λ c. search needs)
     returns-2)

@@ -4,27 +4,12 @@ use Rattle.script.proofs.Shown.{format-refused, format-taken}
 use Rattle.script.proofs.turns.format_turn.Statement.{statement}
 use Rattle.script.proofs.turns.format_turn.Tie as tie
 
-format-requires : tie.Need-format-requires
-format-requires c κs = search needs
-
-number-of-requires : tie.Need-number-of-requires
-number-of-requires c κs = search needs
-
-same-length : tie.Need-same-length
-same-length c = search needs
-
 returns : tie.Need-returns
 returns c =
     let number = c .before .number-of in
     let format = c .before .before .before .before .format in
     let a = c .before .before .before .before .before .before .before .args in
     format-refused (a .m) (a .image .now) _ (a .z) (format .result) _ _ (format .ensures .0) (format .ensures .1) (number .ensures) (c .if1 .taken) refl
-
-answered-requires : tie.Need-answered-requires
-answered-requires c κs = search needs
-
-same-length-2 : tie.Need-same-length-2
-same-length-2 c = search needs
 
 returns-2 : tie.Need-returns-2
 returns-2 c =
@@ -38,10 +23,10 @@ pub format-turn-spec : {M : Type 1} → statement M
 format-turn-spec =
     tie.close
     (tie.spec
-    format-requires
-    number-of-requires
-    same-length
+    (λ c κs. search needs)
+    (λ c κs. search needs)
+    (λ c. search needs)
     returns
-    answered-requires
-    same-length-2
+    (λ c κs. search needs)
+    (λ c. search needs)
     returns-2)

@@ -3,15 +3,6 @@ use Rattle.script.proofs.Shown.{shown-refused, shown-past, shown-byte}
 use Rattle.script.proofs.turns.read_byte.Statement.{statement}
 use Rattle.script.proofs.turns.read_byte.Tie as tie
 
-slice-aggregate-read : tie.Need-slice-aggregate-read
-slice-aggregate-read c = search needs
-
-read-requires : tie.Need-read-requires
-read-requires c κs = search needs
-
-number-of-requires : tie.Need-number-of-requires
-number-of-requires c κs = search needs
-
 returns : tie.Need-returns
 returns c =
     let number = c .before .number-of in
@@ -28,9 +19,6 @@ returns-2 c =
     shown-past (a .st) (a .image .now) (a .writer) (a .page) (a .line) (a .offset) (read .result) _
     (number .ensures) (read .ensures .0 .0) (c .before .if1 .left) (c .if2 .taken)
 
-array-read-t15 : tie.Need-array-read-t15
-array-read-t15 c = search needs
-
 returns-3 : tie.Need-returns-3
 returns-3 c =
     let number = c .before .before .number-of in
@@ -43,10 +31,10 @@ pub read-byte-spec : {M : Type 1} → statement M
 read-byte-spec =
     tie.close
     (tie.spec
-    slice-aggregate-read
-    read-requires
-    number-of-requires
+    (λ c. search needs)
+    (λ c κs. search needs)
+    (λ c κs. search needs)
     returns
     returns-2
-    array-read-t15
+    (λ c. search needs)
     returns-3)

@@ -19,24 +19,9 @@ abbrev μ-loop : tie.MeasureT-loop
 loop-holds : tie.Need-loop-holds Inv-loop μ-loop
 loop-holds c = (search needs, all-none _)
 
-mul-free : tie.Need-mul-free Inv-loop μ-loop
-mul-free c = search needs
-
-element-copy-out-free : tie.Need-element-copy-out-free Inv-loop μ-loop
-element-copy-out-free c = search needs
-
-slot-held-ok-requires : tie.Need-slot-held-ok-requires Inv-loop μ-loop
-slot-held-ok-requires c κs = search needs
-
 returns : tie.Need-returns Inv-loop μ-loop
 unfolding heldOk
 returns c = all-stops _ _ _ _ (c .before .before .before .if1 .taken) (c .before .slot-held-ok .ensures) (not-true _ (c .if2 .taken))
-
-add-s : tie.Need-add-s Inv-loop μ-loop
-add-s c = search needs
-
-loop-less : tie.Need-loop-less Inv-loop μ-loop
-loop-less c = search needs
 
 loop-again : tie.Need-loop-again Inv-loop μ-loop
 loop-again c = (search needs, all-turn _ _ _ (c .before .before .before .before .before .loop .inv .1) (c .before .slot-held-ok .ensures) (not-false _ (c .if2 .left)))
@@ -52,11 +37,11 @@ held-ok-spec =
     Inv-loop
     μ-loop
     loop-holds
-    mul-free
-    element-copy-out-free
-    slot-held-ok-requires
+    (λ c. search needs)
+    (λ c. search needs)
+    (λ c κs. search needs)
     returns
-    add-s
-    loop-less
+    (λ c. search needs)
+    (λ c. search needs)
     loop-again
     returns-2)

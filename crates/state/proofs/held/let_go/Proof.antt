@@ -16,24 +16,6 @@ abbrev μ-loop : tie.MeasureT-loop
 loop-holds : tie.Need-loop-holds Inv-loop μ-loop
 loop-holds c = (search needs, up-none _ _)
 
-mul-held : tie.Need-mul-held Inv-loop μ-loop
-mul-held c = search needs
-
-add-held : tie.Need-add-held Inv-loop μ-loop
-add-held c = search needs
-
-mul-held-2 : tie.Need-mul-held-2 Inv-loop μ-loop
-mul-held-2 c = search needs
-
-element-write-held : tie.Need-element-write-held Inv-loop μ-loop
-element-write-held c = search needs
-
-add-s : tie.Need-add-s Inv-loop μ-loop
-add-s c = search needs
-
-loop-less : tie.Need-loop-less Inv-loop μ-loop
-loop-less c = search needs
-
 loop-again : tie.Need-loop-again Inv-loop μ-loop
 loop-again c = (search needs, up-turn _ _ _ _ (c .before .before .loop .inv .1))
 
@@ -47,11 +29,11 @@ let-go-spec =
     Inv-loop
     μ-loop
     loop-holds
-    mul-held
-    add-held
-    mul-held-2
-    element-write-held
-    add-s
-    loop-less
+    (λ c. search needs)
+    (λ c. search needs)
+    (λ c. search needs)
+    (λ c. search needs)
+    (λ c. search needs)
+    (λ c. search needs)
     loop-again
     returns)

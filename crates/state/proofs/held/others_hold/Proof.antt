@@ -19,30 +19,9 @@ abbrev μ-loop : tie.MeasureT-loop
 loop-holds : tie.Need-loop-holds Inv-loop μ-loop
 loop-holds c = (search needs, some-none _)
 
-mul-has : tie.Need-mul-has Inv-loop μ-loop
-mul-has c = search needs
-
-add-has : tie.Need-add-has Inv-loop μ-loop
-add-has c = search needs
-
-mul-has-2 : tie.Need-mul-has-2 Inv-loop μ-loop
-mul-has-2 c = search needs
-
-element-copy-out-has : tie.Need-element-copy-out-has Inv-loop μ-loop
-element-copy-out-has c = search needs
-
-has-requires : tie.Need-has-requires Inv-loop μ-loop
-has-requires c κs = search needs
-
 returns : tie.Need-returns Inv-loop μ-loop
 unfolding othersHold
 returns c = some-stops _ _ _ _ (c .before .before .before .loop-test .taken) (ap (λ (b : Bool). not (eqb (c .before .before .before .before .loop .v) (c .before .before .before .before .before .args .w)) && b) (c .before .has .ensures)) (c .if1 .taken)
-
-add-v : tie.Need-add-v Inv-loop μ-loop
-add-v c = search needs
-
-loop-less : tie.Need-loop-less Inv-loop μ-loop
-loop-less c = search needs
 
 loop-again : tie.Need-loop-again Inv-loop μ-loop
 loop-again c = (search needs, some-turn _ _ _ (c .before .before .before .before .loop .inv .1) (ap (λ (b : Bool). not (eqb (c .before .before .before .before .loop .v) (c .before .before .before .before .before .args .w)) && b) (c .before .has .ensures)) (c .if1 .left))
@@ -58,13 +37,13 @@ others-hold-spec =
     Inv-loop
     μ-loop
     loop-holds
-    mul-has
-    add-has
-    mul-has-2
-    element-copy-out-has
-    has-requires
+    (λ c. search needs)
+    (λ c. search needs)
+    (λ c. search needs)
+    (λ c. search needs)
+    (λ c κs. search needs)
     returns
-    add-v
-    loop-less
+    (λ c. search needs)
+    (λ c. search needs)
     loop-again
     returns-2)

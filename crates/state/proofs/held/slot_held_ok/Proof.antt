@@ -16,9 +16,6 @@ Inv-loop opened held free s w₀ w = (w ≤ 4) × (allBelow w (holderOk opened h
 abbrev μ-loop : tie.MeasureT-loop
 μ-loop opened held free s w₀ w = 4 - w
 
-some-hold-requires : tie.Need-some-hold-requires Inv-loop μ-loop
-some-hold-requires c κs = search needs
-
 returns : tie.Need-returns Inv-loop μ-loop
 returns c =
     let a = c .before .before .args in
@@ -27,17 +24,8 @@ returns c =
 loop-holds : tie.Need-loop-holds Inv-loop μ-loop
 loop-holds c = (search needs, all-none _)
 
-holder-ok-requires : tie.Need-holder-ok-requires Inv-loop μ-loop
-holder-ok-requires c κs = search needs
-
 returns-2 : tie.Need-returns-2 Inv-loop μ-loop
 returns-2 c = all-stops _ _ _ _ (c .before .before .loop-test .taken) (c .before .holder-ok .ensures) (not-true _ (c .if2 .taken))
-
-add-w : tie.Need-add-w Inv-loop μ-loop
-add-w c = search needs
-
-loop-less : tie.Need-loop-less Inv-loop μ-loop
-loop-less c = search needs
 
 loop-again : tie.Need-loop-again Inv-loop μ-loop
 loop-again c = (search needs, all-turn _ _ _ (c .before .before .before .loop .inv .1) (c .before .holder-ok .ensures) (not-false _ (c .if2 .left)))
@@ -51,12 +39,12 @@ slot-held-ok-spec =
     (tie.spec
     Inv-loop
     μ-loop
-    some-hold-requires
+    (λ c κs. search needs)
     returns
     loop-holds
-    holder-ok-requires
+    (λ c κs. search needs)
     returns-2
-    add-w
-    loop-less
+    (λ c. search needs)
+    (λ c. search needs)
     loop-again
     returns-3)

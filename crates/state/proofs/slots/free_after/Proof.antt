@@ -20,9 +20,6 @@ abbrev μ-loop : tie.MeasureT-loop
 loop-holds : tie.Need-loop-holds Inv-loop μ-loop
 loop-holds c = (search needs, first-none _)
 
-round-slot-requires : tie.Need-round-slot-requires Inv-loop μ-loop
-round-slot-requires c κs = search needs
-
 mul-if2 : tie.Need-mul-if2 Inv-loop μ-loop
 mul-if2 c = omega (arith, round-low _ _ _ _ (c .before .before .before .before .pre .0) (c .round-slot .ensures))
 
@@ -32,12 +29,6 @@ element-copy-out-if2 c = omega (arith, round-low _ _ _ _ (c .before .before .bef
 returns : tie.Need-returns Inv-loop μ-loop
 unfolding freeAfter
 returns c = first-stops _ _ _ true (c .before .before .before .if1 .taken) (c .before .before .before .before .before .loop .inv .1) (sym (eq-eqb _ _ (rw (c .before .before .round-slot .ensures) at (c .if2 .taken)))) refl
-
-add-k : tie.Need-add-k Inv-loop μ-loop
-add-k c = search needs
-
-loop-less : tie.Need-loop-less Inv-loop μ-loop
-loop-less c = search needs
 
 loop-again : tie.Need-loop-again Inv-loop μ-loop
 loop-again c = (search needs, first-turn _ _ false (c .before .before .before .before .before .loop .inv .1) (sym (ne-eqb _ _ (rw (c .before .before .round-slot .ensures) at (c .if2 .left)))) refl)
@@ -53,11 +44,11 @@ free-after-spec =
     Inv-loop
     μ-loop
     loop-holds
-    round-slot-requires
+    (λ c κs. search needs)
     mul-if2
     element-copy-out-if2
     returns
-    add-k
-    loop-less
+    (λ c. search needs)
+    (λ c. search needs)
     loop-again
     returns-2)

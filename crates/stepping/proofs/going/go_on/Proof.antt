@@ -15,9 +15,6 @@ st c =
 make-left-requires : tie.Need-make-left-requires
 make-left-requires c κs = c .before .before .before .before .before .before .before .before .before .pre
 
-same-length : tie.Need-same-length
-same-length c = search needs
-
 returns : tie.Need-returns
 returns c = let s = c .before .before .before .before .before .before .before .before .before .before .before .before .before .before in
     let e = c .before .before .before .before .make-left .ensures in
@@ -30,12 +27,6 @@ complete-requires c κs = let s = c .before .before .before .before .before .bef
     let g = taken-going (st s) (s .args .image .now) (s .args .k) _ (e .0) z in
     (g .ranges, g .taken, taken-busy (st s) (s .args .image .now) (s .args .k) _ (e .0) z .pends)
 
-no-pending-requires : tie.Need-no-pending-requires
-no-pending-requires c κs = search needs
-
-same-length-2 : tie.Need-same-length-2
-same-length-2 c = search needs
-
 returns-2 : tie.Need-returns-2
 returns-2 c = let s = c .before .before .before .before .before .before .before .before .before .before .before .before .before .before .before .before .before .before .before .before .before .before .before in
     let e = c .before .before .before .before .before .before .before .before .before .before .before .before .before .make-left .ensures in
@@ -46,9 +37,9 @@ go-on-spec =
     tie.close
     (tie.spec
     make-left-requires
-    same-length
+    (λ c. search needs)
     returns
     complete-requires
-    no-pending-requires
-    same-length-2
+    (λ c κs. search needs)
+    (λ c. search needs)
     returns-2)

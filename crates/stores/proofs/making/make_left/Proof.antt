@@ -25,9 +25,6 @@ busy1 c = busy (st (c .before .before .before)) (length (c .before .before .befo
 going1 : (c : tie.Else1) → Going (st (c .before .before .before))
 going1 c = let b = busy1 c in going (st (c .before .before .before)) (b .ok) (b .pends)
 
-first-row-requires : tie.Need-first-row-requires
-first-row-requires c κs = search needs
-
 returns : tie.Need-returns
 returns c = let s = c .before .before .before in
     left-refused (st s) (s .args .image .now) _ (c .before .first-row .ensures) (s .args .k) (c .if1 .taken)
@@ -41,9 +38,6 @@ sub-left : tie.Need-sub-left
 unfolding storesNeeded
 sub-left c = omega (arith, going1 (c .before .before) .made-low, c .before .op-needs .ensures)
 
-smaller-requires : tie.Need-smaller-requires
-smaller-requires c κs = search needs
-
 make-stores-requires : tie.Need-make-stores-requires
 unfolding storesNeeded
 make-stores-requires c κs = let b = busy1 (c .before .before .before .before) in
@@ -52,9 +46,6 @@ make-stores-requires c κs = let b = busy1 (c .before .before .before .before) i
 add-t20 : tie.Need-add-t20
 unfolding storesNeeded
 add-t20 c = omega (arith, going1 (c .before .before .before .before .before .before .before .before) .made-low, c .before .before .before .before .before .before .before .op-needs .ensures, c .before .before .before .before .before .before .before .op-needs .ok, c .before .before .before .before .before .smaller .ensures)
-
-same-length : tie.Need-same-length
-same-length c = search needs
 
 returns-2 : tie.Need-returns-2
 unfolding storesNeeded
@@ -65,12 +56,12 @@ pub make-left-spec : {M : Type 1} → statement M
 make-left-spec =
     tie.close
     (tie.spec
-    first-row-requires
+    (λ c κs. search needs)
     returns
     op-needs-requires
     sub-left
-    smaller-requires
+    (λ c κs. search needs)
     make-stores-requires
     add-t20
-    same-length
+    (λ c. search needs)
     returns-2)

@@ -17,20 +17,11 @@ st c =
     let a = c .args in
     stateOf (a .z) (a .head) (a .tail) (a .next) (a .page .now) (a .original .now) (a .spare .now) (a .bitmap .now) (a .last .now) (a .opened .now) (a .held .now) (a .t13)
 
-enum-told : tie.Need-enum-told
-enum-told c = search needs
-
-enum-known-op : tie.Need-enum-known-op
-enum-known-op c = search needs
-
 make-write-stores-requires : tie.Need-make-write-stores-requires
 make-write-stores-requires c κs = let s = c .before .before .before .before .before .before .before in
     let g = going (st s) (s .pre .0) (s .pre .1) in
     let e = c .before .before .before .before .op .given .1 in
     (g .ranges .legal, g .ranges .next-low, g .shapes, write-of (st s) (g .taken) e .args .line-low, write-left (st s) g (s .args .n) (s .pre .2) e, s .pre .3)
-
-enum-known-op-2 : tie.Need-enum-known-op-2
-enum-known-op-2 c = search needs
 
 make-commit-stores-requires : tie.Need-make-commit-stores-requires
 make-commit-stores-requires c κs = let s = c .before .before .before .before .before in
@@ -38,9 +29,6 @@ make-commit-stores-requires c κs = let s = c .before .before .before .before .b
     let e = c .before .before .op2 .given .1 in
     let l = commit-left (st s) g (s .args .n) (s .pre .2) e in
     (g .ranges .legal, g .ranges .head-low, g .shapes, commit-of (st s) (g .taken) e .writer-low, l .0, l .1, s .pre .3)
-
-enum-known-op-3 : tie.Need-enum-known-op-3
-enum-known-op-3 c = search needs
 
 make-consolidate-stores-requires : tie.Need-make-consolidate-stores-requires
 make-consolidate-stores-requires c κs = let s = c .before .before .before .before .before in
@@ -52,9 +40,6 @@ make-consolidate-stores-requires c κs = let s = c .before .before .before .befo
       s .pre .3,
     )
 
-enum-told-2 : tie.Need-enum-told-2
-enum-told-2 c = search needs
-
 make-checkpoint-stores-requires : tie.Need-make-checkpoint-stores-requires
 make-checkpoint-stores-requires c κs = let s = c .before .before .before .before in
     let g = going (st s) (s .pre .0) (s .pre .1) in
@@ -64,29 +49,17 @@ make-checkpoint-stores-requires c κs = let s = c .before .before .before .befor
 returns : tie.Need-returns
 returns c = contradicts (ap isIdle (c .enum-told .given .1)) (c .before .before .before .pre .1)
 
-same-length : tie.Need-same-length
-same-length c = search needs
-
 returns-2 : tie.Need-returns-2
 returns-2 c = let s = c .before .before .before .before .before .before .before .before .before .before in
     stores-of (st s) (s .args .n) (s .args .image .now) _ (c .before .before .before .before .before .before .before .op .given .1) (c .before .before .make-write-stores .ensures ∙ write-stores-of (st s) _ _ _ (s .args .n) (s .args .image .now))
-
-same-length-2 : tie.Need-same-length-2
-same-length-2 c = search needs
 
 returns-3 : tie.Need-returns-3
 returns-3 c = let s = c .before .before .before .before .before .before .before .before in
     stores-of (st s) (s .args .n) (s .args .image .now) _ (c .before .before .before .before .before .op2 .given .1) (c .before .before .make-commit-stores .ensures ∙ commit-stores-of (st s) _ _ (s .args .n) (s .args .image .now))
 
-same-length-3 : tie.Need-same-length-3
-same-length-3 c = search needs
-
 returns-4 : tie.Need-returns-4
 returns-4 c = let s = c .before .before .before .before .before .before .before .before in
     stores-of (st s) (s .args .n) (s .args .image .now) _ (c .before .before .before .before .before .op3 .given .1) (c .before .before .make-consolidate-stores .ensures ∙ consolidate-stores-of (st s) _ _ (s .args .n) (s .args .image .now))
-
-same-length-4 : tie.Need-same-length-4
-same-length-4 c = search needs
 
 returns-5 : tie.Need-returns-5
 returns-5 c = let s = c .before .before .before .before .before .before .before in
@@ -96,21 +69,21 @@ pub make-stores-spec : {M : Type 1} → statement M
 make-stores-spec =
     tie.close
     (tie.spec
-    enum-told
-    enum-known-op
+    (λ c. search needs)
+    (λ c. search needs)
     make-write-stores-requires
-    enum-known-op-2
+    (λ c. search needs)
     make-commit-stores-requires
-    enum-known-op-3
+    (λ c. search needs)
     make-consolidate-stores-requires
-    enum-told-2
+    (λ c. search needs)
     make-checkpoint-stores-requires
     returns
-    same-length
+    (λ c. search needs)
     returns-2
-    same-length-2
+    (λ c. search needs)
     returns-3
-    same-length-3
+    (λ c. search needs)
     returns-4
-    same-length-4
+    (λ c. search needs)
     returns-5)

@@ -77,15 +77,6 @@ loop-holds c =
       going-start (x .digits) (x .letter) (fields (x .text .now)) (some-fields (x .text .now)),
     )
 
-shared-slice-read-b : tie.Need-shared-slice-read-b Inv-loop μ-loop
-shared-slice-read-b c = search needs
-
-closes-field-requires : tie.Need-closes-field-requires Inv-loop μ-loop
-closes-field-requires c κs = search needs
-
-other-form-requires : tie.Need-other-form-requires Inv-loop μ-loop
-other-form-requires c κs = search needs
-
 returns : tie.Need-returns Inv-loop μ-loop
 returns c =
     let h = c .before .before .before .before .before .before in
@@ -104,12 +95,6 @@ array-write-numbers c = room c
 add-count : tie.Need-add-count Inv-loop μ-loop
 add-count c = omega (arith, room c)
 
-add-i : tie.Need-add-i Inv-loop μ-loop
-add-i c = search needs
-
-loop-less : tie.Need-loop-less Inv-loop μ-loop
-loop-less c = search needs
-
 loop-again : tie.Need-loop-again Inv-loop μ-loop
 loop-again c =
     let h = c .before .before .before .before .before in
@@ -121,12 +106,6 @@ loop-again c =
           ∙ ap (going s) (comma (c .before .before))
           ∙ going-comma s (a .1) (closed c) (fields (later h)) (some-fields (later h)),
     )
-
-takes-digit-requires : tie.Need-takes-digit-requires Inv-loop μ-loop
-takes-digit-requires c κs = search needs
-
-other-form-requires-2 : tie.Need-other-form-requires-2 Inv-loop μ-loop
-other-form-requires-2 c κs = search needs
 
 returns-2 : tie.Need-returns-2 Inv-loop μ-loop
 returns-2 c =
@@ -153,12 +132,6 @@ add-v c = omega (arith, digit _ _ _ _ (taken c) .small)
 add-n : tie.Need-add-n Inv-loop μ-loop
 add-n c = omega (arith, digit _ _ _ _ (taken c) .fewer)
 
-add-i-2 : tie.Need-add-i-2 Inv-loop μ-loop
-add-i-2 c = search needs
-
-loop-less-2 : tie.Need-loop-less-2 Inv-loop μ-loop
-loop-less-2 c = search needs
-
 loop-again-2 : tie.Need-loop-again-2 Inv-loop μ-loop
 loop-again-2 c =
     let h = c .before .before .before .before .before in
@@ -171,12 +144,6 @@ loop-again-2 c =
           ∙ ap (going s) (byte (c .before .before))
           ∙ going-digit s (here h) (fields (later h)) (some-fields (later h)) (taken c),
     )
-
-closes-field-requires-2 : tie.Need-closes-field-requires-2 Inv-loop μ-loop
-closes-field-requires-2 c κs = search needs
-
-other-form-requires-3 : tie.Need-other-form-requires-3 Inv-loop μ-loop
-other-form-requires-3 c κs = search needs
 
 -- ---- after the loop no byte is left
 
@@ -225,29 +192,29 @@ numbers-spec =
     Inv-loop
     μ-loop
     loop-holds
-    shared-slice-read-b
-    closes-field-requires
-    other-form-requires
+    (λ c. search needs)
+    (λ c κs. search needs)
+    (λ c κs. search needs)
     returns
     mul-numbers
     array-write-numbers
     add-count
-    add-i
-    loop-less
+    (λ c. search needs)
+    (λ c. search needs)
     loop-again
-    takes-digit-requires
-    other-form-requires-2
+    (λ c κs. search needs)
+    (λ c κs. search needs)
     returns-2
     mul-v
     sub-v
     cast-v
     add-v
     add-n
-    add-i-2
-    loop-less-2
+    (λ c. search needs)
+    (λ c. search needs)
     loop-again-2
-    closes-field-requires-2
-    other-form-requires-3
+    (λ c κs. search needs)
+    (λ c κs. search needs)
     returns-3
     mul-numbers-2
     array-write-numbers-2

@@ -11,19 +11,10 @@ use borrow.Author.Needs.{needs}
 use Rattle.text.proofs.parse.parse.Statement.{statement}
 use Rattle.text.proofs.parse.parse.Tie as tie
 
-other-form-requires : tie.Need-other-form-requires
-other-form-requires c κs = search needs
-
 returns : tie.Need-returns
 returns c =
     let x = c .before .before .before .args in
     c .other-form .ensures ∙ sym (parsed-empty (x .digits) (x .line .now) (c .before .if1 .taken))
-
-shared-slice-read-letter : tie.Need-shared-slice-read-letter
-shared-slice-read-letter c = search needs
-
-other-form-requires-2 : tie.Need-other-form-requires-2
-other-form-requires-2 c κs = search needs
 
 returns-2 : tie.Need-returns-2
 returns-2 c =
@@ -35,29 +26,11 @@ returns-3 c =
     let x = c .before .before .before .before .before .args in
     sym (parsed-letter (x .digits) (x .line .now) (c .if3 .taken) (c .before .if2 .left))
 
-shared-slice-read-if4 : tie.Need-shared-slice-read-if4
-shared-slice-read-if4 c = search needs
-
-other-form-requires-3 : tie.Need-other-form-requires-3
-other-form-requires-3 c κs = search needs
-
 returns-4 : tie.Need-returns-4
 returns-4 c =
     let x = c .before .before .before .before .before .before .before .before .args in
     let e = c .before .before .before in
     c .other-form3 .ensures ∙ sym (parsed-name (x .digits) (x .line .now) (omega arith) (e .before .if2 .left) (c .before .if4 .taken))
-
-sub-numbers : tie.Need-sub-numbers
-sub-numbers c = search needs
-
-part-numbers-start : tie.Need-part-numbers-start
-part-numbers-start c = search needs
-
-part-numbers-end : tie.Need-part-numbers-end
-part-numbers-end c = search needs
-
-numbers-requires : tie.Need-numbers-requires
-numbers-requires c κs = search needs
 
 returns-5 : tie.Need-returns-5
 returns-5 c =
@@ -72,17 +45,17 @@ pub parse-spec : {M : Type 1} → statement M
 parse-spec =
     tie.close
     (tie.spec
-    other-form-requires
+    (λ c κs. search needs)
     returns
-    shared-slice-read-letter
-    other-form-requires-2
+    (λ c. search needs)
+    (λ c κs. search needs)
     returns-2
     returns-3
-    shared-slice-read-if4
-    other-form-requires-3
+    (λ c. search needs)
+    (λ c κs. search needs)
     returns-4
-    sub-numbers
-    part-numbers-start
-    part-numbers-end
-    numbers-requires
+    (λ c. search needs)
+    (λ c. search needs)
+    (λ c. search needs)
+    (λ c κs. search needs)
     returns-5)

@@ -3,12 +3,6 @@ use Rattle.workbench.proofs.Taken.{replaced, kept}
 use Rattle.workbench.proofs.calls.replacing.Statement.{statement}
 use Rattle.workbench.proofs.calls.replacing.Tie as tie
 
-called-requires : tie.Need-called-requires
-called-requires c κs = search needs
-
-number-of-requires : tie.Need-number-of-requires
-number-of-requires c κs = search needs
-
 returns : tie.Need-returns
 returns c =
     let a = c .before .before .before .args in
@@ -20,4 +14,4 @@ returns-2 c =
     kept (a .bench) (a .done) _ (c .before .number-of .ensures) _ (c .before .before .called .ensures) (c .if1 .left)
 
 pub replacing-spec : {M : Type 1} → statement M
-replacing-spec = tie.close (tie.spec called-requires number-of-requires returns returns-2)
+replacing-spec = tie.close (tie.spec (λ c κs. search needs) (λ c κs. search needs) returns returns-2)

@@ -2,11 +2,8 @@ use borrow.Author.Needs.{needs}
 use Rattle.workbench.proofs.starting.first_bench.Statement.{statement}
 use Rattle.workbench.proofs.starting.first_bench.Tie as tie
 
-no-pending-requires : tie.Need-no-pending-requires
-no-pending-requires c κs = search needs
-
 returns : tie.Need-returns
 returns c = rw (c .no-pending .ensures)
 
 pub first-bench-spec : {M : Type 1} → statement M
-first-bench-spec = tie.close (tie.spec no-pending-requires returns)
+first-bench-spec = tie.close (tie.spec (λ c κs. search needs) returns)
