@@ -118,7 +118,6 @@ pub fn ask(st: State, n: usize, op: Op) -> Done
     ensures { λ r. ⌜ outcomeOf r ≡ asked (refusal (quietRows st n ++ opRows st op 0)) st op (replicate 8 0) 0 ⌝ }
 {
     let mut next = st;
-    let pending = next.pending;
     let row = ask_row(
         next.sizes,
         next.head,
@@ -131,7 +130,7 @@ pub fn ask(st: State, n: usize, op: Op) -> Done
         &next.table.last,
         &next.writers.opened,
         &next.writers.held,
-        pending,
+        next.pending,
         op,
         n,
     );

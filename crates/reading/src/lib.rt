@@ -19,7 +19,6 @@ pub fn read(
     ensures number { λ r. ⌜ (numberOf r ≡ readRow st (now (image .entry)) writer page line (now (target .entry))) × (storesOf r ≡ 0) ⌝ }
     ensures bytes { λ _. ⌜ now (target .exit) ≡ readBytes st (now (image .entry)) writer page line (now (target .entry)) ⌝ }
 {
-    let pending = st.pending;
     let row = rows::first_row(
         st.sizes,
         st.head,
@@ -32,7 +31,7 @@ pub fn read(
         &st.table.last,
         &st.writers.opened,
         &st.writers.held,
-        pending,
+        st.pending,
         image.len(),
         false,
     );

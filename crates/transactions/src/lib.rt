@@ -21,7 +21,6 @@ pub fn write(
     ensures { λ r. ⌜ outcomeOf r ≡ writeOf st (now (image .entry)) writer page line offset length (now («data» .entry)) ⌝ }
 {
     let mut next = st;
-    let pending = next.pending;
     let found = finding::write_found(
         next.sizes,
         next.head,
@@ -34,7 +33,7 @@ pub fn write(
         &next.table.last,
         &next.writers.opened,
         &next.writers.held,
-        pending,
+        next.pending,
         image,
         writer,
         page,

@@ -67,7 +67,6 @@ pub fn begin(st: State, writer: usize) -> Done
     ensures { λ r. ⌜ outcomeOf r ≡ beginOf st writer ⌝ }
 {
     let mut next = st;
-    let pending = next.pending;
     let row = writer_row(
         next.sizes,
         next.head,
@@ -80,7 +79,7 @@ pub fn begin(st: State, writer: usize) -> Done
         &next.table.last,
         &next.writers.opened,
         &next.writers.held,
-        pending,
+        next.pending,
         writer,
         false,
     );
@@ -96,7 +95,6 @@ pub fn abort(st: State, writer: usize) -> Done
     ensures { λ r. ⌜ outcomeOf r ≡ abortOf st writer ⌝ }
 {
     let mut next = st;
-    let pending = next.pending;
     let row = writer_row(
         next.sizes,
         next.head,
@@ -109,7 +107,7 @@ pub fn abort(st: State, writer: usize) -> Done
         &next.table.last,
         &next.writers.opened,
         &next.writers.held,
-        pending,
+        next.pending,
         writer,
         true,
     );
