@@ -6,7 +6,7 @@ ghost use Rattle.bounded.specs.Tab.{filled};
 ghost use Rattle.layout.specs.Layout.{Legal, recordWord, imageLength};
 ghost use Rattle.replay.specs.Table.{noPosition};
 ghost use Rattle.operations.specs.Operations.{recordedSlots};
-ghost use Rattle.refinement.specs.Checkpoint.{checkpointStores, slotCopies, checkpointing};
+ghost use Rattle.refinement.specs.Checkpoint.{checkpointStores, slotCopies};
 use layout::Sizes;
 
 // The j-th slot that has a live record, rising, or 0 where there is none.
@@ -59,7 +59,7 @@ fn make_slot_stores(
     n: usize,
 )
     requires { ⌜ Legal z × (length (now last) ≡ 16) × (from + n ≤ 3 * length (recordedSlots z (now last))) × (imageLength z ≤ length (now image)) ⌝ }
-    ensures { λ _. ⌜ now (image .exit) ≡ checkpointStores (checkpointing z head (now (last .entry))) from n (now (image .entry)) ⌝ }
+    ensures { λ _. ⌜ now (image .exit) ≡ checkpointStores z head (now (last .entry)) from n (now (image .entry)) ⌝ }
 {
     let mut i = 0;
     while i < n {
@@ -82,7 +82,7 @@ pub fn make_checkpoint_stores(
     n: usize,
 )
     requires { ⌜ Legal z × (length (now last) ≡ 16) × (from ≤ 3 * length (recordedSlots z (now last))) × (from + n ≤ 3 * length (recordedSlots z (now last)) + 1) × (imageLength z ≤ length (now image)) ⌝ }
-    ensures { λ _. ⌜ now (image .exit) ≡ checkpointStores (checkpointing z head (now (last .entry))) from n (now (image .entry)) ⌝ }
+    ensures { λ _. ⌜ now (image .exit) ≡ checkpointStores z head (now (last .entry)) from n (now (image .entry)) ⌝ }
 {
     let c = needs::recorded_count(z, last);
     let m = pieces::smaller(n, 3 * c - from);

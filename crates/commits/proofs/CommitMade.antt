@@ -19,57 +19,56 @@ use Rattle.journal.specs.declared.Slot.{Slot}
 use Rattle.journal.specs.declared.Record.{Record}
 use Rattle.replay.specs.declared.Table.{Table}
 use Rattle.journal.specs.Records.{position, wordOfRecord}
-use Rattle.replay.specs.Table.{slotIn, replaced, replay}
+use Rattle.replay.specs.Table.{slotIn, slotsOfArrays, replaced, replay}
 use Rattle.state.specs.declared.State.{State}
 use Rattle.state.specs.declared.Pending.{Pending}
 use Rattle.state.specs.Held.{heldAt, heldSlots}
-use Rattle.refinement.specs.Commit.{commitSlots, commitRecord, commitAt, commitValue, commitStores, committing, commitHead, bitmapsAfter, lastsAfter, commitTable, closedWriter}
+use Rattle.refinement.specs.Commit.{commitSlots, commitRecord, commitStores, commitHead, bitmapsAfter, lastsAfter, commitTable, closedWriter, commitRecordOf, commitAtOf, commitValueOf}
 use Rattle.refinement.specs.Settled.{noPending, settled}
 use Rattle.pieces.specs.Pieces.{recordStores}
 use Rattle.pieces.proofs.Turns.{up-turns}
 
 -- a word of a record, in the piece of four that store `from + i` lies in
-commit-word : (st : State) (w from i n j a : ℕ) (e : Record) (u : List ℕ)
-    → e ≡ commitRecord st w ((from + i) / 4) → a ≡ recordWord (st .sizes) (position (st .sizes) (st .head) ((from + i) / 4))
-    → n ≤ 4 - (from + i) % 4 → from + i + n ≤ 4 * length (commitSlots st w) → j < n
-    → store u (a + ((from + i) % 4 + j)) (wordOfRecord e ((from + i) % 4 + j)) ≡ store u (commitAt st w (from + (i + j))) (commitValue st w (from + (i + j)))
-unfolding commitAt commitValue
-commit-word st w from i n j a e u b c h l k =
-    let t : ltb (from + (i + j)) (4 * length (commitSlots st w)) ≡ true = lt-ltb (from + (i + j)) (4 * length (commitSlots st w)) (omega arith) in
+commit-word : (z : Sizes) (head : ℕ) (t : Table) (held : List ℕ) (w from i n j a : ℕ) (e : Record) (u : List ℕ)
+    → e ≡ commitRecordOf z head t held w ((from + i) / 4) → a ≡ recordWord z (position z head ((from + i) / 4))
+    → n ≤ 4 - (from + i) % 4 → from + i + n ≤ 4 * length (heldSlots z held w) → j < n
+    → store u (a + ((from + i) % 4 + j)) (wordOfRecord e ((from + i) % 4 + j)) ≡ store u (commitAtOf z head held w (from + (i + j))) (commitValueOf z head t held w (from + (i + j)))
+unfolding commitAtOf commitValueOf
+commit-word z head t held w from i n j a e u b c h l k =
+    let below : ltb (from + (i + j)) (4 * length (heldSlots z held w)) ≡ true = lt-ltb (from + (i + j)) (4 * length (heldSlots z held w)) (omega arith) in
     let d : (from + (i + j)) / 4 ≡ (from + i) / 4 = omega arith in
     let r : (from + (i + j)) % 4 ≡ (from + i) % 4 + j = omega arith in
-    rw (t, d, r, c, b)
+    rw (below, d, r, c, b)
 
-module _ (st : State) (w from : ℕ) (img : List ℕ) where
+module _ (z : Sizes) (head : ℕ) (t : Table) (held : List ℕ) (w from : ℕ) (img : List ℕ) where
   -- after i stores, n more words of a record
-  pub commit-turn : (i n a : ℕ) (e : Record) (y m : List ℕ) → y ≡ commitStores st w from i img
-      → e ≡ commitRecord st w ((from + i) / 4) → a ≡ recordWord (st .sizes) (position (st .sizes) (st .head) ((from + i) / 4))
-      → n ≤ 4 - (from + i) % 4 → from + i + n ≤ 4 * length (commitSlots st w)
-      → m ≡ recordStores a e ((from + i) % 4) n y → m ≡ commitStores st w from (i + n) img
-  commit-turn i n a e y m x b c h l q = up-turns _ _ img y m i n x q (λ j u k. commit-word st w from i n j a e u b c h l k)
+  pub commit-turn : (i n a : ℕ) (e : Record) (y m : List ℕ) → y ≡ commitStores z head t held w from i img
+      → e ≡ commitRecordOf z head t held w ((from + i) / 4) → a ≡ recordWord z (position z head ((from + i) / 4))
+      → n ≤ 4 - (from + i) % 4 → from + i + n ≤ 4 * length (heldSlots z held w)
+      → m ≡ recordStores a e ((from + i) % 4) n y → m ≡ commitStores z head t held w from (i + n) img
+  commit-turn i n a e y m x b c h l q = up-turns _ _ img y m i n x q (λ j u k. commit-word z head t held w from i n j a e u b c h l k)
 
   -- after the records' words, head
-  pub commit-ended : (i n c q : ℕ) (y m : List ℕ) → y ≡ commitStores st w from i img → c ≡ length (commitSlots st w) → 4 * c ≤ from + i → i + 1 ≡ n
-      → q ≡ position (st .sizes) (st .head) c → m ≡ store y headWord q → m ≡ commitStores st w from n img
-  unfolding commitAt commitValue
+  pub commit-ended : (i n c q : ℕ) (y m : List ℕ) → y ≡ commitStores z head t held w from i img → c ≡ length (heldSlots z held w) → 4 * c ≤ from + i → i + 1 ≡ n
+      → q ≡ position z head c → m ≡ store y headWord q → m ≡ commitStores z head t held w from n img
+  unfolding commitAtOf commitValueOf
   commit-ended i n c q y m x h l k d e =
-      let t : ltb (from + i) (4 * length (commitSlots st w)) ≡ false = le-ltb (from + i) (4 * length (commitSlots st w)) (omega arith) in
-      let s : m ≡ store y (commitAt st w (from + i)) (commitValue st w (from + i)) = rw t (cc) in
+      let below : ltb (from + i) (4 * length (heldSlots z held w)) ≡ false = le-ltb (from + i) (4 * length (heldSlots z held w)) (omega arith) in
+      let s : m ≡ store y (commitAtOf z head held w (from + i)) (commitValueOf z head t held w (from + i)) = rw below (cc) in
       rw (← k) (s ∙ up-turn _ img y i x)
 
--- the stores of a state
-module _ (st : State) where
-  abbrev read : State
-  read = committing (st .sizes) (st .head) (st .table .page) (st .table .original) (st .table .spare) (st .table .bitmap) (st .writers .held)
+-- the stores of a state, of which they read the slots alone
+pub commit-stores-of : (st : State) (w from n : ℕ) (img : List ℕ)
+    → let t = st .table in
+    commitStores (st .sizes) (st .head) (slotsOfArrays (t .page) (t .original) (t .spare) (t .bitmap)) (st .writers .held) w from n img
+    ≡ commitStores (st .sizes) (st .head) t (st .writers .held) w from n img
+unfolding commitValueOf commitRecordOf
+commit-stores-of st w from n img = refl
 
-  pub commit-stores-of : (w from n : ℕ) (img : List ℕ) → commitStores read w from n img ≡ commitStores st w from n img
-  unfolding commitAt commitValue commitRecord
-  commit-stores-of w from n img = refl
-
-pub commit-made : (st : State) (w j s b : ℕ) (t : Slot) → s ≡ getD (commitSlots st w) j 0 → t ≡ slotIn (st .table) s → b ≡ exclusiveOr (t .bitmap) (heldAt (st .writers .held) w s)
-    → _≡_ {A = Record} (record { first = st .head; slot = s; now = record { page = t .page; original = t .original; spare = t .spare; bitmap = b } }) (commitRecord st w j)
-unfolding commitRecord
-commit-made st w j s b t e f g = rw (g, f, e)
+pub commit-made : (z : Sizes) (head : ℕ) (t : Table) (held : List ℕ) (w j s b : ℕ) (u : Slot) → s ≡ getD (heldSlots z held w) j 0 → u ≡ slotIn t s → b ≡ exclusiveOr (u .bitmap) (heldAt held w s)
+    → _≡_ {A = Record} (record { first = head; slot = s; now = record { page = u .page; original = u .original; spare = u .spare; bitmap = b } }) (commitRecordOf z head t held w j)
+unfolding commitRecordOf
+commit-made z head t held w j s b u e f g = rw (g, f, e)
 
 -- ---- the state after the last store
 
@@ -89,7 +88,7 @@ module _ (st : State) (w : ℕ) where
   -- a record's page and frames are its slot's own
   table-after : (n : ℕ) → upTo n (λ i u. replaced u (commitRecord st w i) (position (st .sizes) (st .head) i)) (st .table)
       ≡ tableWith (bitmapsAfter (st .sizes) (st .table .bitmap) (st .writers .held) w n) (lastsAfter (st .sizes) (st .head) (st .table .last) (st .writers .held) w n)
-  unfolding upTo commitRecord
+  unfolding upTo commitRecordOf
   table-after zero = refl
   table-after (suc n) =
       let s = getD (commitSlots st w) n 0 in

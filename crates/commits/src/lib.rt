@@ -7,7 +7,7 @@ ghost use Rattle.layout.specs.Layout.{Legal, recordWord, imageLength};
 ghost use Rattle.journal.specs.Records.{position};
 ghost use Rattle.replay.specs.Table.{slotsOfArrays, slotsShaped};
 ghost use Rattle.state.specs.Held.{heldSlots, letGo};
-ghost use Rattle.refinement.specs.Commit.{committing, commitRecord, commitStores, bitmapsAfter, lastsAfter};
+ghost use Rattle.refinement.specs.Commit.{commitRecordOf, commitStores, bitmapsAfter, lastsAfter};
 use journal::Record;
 use journal::Slot;
 use layout::Sizes;
@@ -44,7 +44,7 @@ fn commit_record<'a>(
     j: usize,
 ) -> Record
     requires { ⌜ Legal z × (w < 4) ⌝ }
-    ensures { λ r. ⌜ r ≡ commitRecord (committing z head (now (page .entry)) (now (original .entry)) (now (spare .entry)) (now (bitmap .entry)) (now (held .entry))) w j ⌝ }
+    ensures { λ r. ⌜ r ≡ commitRecordOf z head (slotsOfArrays (now (page .entry)) (now (original .entry)) (now (spare .entry)) (now (bitmap .entry))) (now (held .entry)) w j ⌝ }
 {
     let s = held_slot(z, held, w, j);
     let t = replay::slot_at(page, original, spare, bitmap, s);
@@ -85,7 +85,7 @@ fn make_record_stores<'a>(
     n: usize,
 )
     requires { ⌜ Legal z × (head < 2 * z .places) × (slotsShaped z (slotsOfArrays (now page) (now original) (now spare) (now bitmap)) ≡ true) × (w < 4) × (from + n ≤ 4 * length (heldSlots z (now held) w)) × (imageLength z ≤ length (now image)) ⌝ }
-    ensures { λ _. ⌜ now (image .exit) ≡ commitStores (committing z head (now (page .entry)) (now (original .entry)) (now (spare .entry)) (now (bitmap .entry)) (now (held .entry))) w from n (now (image .entry)) ⌝ }
+    ensures { λ _. ⌜ now (image .exit) ≡ commitStores z head (slotsOfArrays (now (page .entry)) (now (original .entry)) (now (spare .entry)) (now (bitmap .entry))) (now (held .entry)) w from n (now (image .entry)) ⌝ }
 {
     let mut i = 0;
     while i < n {
@@ -113,7 +113,7 @@ pub fn make_commit_stores<'a>(
     n: usize,
 )
     requires { ⌜ Legal z × (head < 2 * z .places) × (slotsShaped z (slotsOfArrays (now page) (now original) (now spare) (now bitmap)) ≡ true) × (w < 4) × (from ≤ 4 * length (heldSlots z (now held) w)) × (from + n ≤ 4 * length (heldSlots z (now held) w) + 1) × (imageLength z ≤ length (now image)) ⌝ }
-    ensures { λ _. ⌜ now (image .exit) ≡ commitStores (committing z head (now (page .entry)) (now (original .entry)) (now (spare .entry)) (now (bitmap .entry)) (now (held .entry))) w from n (now (image .entry)) ⌝ }
+    ensures { λ _. ⌜ now (image .exit) ≡ commitStores z head (slotsOfArrays (now (page .entry)) (now (original .entry)) (now (spare .entry)) (now (bitmap .entry))) (now (held .entry)) w from n (now (image .entry)) ⌝ }
 {
     let c = state::held::held_count(z, held, w);
     let m = pieces::smaller(n, 4 * c - from);

@@ -2,12 +2,13 @@
 -- about code, the other numbers and lists are what the code found or put.
 use Prim.Native.Nat.{ℕ, _+_, _-_, _*_, _/_, _%_, _<_, _≤_}
 use mathlib.Core.Bool.{true, false}
-use mathlib.Core.List.{List}
+use mathlib.Core.List.{List, []}
 use mathlib.Core.Path.{_≡_, refl, sym, ap, _∙_}
 use native.Mathlib.Omega.{arith}
 use lib.Dec.{ltb, eqb}
 use lib.ListN.{getD, set}
 use borrow.Author.Tests.{lt-ltb, le-ltb, eq-eqb, ne-eqb}
+use Rattle.bounded.specs.Below.{upTo}
 use Rattle.bounded.proofs.Below.{up-none, up-turn, up-ext}
 use Rattle.layout.specs.declared.Sizes.{Sizes}
 use Rattle.layout.specs.Layout.{headWord, pageWord, recordWord}
@@ -18,7 +19,7 @@ use Rattle.journal.specs.declared.Record.{Record}
 use Rattle.replay.specs.declared.Table.{Table}
 use Rattle.journal.specs.Records.{position, wordOfRecord}
 use Rattle.journal.specs.Slots.{freeSlot}
-use Rattle.replay.specs.Table.{slotIn, slotsOfArrays}
+use Rattle.replay.specs.Table.{slotIn, slotsOfArrays, slotOf}
 use Rattle.state.specs.Slots.{slotOfPage}
 use Rattle.consolidations.specs.Completed.{freedSlot}
 use Rattle.state.specs.declared.State.{State}
@@ -26,7 +27,7 @@ use Rattle.state.specs.declared.Pending.{Pending}
 use Rattle.operations.specs.Operations.{Ranged, slotFor}
 use Rattle.pieces.specs.Pieces.{lineCopies, recordStores}
 use Rattle.pieces.proofs.Turns.{up-turns}
-use Rattle.refinement.specs.Consolidate.{copyTo, copyFrom, copyLines, copyStoreCount, freeingRecord, consolidationAt, consolidationValue, consolidateAt, consolidateValue, consolidationStores, consolidateStores, consolidating, consolidateTable}
+use Rattle.refinement.specs.Consolidate.{copyTo, copyFrom, copyLines, copyStoreCount, freeingRecord, consolidationAt, consolidationValue, consolidateAt, consolidateValue, consolidationStores, consolidateStores, consolidateTable, freeingRecordOf}
 use Rattle.refinement.specs.Settled.{noPending, settled}
 use Rattle.refinement.proofs.ConsolidatePlaces.{consolidate-table}
 
@@ -90,22 +91,25 @@ piece-turn z head t e p from i n img y m a b =
 
 -- ---- the slot and the record of a page
 
-module _ (st : State) (p s : ℕ) (t : Slot) (e : Record) (a : s ≡ slotFor st p) (b : t ≡ slotIn (st .table) s)
-    (c : e ≡ record { first = st .head; slot = s; now = freeSlot (copyFrom t) }) where
-  pub freeing-made : e ≡ freeingRecord st p 0
-  unfolding freeingRecord
+module _ (z : Sizes) (head : ℕ) (t : Table) (p s : ℕ) (u : Slot) (e : Record) (a : s ≡ slotOf z t p) (b : u ≡ slotIn t s)
+    (c : e ≡ record { first = head; slot = s; now = freeSlot (copyFrom u) }) where
+  pub freeing-made : e ≡ freeingRecordOf z head t p
   freeing-made = rw (b, a) at c
 
-  pub stores-made : (from n : ℕ) (img m : List ℕ) → m ≡ consolidationStores (st .sizes) (st .head) t e p from n img → m ≡ consolidateStores st p from n img
-  unfolding consolidateAt consolidateValue
+  pub stores-made : (from n : ℕ) (img m : List ℕ) → m ≡ consolidationStores z head u e p from n img → m ≡ consolidateStores z head t p from n img
   stores-made from n img m q = rw (freeing-made, b, a) at q
 
 -- the stores of a state
 pub consolidate-stores-of : (st : State) (p from n : ℕ) (img : List ℕ)
-    → consolidateStores (consolidating (st .sizes) (st .head) (st .table .page) (st .table .original) (st .table .spare) (st .table .bitmap)) p from n img
-    ≡ consolidateStores st p from n img
+    → let t = st .table in
+    consolidateStores (st .sizes) (st .head) (slotsOfArrays (t .page) (t .original) (t .spare) (t .bitmap)) p from n img
+    ≡ upTo n (λ i m. store m (consolidateAt st p (from + i)) (consolidateValue st m p (from + i))) img
 unfolding consolidateAt consolidateValue freeingRecord
 consolidate-stores-of st p from n img = refl
+
+-- a state with the parts that these stores read, for laws about states
+abbrev pub reading : Sizes → ℕ → Table → State
+reading z head t = record { sizes = z; head = head; tail = 0; next = 0; table = t; writers = record { opened = []; held = [] }; pending = noPending }
 
 -- the slot as the code frees it
 pub slot-freed : (z : Sizes) (page original spare bitmap : List ℕ) (p s f : ℕ) (t v : Slot) → s ≡ slotOfPage z page p → t ≡ slotIn (slotsOfArrays page original spare bitmap) s

@@ -7,9 +7,10 @@ ghost use Rattle.state.specs.Slots.{slotOfPage};
 ghost use Rattle.layout.specs.Layout.{Legal, frames, imageLength};
 ghost use Rattle.journal.specs.Slots.{freeSlot};
 ghost use Rattle.journal.specs.Records.{position};
-ghost use Rattle.refinement.specs.Frames.{pageSlot};
+ghost use Rattle.replay.specs.Table.{slotsOfArrays};
+ghost use Rattle.refinement.specs.Frames.{pageSlotIn};
 ghost use Rattle.pieces.specs.Pieces.{Fits, lineCopies};
-ghost use Rattle.refinement.specs.Consolidate.{copyTo, copyFrom, copyLines, copyStoreCount, consolidationStores, Consolidates, consolidateStores, consolidating};
+ghost use Rattle.refinement.specs.Consolidate.{copyTo, copyFrom, copyLines, copyStoreCount, consolidationStores, Consolidates, consolidateStores};
 ghost use Rattle.consolidations.specs.Completed.{freedSlot};
 use journal::Record;
 use journal::Slot;
@@ -134,8 +135,8 @@ pub fn make_consolidate_stores<'a>(
     from: usize,
     n: usize,
 )
-    requires { ⌜ Consolidates (consolidating z head (now page) (now original) (now spare) (now bitmap)) p × (from + n ≤ copyStoreCount (pageSlot (consolidating z head (now page) (now original) (now spare) (now bitmap)) p) + 6) × (imageLength z ≤ length (now image)) ⌝ }
-    ensures { λ _. ⌜ now (image .exit) ≡ consolidateStores (consolidating z head (now (page .entry)) (now (original .entry)) (now (spare .entry)) (now (bitmap .entry))) p from n (now (image .entry)) ⌝ }
+    requires { ⌜ Consolidates z head (slotsOfArrays (now page) (now original) (now spare) (now bitmap)) p × (from + n ≤ copyStoreCount (pageSlotIn z (slotsOfArrays (now page) (now original) (now spare) (now bitmap)) p) + 6) × (imageLength z ≤ length (now image)) ⌝ }
+    ensures { λ _. ⌜ now (image .exit) ≡ consolidateStores z head (slotsOfArrays (now (page .entry)) (now (original .entry)) (now (spare .entry)) (now (bitmap .entry))) p from n (now (image .entry)) ⌝ }
 {
     let s = state::slots::slot_of(z, page, p);
     let t = replay::slot_at(page, original, spare, bitmap, s);

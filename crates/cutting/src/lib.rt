@@ -15,7 +15,7 @@ pub fn line_end(input: &[u8], from: usize) -> usize
     bytes::scan::find(input, from, input.len(), 10)
 }
 
-fn lesser(a: usize, b: usize) -> usize
+pub fn lesser(a: usize, b: usize) -> usize
     ensures { λ r. ⌜ r ≡ min a b ⌝ }
 {
     if a < b { a } else { b }

@@ -3,6 +3,9 @@
 mod lines;
 mod reading;
 
+ghost use Prim.Native.Nat.{ℕ};
+ghost use mathlib.Core.List.{List};
+ghost use Rattle.probe.specs.Program.{stand, Shows, first};
 use workbench::Bench;
 
 // What a printed line leaves: the bench after it, and where the next line is printed.
@@ -21,7 +24,9 @@ struct Session {
     more: bool,
 }
 
-fn started() -> Session {
+fn started() -> Session
+    ensures { λ r. ⌜ ((buffer line out : List ℕ) → Shows (stand r buffer line out) (first buffer)) ⌝ }
+{
     let bench = workbench::starting::first_bench();
     Session {
         bench,
@@ -35,7 +40,7 @@ fn started() -> Session {
 fn main() {
     let mut buffer = [0u8; 65536];
     let mut line = [0u8; 2048];
+    let mut input = [0u8; 65536];
     let mut out = [0u8; 65536];
-    let s = reading::read_all(started(), &mut buffer, &mut line, &mut out);
-    reading::finish(s, &mut buffer, &line, &mut out);
+    reading::run(&mut buffer, &mut line, &mut input, &mut out);
 }

@@ -1,25 +1,26 @@
 // Input cut into lines, output collected.
-ghost use Prim.Native.Nat.{_≤_};
+ghost use Prim.Native.Nat.{_<_, _≤_};
+ghost use lib.ListN.{length};
+ghost use mathlib.Core.Path.{_≡_};
+ghost use mathlib.Core.List.{[], _∷_};
+ghost use Rattle.probe.specs.Program.{roomed, stand, Takes, Reads, TakesSome, Closes, Ran};
 use crate::Session;
 use crate::lines;
 use libc::STDIN_FILENO;
 use libc::STDOUT_FILENO;
 
-fn lesser(a: usize, b: usize) -> usize
-    ensures { λ r. ⌜ (r ≤ a) × (r ≤ b) ⌝ }
-{
-    if a < b { a } else { b }
-}
-
 // Writes the first n bytes out.
 fn write_out(out: &[u8], n: usize) -> bool {
-    let k = lesser(n, out.len());
-    io::write_all(STDOUT_FILENO, &out[..k])
+    if n > out.len() {
+        return false;
+    }
+    io::write_all(STDOUT_FILENO, &out[..n])
 }
 
-// Room for a line of output.
+// Room for a line of output: where little is left, all that waits is written.
 fn make_room(s: Session, out: &[u8]) -> Session
-    ensures { λ r. ⌜ r .at ≤ 60000 ⌝ }
+    ensures room { λ r. ⌜ r .at ≤ 60000 ⌝ }
+    ensures same { λ r. ⌜ r ≡ record { bench = s .bench; lines = s .lines; kept = s .kept; at = roomed (s .at); more = r .more } ⌝ }
 {
     if s.at <= 60000 {
         return s;
@@ -30,11 +31,15 @@ fn make_room(s: Session, out: &[u8]) -> Session
     next
 }
 
-// Performs the line that was kept.
-fn perform_kept(s: Session, buffer: &mut [u8], line: &[u8], out: &mut [u8; 65536]) -> Session {
+// Performs the line that was kept, whose newline has come. A line of more than 1,450 bytes is of another form, so a buffer
+// for more keeps enough of any.
+fn perform_kept(s: Session, buffer: &mut [u8; 65536], line: &[u8], out: &mut [u8; 65536]) -> Session
+    requires { ⌜ 1450 < length (now line) ⌝ }
+    ensures { λ r. ⌜ Takes (stand s (now (buffer .entry)) (now (line .entry)) (now (out .entry))) (10 ∷ []) (stand r (now (buffer .exit)) (now (line .entry)) (now (out .exit))) ⌝ }
+{
     let mut next = make_room(s, out);
-    let k = lesser(s.kept, line.len());
-    next.lines = std::num::wrapping_add_u64(s.lines, 1);
+    let k = cutting::lesser(next.kept, line.len());
+    next.lines = std::num::wrapping_add_u64(next.lines, 1);
     next.kept = 0;
     let p = lines::perform(next.bench, buffer, &line[..k], next.lines, out, next.at);
     let bench = p.bench;
@@ -47,11 +52,13 @@ fn perform_kept(s: Session, buffer: &mut [u8], line: &[u8], out: &mut [u8; 65536
 // of another form either way.
 fn perform_piece(
     s: Session,
-    buffer: &mut [u8],
-    line: &mut [u8],
+    buffer: &mut [u8; 65536],
+    line: &mut [u8; 2048],
     piece: &[u8],
     out: &mut [u8; 65536],
-) -> Session {
+) -> Session
+    ensures { λ r. ⌜ Takes (stand s (now (buffer .entry)) (now (line .entry)) (now (out .entry))) (now (piece .entry)) (stand r (now (buffer .exit)) (now (line .exit)) (now (out .exit))) ⌝ }
+{
     let mut s = s;
     let mut from = 0;
     while from < piece.len() {
@@ -68,10 +75,17 @@ fn perform_piece(
 }
 
 // Reads a piece of the input and performs its lines.
-fn read_piece(s: Session, buffer: &mut [u8], line: &mut [u8], out: &mut [u8; 65536]) -> Session {
-    let mut input = io::large_buffer();
-    let got = libc::read(STDIN_FILENO, &mut input);
-    let n = io::count(got, &input);
+fn read_piece(
+    s: Session,
+    buffer: &mut [u8; 65536],
+    line: &mut [u8; 2048],
+    input: &mut [u8],
+    out: &mut [u8; 65536],
+) -> Session
+    ensures { λ r. ⌜ Reads (stand s (now (buffer .entry)) (now (line .entry)) (now (out .entry))) (now (input .exit)) (stand r (now (buffer .exit)) (now (line .exit)) (now (out .exit))) ⌝ }
+{
+    let got = libc::read(STDIN_FILENO, input);
+    let n = io::count(got, input);
     if n == 0 {
         let mut ended = s;
         ended.more = false;
@@ -82,22 +96,55 @@ fn read_piece(s: Session, buffer: &mut [u8], line: &mut [u8], out: &mut [u8; 655
 
 // Reads to the end of the input. A proved loop has to end, so this one counts its turns down from a number that no run
 // uses up.
-pub fn read_all(s: Session, buffer: &mut [u8], line: &mut [u8], out: &mut [u8; 65536]) -> Session {
+fn read_all(
+    s: Session,
+    buffer: &mut [u8; 65536],
+    line: &mut [u8; 2048],
+    input: &mut [u8; 65536],
+    out: &mut [u8; 65536],
+) -> Session
+    ensures { λ r. ⌜ TakesSome (stand s (now (buffer .entry)) (now (line .entry)) (now (out .entry))) (stand r (now (buffer .exit)) (now (line .exit)) (now (out .exit))) ⌝ }
+{
     let mut s = s;
     let mut turns = u64::MAX;
     while (turns > 0) & s.more {
-        s = read_piece(s, buffer, line, out);
+        s = read_piece(s, buffer, line, input, out);
         turns -= 1;
     }
     s
 }
 
-// Performs a last line that no newline ends, and writes what is left.
-pub fn finish(s: Session, buffer: &mut [u8], line: &[u8], out: &mut [u8; 65536]) {
+// Performs a last line that no newline ends.
+fn perform_last(s: Session, buffer: &mut [u8; 65536], line: &[u8], out: &mut [u8; 65536]) -> Session
+    requires { ⌜ 1450 < length (now line) ⌝ }
+    ensures { λ r. ⌜ Closes (stand s (now (buffer .entry)) (now (line .entry)) (now (out .entry))) (stand r (now (buffer .exit)) (now (line .entry)) (now (out .exit))) ⌝ }
+{
     if s.kept == 0 {
-        write_out(out, s.at);
-        return;
+        return s;
     }
-    let last = perform_kept(s, buffer, line, out);
-    write_out(out, last.at);
+    perform_kept(s, buffer, line, out)
+}
+
+// Performs all lines of the input; the end of what they print is left in `out`.
+fn perform_all(
+    buffer: &mut [u8; 65536],
+    line: &mut [u8; 2048],
+    input: &mut [u8; 65536],
+    out: &mut [u8; 65536],
+) -> Session
+    ensures { λ r. ⌜ Ran (now (buffer .entry)) (stand r (now (buffer .exit)) (now (line .exit)) (now (out .exit))) ⌝ }
+{
+    let s = read_all(crate::started(), buffer, line, input, out);
+    perform_last(s, buffer, line, out)
+}
+
+// Performs all lines of the input, and writes all that they print.
+pub fn run(
+    buffer: &mut [u8; 65536],
+    line: &mut [u8; 2048],
+    input: &mut [u8; 65536],
+    out: &mut [u8; 65536],
+) {
+    let s = perform_all(buffer, line, input, out);
+    write_out(out, s.at);
 }

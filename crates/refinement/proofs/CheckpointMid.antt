@@ -24,7 +24,7 @@ use Rattle.state.specs.declared.State.{State}
 use Rattle.state.specs.declared.Op.the-variants.{Checkpoint}
 use Rattle.operations.specs.Operations.{recordedSlots}
 use Rattle.refinement.proofs.Appended.{last-at}
-use Rattle.refinement.specs.Checkpoint.{checkpointSlot, checkpointAt, checkpointValue}
+use Rattle.refinement.specs.Checkpoint.{checkpointSlot, checkpointAt, checkpointValue, checkpointAtOf, checkpointValueOf}
 use Rattle.refinement.specs.Reference.{Reference}
 use Rattle.refinement.proofs.Copies.{durable-legal}
 use Rattle.refinement.proofs.Invariant.{Durable}
@@ -77,19 +77,19 @@ module _ (st : State) (legal : Legal (st .sizes)) (full : Sixteen (st .table)) w
 
   -- where they go, and their values
   pub at-slot : (i : ℕ) → i < 3 * recorded st → checkpointAt st i ≡ slotWord z (checkpointSlot st i) + i % 3
-  unfolding checkpointAt
+  unfolding checkpointAtOf
   at-slot i l = rw (lt-ltb i (3 * recorded st) l)
 
   pub value-slot : (img : List ℕ) (i : ℕ) → i < 3 * recorded st → checkpointValue st img i ≡ word img (recordWord z (lastIn (st .table) (checkpointSlot st i)) + 1 + i % 3)
-  unfolding checkpointValue
+  unfolding checkpointValueOf
   value-slot img i l = rw (lt-ltb i (3 * recorded st) l)
 
   pub at-tail : checkpointAt st (3 * recorded st) ≡ tailWord
-  unfolding checkpointAt
+  unfolding checkpointAtOf
   at-tail = rw (le-ltb (3 * recorded st) (3 * recorded st) (omega arith))
 
   pub value-tail : (img : List ℕ) → checkpointValue st img (3 * recorded st) ≡ st .head
-  unfolding checkpointValue
+  unfolding checkpointValueOf
   value-tail img = rw (le-ltb (3 * recorded st) (3 * recorded st) (omega arith))
 
   same-store : (i j : ℕ) → i < 3 * recorded st → j < 3 * recorded st → checkpointAt st i ≡ checkpointAt st j → i ≡ j

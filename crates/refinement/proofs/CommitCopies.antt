@@ -27,7 +27,7 @@ use Rattle.state.specs.Held.{heldAt, heldSlots}
 use Rattle.operations.specs.Operations.{slotFor, slotted}
 use Rattle.validity.specs.Validity.{stateOk}
 use Rattle.operations.proofs.Taken.{CommitTaken}
-use Rattle.refinement.specs.Commit.{commitSlots, committedSlot, commitRecord, commitTable}
+use Rattle.refinement.specs.Commit.{commitSlots, committedSlot, commitRecord, commitTable, commitRecordOf}
 use Rattle.refinement.specs.Frames.{committedFrame, otherFrame}
 use Rattle.refinement.specs.Stores.{completed}
 use Rattle.refinement.proofs.Closed.{closed-holds, others-hold}
@@ -80,7 +80,7 @@ module _ (st : State) (w : ℕ) (ok : stateOk st ≡ true) (full : Sixteen (st .
 
   -- a slot without a record is one that the writer holds nothing of
   none-held : (s : ℕ) → s < z .slots → NoRecord (length (commitSlots st w)) (commitRecord st w) s → held s ≡ 0
-  unfolding commitRecord heldSlots
+  unfolding commitRecordOf heldSlots
   none-held s l none =
       let f : ℕ → Bool = λ s. not (eqb (held s) 0) in
       caseOn (eqb (held s) 0)
@@ -98,7 +98,7 @@ module _ (st : State) (w : ℕ) (ok : stateOk st ≡ true) (full : Sixteen (st .
       ap (λ (v : Slot). inMask (v .bitmap) l)
       (replay-latest z (st .head) (commitRecord st w) t full s n (x .0) (omega (arith, low, g .slots-high)) (x .1) .slot
       ∙ commit-slot st w (x .0) (x .1 .live) .now
-      ∙ ap (committedSlot st w) (x .1 .slot)))
+      ∙ ap (committedSlot (st .table) (st .writers .held) w) (x .1 .slot)))
       (λ y.
       ap (λ (v : Slot). inMask (v .bitmap) l) (replay-kept z (st .head) (commitRecord st w) t full s n y .slot)
       ∙ sym (kept (slotIn t s .bitmap) (held s) l (ap (λ (m : ℕ). inMask m l) (none-held s low y) ∙ in-none l)))

@@ -36,7 +36,7 @@ use Rattle.state.specs.Held.{heldAt, heldSlots}
 use Rattle.operations.specs.Operations.{needs}
 use Rattle.validity.specs.Validity.{stateOk}
 use Rattle.operations.proofs.Taken.{CommitTaken, commit-taken}
-use Rattle.refinement.specs.Commit.{commitSlots, commitRecord, commitAt, commitValue}
+use Rattle.refinement.specs.Commit.{commitSlots, commitRecord, commitAt, commitValue, commitRecordOf, commitAtOf, commitValueOf}
 use Rattle.refinement.specs.Stores.{stepped}
 use Rattle.refinement.proofs.CommitValid.{SameNames, owning-renamed, commit-slot}
 use Rattle.refinement.proofs.Pending.{pends}
@@ -92,12 +92,12 @@ module _ (st : State) (w : ℕ) where
   count = length (commitSlots st w)
 
   commit-first : (j : ℕ) → commitRecord st w j .first ≡ st .head
-  unfolding commitRecord
+  unfolding commitRecordOf
   commit-first j = refl
 
   -- their slots rise
   commit-rises : (j : ℕ) → suc j < count → commitRecord st w j .slot < commitRecord st w (suc j) .slot
-  unfolding commitRecord heldSlots
+  unfolding commitRecordOf heldSlots
   commit-rises j l =
       let f : ℕ → Bool = λ s. not (eqb (heldAt (st .writers .held) w s) 0) in
       let S : ℕ = st .sizes .slots in
@@ -153,19 +153,19 @@ module _ (st : State) (w : ℕ) where
   -- ---- store i
 
   pub at-record : (i : ℕ) → i < 4 * count → commitAt st w i ≡ recordWord (st .sizes) (position (st .sizes) (st .head) (i / 4)) + i % 4
-  unfolding commitAt
+  unfolding commitAtOf
   at-record i l = rw (lt-ltb i (4 * count) l)
 
   pub value-record : (i : ℕ) → i < 4 * count → commitValue st w i ≡ wordOfRecord (commitRecord st w (i / 4)) (i % 4)
-  unfolding commitValue
+  unfolding commitValueOf
   value-record i l = rw (lt-ltb i (4 * count) l)
 
   pub at-head : commitAt st w (4 * count) ≡ headWord
-  unfolding commitAt
+  unfolding commitAtOf
   at-head = rw (le-ltb (4 * count) (4 * count) (omega arith))
 
   pub value-head : commitValue st w (4 * count) ≡ position (st .sizes) (st .head) count
-  unfolding commitValue
+  unfolding commitValueOf
   value-head = rw (le-ltb (4 * count) (4 * count) (omega arith))
 
   pub commit-needs : (m : ℕ) → m < needs st (Commit w) → needs st (Commit w) ≡ 4 * count + 1

@@ -7,11 +7,11 @@ use native.Mathlib.Omega.{arith}
 use lib.ListN.{getD}
 use Rattle.layout.specs.declared.Sizes.{Sizes}
 use Rattle.layout.specs.Layout.{Legal}
+use Rattle.replay.specs.declared.Table.{Table}
 use Rattle.replay.specs.Table.{slotIn, slotsShaped}
 use Rattle.journal.proofs.SlotWords.{shaped-fits}
-use Rattle.state.specs.declared.State.{State}
 use Rattle.state.specs.Held.{heldSlots}
-use Rattle.refinement.specs.Commit.{commitRecord}
+use Rattle.refinement.specs.Commit.{commitRecordOf}
 use Rattle.bounded.proofs.Nth.{nth-low}
 use Rattle.refinement.proofs.SeenFrames.{slot-shaped}
 use Rattle.journal.proofs.SlotWords.{RecordFits}
@@ -20,10 +20,10 @@ pub held-slot-low : (z : Sizes) (held : List ℕ) (w j r : ℕ) → Legal z → 
 unfolding heldSlots
 held-slot-low z held w j r h e = rw e (nth-low _ (z .slots) j (omega arith))
 
-pub commit-record-fits : (st : State) (w j : ℕ) → Legal (st .sizes) → st .head < 2 * st .sizes .places → slotsShaped (st .sizes) (st .table) ≡ true → RecordFits (commitRecord st w j)
-unfolding commitRecord
-commit-record-fits st w j h q e =
-    let s = getD (heldSlots (st .sizes) (st .writers .held) w) j 0 in
-    let l = held-slot-low (st .sizes) (st .writers .held) w j s h refl in
-    let f = shaped-fits (st .sizes) (slotIn (st .table) s) h (slot-shaped (st .sizes) (st .table) s e l) in
+pub commit-record-fits : (z : Sizes) (head : ℕ) (t : Table) (held : List ℕ) (w j : ℕ) → Legal z → head < 2 * z .places → slotsShaped z t ≡ true → RecordFits (commitRecordOf z head t held w j)
+unfolding commitRecordOf
+commit-record-fits z head t held w j h q e =
+    let s = getD (heldSlots z held w) j 0 in
+    let l = held-slot-low z held w j s h refl in
+    let f = shaped-fits z (slotIn t s) h (slot-shaped z t s e l) in
     (omega arith, omega arith, f .original, f .spare)

@@ -25,7 +25,7 @@ use Rattle.operations.specs.Operations.{commitRows}
 use Rattle.validity.specs.Validity.{stateOk}
 use Rattle.operations.proofs.Taken.{CommitTaken, commit-taken}
 use Rattle.refinement.specs.Stores.{completed}
-use Rattle.refinement.specs.Commit.{commitSlots, committedSlot, commitRecord, commitTable}
+use Rattle.refinement.specs.Commit.{commitSlots, committedSlot, commitRecord, commitTable, commitRecordOf}
 use Rattle.refinement.proofs.StateValid.{Apart, HeldFine, valid, valid-ok}
 use Rattle.refinement.proofs.Pending.{idle-ok}
 use Rattle.refinement.proofs.Appended.{lasts-more}
@@ -60,10 +60,10 @@ module _ (st : State) (w : ℕ) where
     pub slot-low : s < st .sizes .slots
     pub holds : heldAt (st .writers .held) w s ≡ 0 → ⊥
     pub slot : commitRecord st w j .slot ≡ s
-    pub now : commitRecord st w j .now ≡ committedSlot st w s
+    pub now : commitRecord st w j .now ≡ committedSlot (st .table) (st .writers .held) w s
 
   pub commit-slot : (j : ℕ) → j < length (commitSlots st w) → CommitSlot j (commitRecord st w j .slot)
-  unfolding commitRecord heldSlots
+  unfolding commitRecordOf heldSlots
   commit-slot j l =
       let held = st .writers .held in
       let test : ℕ → Bool = λ s. not (eqb (heldAt held w s) 0) in
@@ -95,8 +95,8 @@ module _ (st : State) (w : ℕ) where
         (λ (x : (i : ℕ) × Latest n (commitRecord st w) s i).
         let c = commit-slot (x .0) (x .1 .live) in
         let q : commitRecord st w (x .0) .slot ≡ s = x .1 .slot in
-        let b : new ≡ committedSlot st w s =
-        replay-latest z (st .head) (commitRecord st w) (st .table) full s n (x .0) (omega arith) (x .1) .slot ∙ c .now ∙ ap (committedSlot st w) q in
+        let b : new ≡ committedSlot (st .table) (st .writers .held) w s =
+        replay-latest z (st .head) (commitRecord st w) (st .table) full s n (x .0) (omega arith) (x .1) .slot ∙ c .now ∙ ap (committedSlot (st .table) (st .writers .held) w) q in
         let a : SameNames old new =
         record { page = ap (λ (u : Slot). u .page) b; original = ap (λ (u : Slot). u .original) b; spare = ap (λ (u : Slot). u .spare) b } in
         record {

@@ -24,9 +24,9 @@ use Rattle.operations.proofs.Taken.{write-taken, consolidate-taken}
 use Rattle.refinement.specs.Frames.{otherFrame, pageSlot}
 use Rattle.refinement.specs.Stores.{storeAt}
 use Rattle.refinement.specs.Write.{writeSlot, writeAt}
-use Rattle.refinement.specs.Commit.{commitSlots, commitAt}
+use Rattle.refinement.specs.Commit.{commitSlots, commitAt, commitAtOf}
 use Rattle.refinement.specs.Consolidate.{isFew, copyTo, copyLines, copyStoreCount, consolidateAt}
-use Rattle.refinement.specs.Checkpoint.{checkpointSlot, checkpointAt}
+use Rattle.refinement.specs.Checkpoint.{checkpointSlot, checkpointAt, checkpointAtOf}
 use Rattle.refinement.proofs.StateValid.{valid}
 use Rattle.refinement.proofs.Pending.{pends}
 use Rattle.refinement.proofs.WriteValid.{target}
@@ -67,7 +67,7 @@ module _ (st : State) (e : stateOk st ≡ true) where
       (other-low z (slotIn (st .table) (writeSlot st p)) l (v .slots .shapes (writeSlot st p) low)) (h .args .line-low) m
 
   commit-in : (w i : ℕ) → commitAt st w i < imageWords z
-  unfolding commitAt
+  unfolding commitAtOf
   commit-in w i =
       let v = valid st e in
       row-keeps (λ (x : ℕ). x < imageWords z) (ltb i (4 * length (commitSlots st w))) (recordWord z (position z (st .head) (i / 4)) + i % 4) headWord
@@ -100,7 +100,7 @@ module _ (st : State) (e : stateOk st ≡ true) where
       (λ d. rw (a, b, d) (header-in z (v .legal) headWord (omega arith)))))
 
   checkpoint-in : (i : ℕ) → checkpointAt st i < imageWords z
-  unfolding checkpointAt recordedSlots
+  unfolding checkpointAtOf recordedSlots
   checkpoint-in i =
       let v = valid st e in
       let test : ℕ → Bool = λ s. not (eqb (getD (st .table .last) s 0) noPosition) in

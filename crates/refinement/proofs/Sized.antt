@@ -31,7 +31,7 @@ use Rattle.operations.specs.Operations.{slotted, opRows}
 use Rattle.operations.proofs.Taken.{write-taken}
 use Rattle.refinement.specs.Stores.{completed, withMade}
 use Rattle.refinement.specs.Write.{writeSlot, writeTable}
-use Rattle.refinement.specs.Commit.{commitSlots, commitRecord, closedWriter}
+use Rattle.refinement.specs.Commit.{commitSlots, commitRecord, closedWriter, commitRecordOf}
 use Rattle.refinement.specs.Consolidate.{freeingRecord}
 
 -- each entry of a list is a word
@@ -81,7 +81,7 @@ closed-sized z ws w h =
 
 module _ (st : State) (h : Sized st) where
   commit-low : (w i : ℕ) → commitRecord st w i .now .bitmap < 2 ^ 64
-  unfolding commitRecord
+  unfolding commitRecordOf
   commit-low w i =
       let s = getD (commitSlots st w) i 0 in
       exclusive-or-lt (slotIn (st .table) s .bitmap) (heldAt (st .writers .held) w s) (h .table .bitmap-low s) (h .writers .held-low (16 * w + s))

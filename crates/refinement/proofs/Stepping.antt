@@ -30,9 +30,9 @@ use Rattle.state.specs.declared.Op.the-variants.{Idle, Write, Commit, Consolida
 use Rattle.operations.specs.Operations.{slotFor, needs, isIdle}
 use Rattle.refinement.specs.Frames.{otherFrame}
 use Rattle.refinement.specs.Write.{writeSlot}
-use Rattle.refinement.specs.Commit.{commitAt, commitValue, commitRecord}
+use Rattle.refinement.specs.Commit.{commitRecordOf, commitAtOf, commitValueOf}
 use Rattle.refinement.specs.Consolidate.{consolidateAt, consolidateValue, freeingRecord}
-use Rattle.refinement.specs.Checkpoint.{checkpointAt, checkpointValue}
+use Rattle.refinement.specs.Checkpoint.{checkpointAtOf, checkpointValueOf}
 use Rattle.refinement.specs.Stores.{World, stepped, withMade, completed, storeAt, storeValue, storeMade}
 use Rattle.refinement.proofs.Pending.{made-valid}
 pub use Rattle.refinement.proofs.Pending.{needs-made}
@@ -176,7 +176,7 @@ module _ (st : State) (img : List ℕ) (b : Reference) (Being : ℕ → ℕ → 
 
 module _ (st : State) (n : ℕ) where
   pub at-made : (op : Op) (j : ℕ) → storeAt (withMade st n) op j ≡ storeAt st op j
-  unfolding writeSlot commitAt consolidateAt checkpointAt
+  unfolding writeSlot commitAtOf consolidateAt checkpointAtOf
   at-made Idle j = refl
   at-made (Write w p l o k) j = refl
   at-made (Commit w) j = refl
@@ -184,7 +184,7 @@ module _ (st : State) (n : ℕ) where
   at-made Checkpoint j = refl
 
   pub value-made : (img : List ℕ) (op : Op) (j : ℕ) → storeValue (withMade st n) img op j ≡ storeValue st img op j
-  unfolding commitValue commitRecord consolidateValue freeingRecord checkpointValue
+  unfolding commitValueOf commitRecordOf consolidateValue freeingRecord checkpointValueOf
   value-made img Idle j = refl
   value-made img (Write w p l o k) j = refl
   value-made img (Commit w) j = refl

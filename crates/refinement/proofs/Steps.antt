@@ -17,9 +17,9 @@ use Rattle.state.specs.declared.Op.the-variants.{Idle, Write, Commit, Consolida
 use Rattle.operations.specs.Operations.{isIdle, needs}
 use Rattle.validity.specs.Validity.{stateOk}
 use Rattle.refinement.specs.Write.{writeSlot}
-use Rattle.refinement.specs.Commit.{commitRecord, commitAt, commitValue}
+use Rattle.refinement.specs.Commit.{commitRecordOf, commitAtOf, commitValueOf}
 use Rattle.refinement.specs.Consolidate.{freeingRecord, consolidateAt, consolidateValue}
-use Rattle.refinement.specs.Checkpoint.{checkpointAt, checkpointValue}
+use Rattle.refinement.specs.Checkpoint.{checkpointAtOf, checkpointValueOf}
 use Rattle.refinement.specs.Stores.{World, completed, withMade, storeMade, storesMade, stateAfter, stepped, steppedBy, left}
 use Rattle.refinement.proofs.Pending.{pends, needs-made, made-valid}
 use Rattle.refinement.proofs.Sized.{Sized, completed-sized, made-sized}
@@ -77,7 +77,7 @@ run-kept (suc n) v l =
 
 -- what an operation makes of a state does not depend on the stores made
 pub completed-made : (st : State) (m : ℕ) (op : Op) → isIdle op ≡ false → completed (withMade st m) op ≡ completed st op
-unfolding writeSlot commitRecord freeingRecord
+unfolding writeSlot commitRecordOf freeingRecord
 completed-made st m Idle i = contradicts refl i
 completed-made st m (Write w p l o n) i = refl
 completed-made st m (Commit w) i = refl
@@ -104,7 +104,7 @@ run-all v i l =
 
 -- nor do its stores
 store-of : (st : State) (m : ℕ) (img : List ℕ) (op : Op) (i : ℕ) → storeMade (withMade st m) img op i ≡ storeMade st img op i
-unfolding writeSlot commitAt commitValue commitRecord consolidateAt consolidateValue freeingRecord checkpointAt checkpointValue
+unfolding writeSlot commitAtOf commitValueOf commitRecordOf consolidateAt consolidateValue freeingRecord checkpointAtOf checkpointValueOf
 store-of st m img Idle i = refl
 store-of st m img (Write w p l o n) i = refl
 store-of st m img (Commit w) i = refl

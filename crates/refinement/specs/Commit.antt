@@ -1,8 +1,8 @@
 -- Commit: for each slot with held lines, rising, one record with bitmap = committed exclusive-or held, 4 stores; then
 -- head.
 use Prim.Native.Nat.{ℕ, _+_, _*_, _/_, _%_}
-use mathlib.Core.Bool.{Bool, false, cond}
-use mathlib.Core.List.{List, []}
+use mathlib.Core.Bool.{false, cond}
+use mathlib.Core.List.{List}
 use lib.Dec.{ltb}
 use lib.ListN.{length, getD, set}
 use Rattle.bounded.specs.Below.{upTo}
@@ -13,43 +13,47 @@ use Rattle.journal.specs.declared.Record.{Record}
 use Rattle.replay.specs.declared.Table.{Table}
 use Rattle.journal.specs.Records.{position, wordOfRecord}
 use Rattle.words.specs.Words.{store}
-use Rattle.replay.specs.Table.{slotIn, replay, slotsOfArrays}
+use Rattle.replay.specs.Table.{slotIn, replay}
 use Rattle.masks.specs.Lines.{exclusiveOr}
 use Rattle.state.specs.declared.State.{State}
 use Rattle.state.specs.declared.Writers.{Writers}
 use Rattle.state.specs.Held.{heldAt, heldSlots}
-use Rattle.refinement.specs.Settled.{noPending}
 
 abbrev pub commitSlots : State → ℕ → List ℕ
 commitSlots st w = heldSlots (st .sizes) (st .writers .held) w
 
--- slot s with the held lines of writer w committed
-abbrev pub committedSlot : State → ℕ → ℕ → Slot
-committedSlot st w s =
-    let t = slotIn (st .table) s in
-    record { page = t .page; original = t .original; spare = t .spare; bitmap = exclusiveOr (t .bitmap) (heldAt (st .writers .held) w s) }
+-- slot s of a table with the held lines of writer w committed
+abbrev pub committedSlot : Table → List ℕ → ℕ → ℕ → Slot
+committedSlot t held w s =
+    let u = slotIn t s in
+    record { page = u .page; original = u .original; spare = u .spare; bitmap = exclusiveOr (u .bitmap) (heldAt held w s) }
 
--- the j-th record
-unfoldable pub commitRecord : State → ℕ → ℕ → Record
-commitRecord st w j = let s = getD (commitSlots st w) j 0 in record { first = st .head; slot = s; now = committedSlot st w s }
+-- the j-th record, by the sizes, head, table and held lines, which is what these stores read of a state
+unfoldable pub commitRecordOf : Sizes → ℕ → Table → List ℕ → ℕ → ℕ → Record
+commitRecordOf z head t held w j = let s = getD (heldSlots z held w) j 0 in record { first = head; slot = s; now = committedSlot t held w s }
 
 -- store i: the records' words, then head
-unfoldable pub commitAt : State → ℕ → ℕ → ℕ
-commitAt st w i =
-    cond (ltb i (4 * length (commitSlots st w))) (recordWord (st .sizes) (position (st .sizes) (st .head) (i / 4)) + i % 4) headWord
+unfoldable pub commitAtOf : Sizes → ℕ → List ℕ → ℕ → ℕ → ℕ
+commitAtOf z head held w i =
+    cond (ltb i (4 * length (heldSlots z held w))) (recordWord z (position z head (i / 4)) + i % 4) headWord
 
-unfoldable pub commitValue : State → ℕ → ℕ → ℕ
-commitValue st w i =
-    cond (ltb i (4 * length (commitSlots st w))) (wordOfRecord (commitRecord st w (i / 4)) (i % 4)) (position (st .sizes) (st .head) (length (commitSlots st w)))
+unfoldable pub commitValueOf : Sizes → ℕ → Table → List ℕ → ℕ → ℕ → ℕ
+commitValueOf z head t held w i =
+    cond (ltb i (4 * length (heldSlots z held w))) (wordOfRecord (commitRecordOf z head t held w (i / 4)) (i % 4)) (position z head (length (heldSlots z held w)))
 
 -- n stores from store `from` on
-abbrev pub commitStores : State → ℕ → ℕ → ℕ → List ℕ → List ℕ
-commitStores st w from n img = upTo n (λ i m. store m (commitAt st w (from + i)) (commitValue st w (from + i))) img
+abbrev pub commitStores : Sizes → ℕ → Table → List ℕ → ℕ → ℕ → ℕ → List ℕ → List ℕ
+commitStores z head t held w from n img = upTo n (λ i m. store m (commitAtOf z head held w (from + i)) (commitValueOf z head t held w (from + i))) img
 
--- a state by what these stores read of it
-abbrev pub committing : Sizes → ℕ → List ℕ → List ℕ → List ℕ → List ℕ → List ℕ → State
-committing z head page original spare bitmap held =
-    record { sizes = z; head = head; tail = 0; next = 0; table = slotsOfArrays page original spare bitmap; writers = record { opened = []; held = held }; pending = noPending }
+-- the same of a state
+abbrev pub commitRecord : State → ℕ → ℕ → Record
+commitRecord st w = commitRecordOf (st .sizes) (st .head) (st .table) (st .writers .held) w
+
+abbrev pub commitAt : State → ℕ → ℕ → ℕ
+commitAt st w = commitAtOf (st .sizes) (st .head) (st .writers .held) w
+
+abbrev pub commitValue : State → ℕ → ℕ → ℕ
+commitValue st w = commitValueOf (st .sizes) (st .head) (st .table) (st .writers .held) w
 
 -- the records replace their slots
 abbrev pub commitTable : State → ℕ → Table

@@ -3,7 +3,7 @@
 -- the slot, and head.
 use Prim.Native.Nat.{ℕ, _+_, _-_, _*_, _/_, _%_, _<_}
 use mathlib.Core.Bool.{Bool, true, cond}
-use mathlib.Core.List.{List, []}
+use mathlib.Core.List.{List}
 use mathlib.Core.Path.{_≡_}
 use lib.Dec.{ltb, leb, eqb}
 use lib.ListN.{getD}
@@ -16,12 +16,11 @@ use Rattle.journal.specs.declared.Record.{Record}
 use Rattle.replay.specs.declared.Table.{Table}
 use Rattle.journal.specs.Slots.{freeSlot}
 use Rattle.journal.specs.Records.{position, wordOfRecord}
-use Rattle.replay.specs.Table.{slotIn, slotsOfArrays, slotsShaped, replay}
+use Rattle.replay.specs.Table.{slotsShaped, slotOf, replay}
 use Rattle.masks.specs.Lines.{countLines, linesIn, linesNotIn}
 use Rattle.state.specs.declared.State.{State}
-use Rattle.operations.specs.Operations.{slotFor, slotted, copyCount}
-use Rattle.refinement.specs.Frames.{pageSlot}
-use Rattle.refinement.specs.Settled.{noPending}
+use Rattle.operations.specs.Operations.{copyCount}
+use Rattle.refinement.specs.Frames.{pageSlotIn, pageSlot}
 
 -- k ≤ 32
 abbrev pub isFew : Slot → Bool
@@ -40,9 +39,12 @@ copyLines t = cond (isFew t) (linesIn (t .bitmap)) (linesNotIn (t .bitmap))
 abbrev pub copyStoreCount : Slot → ℕ
 copyStoreCount t = 8 * copyCount (t .bitmap)
 
--- the record that frees the slot; its spare is the frame that the lines came from
+-- the record that frees the slot of page p; its spare is the frame that the lines came from
+abbrev pub freeingRecordOf : Sizes → ℕ → Table → ℕ → Record
+freeingRecordOf z head t p = record { first = head; slot = slotOf z t p; now = freeSlot (copyFrom (pageSlotIn z t p)) }
+
 unfoldable pub freeingRecord : State → ℕ → ℕ → Record
-freeingRecord st p j = record { first = st .head; slot = slotFor st p; now = freeSlot (copyFrom (pageSlot st p)) }
+freeingRecord st p j = freeingRecordOf (st .sizes) (st .head) (st .table) p
 
 -- store i, of a slot t that record e frees: 8 c for the lines, the page-table word, the record's four, head
 abbrev pub consolidationAt : Sizes → ℕ → Slot → ℕ → ℕ → ℕ
@@ -67,25 +69,20 @@ unfoldable pub consolidateValue : State → List ℕ → ℕ → ℕ → ℕ
 consolidateValue st img p i = consolidationValue (st .sizes) (st .head) (pageSlot st p) (freeingRecord st p 0) img i
 
 -- what they lean on: numbers in their ranges, slots with shapes, a page that has one
-pub record Consolidates (st : State) (p : ℕ) : Type 0 where
-  pub legal : Legal (st .sizes)
-  pub head-low : st .head < 2 * st .sizes .places
-  pub shapes : slotsShaped (st .sizes) (st .table) ≡ true
-  pub page-low : p < st .sizes .pages
-  pub has-slot : slotted st p ≡ true
+pub record Consolidates (z : Sizes) (head : ℕ) (t : Table) (p : ℕ) : Type 0 where
+  pub legal : Legal z
+  pub head-low : head < 2 * z .places
+  pub shapes : slotsShaped z t ≡ true
+  pub page-low : p < z .pages
+  pub has-slot : ltb (slotOf z t p) (z .slots) ≡ true
 
--- n stores from store `from` on
+-- n stores from store `from` on; of a table only the slots are read
 abbrev pub consolidationStores : Sizes → ℕ → Slot → Record → ℕ → ℕ → ℕ → List ℕ → List ℕ
 consolidationStores z head t e p from n img =
     upTo n (λ i m. store m (consolidationAt z head t p (from + i)) (consolidationValue z head t e m (from + i))) img
 
-abbrev pub consolidateStores : State → ℕ → ℕ → ℕ → List ℕ → List ℕ
-consolidateStores st p from n img = upTo n (λ i m. store m (consolidateAt st p (from + i)) (consolidateValue st m p (from + i))) img
-
--- a state by what these stores read of it
-abbrev pub consolidating : Sizes → ℕ → List ℕ → List ℕ → List ℕ → List ℕ → State
-consolidating z head page original spare bitmap =
-    record { sizes = z; head = head; tail = 0; next = 0; table = slotsOfArrays page original spare bitmap; writers = record { opened = []; held = [] }; pending = noPending }
+abbrev pub consolidateStores : Sizes → ℕ → Table → ℕ → ℕ → ℕ → List ℕ → List ℕ
+consolidateStores z head t p from n img = consolidationStores z head (pageSlotIn z t p) (freeingRecordOf z head t p) p from n img
 
 abbrev pub consolidateTable : State → ℕ → Table
 consolidateTable st p = replay (st .sizes) (st .head) 1 (freeingRecord st p) (st .table)

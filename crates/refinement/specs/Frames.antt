@@ -9,15 +9,19 @@ use Rattle.layout.specs.declared.Sizes.{Sizes}
 use Rattle.layout.specs.Layout.{pageWord}
 use Rattle.words.specs.Words.{word}
 use Rattle.journal.specs.declared.Slot.{Slot}
-use Rattle.replay.specs.Table.{slotIn}
+use Rattle.replay.specs.declared.Table.{Table}
+use Rattle.replay.specs.Table.{slotIn, slotOf}
 use Rattle.masks.specs.Lines.{inMask}
 use Rattle.state.specs.declared.State.{State}
 use Rattle.state.specs.Held.{heldAt}
 use Rattle.operations.specs.Operations.{slotFor}
 
 -- the slot of a slotted page
+abbrev pub pageSlotIn : Sizes → Table → ℕ → Slot
+pageSlotIn z t p = slotIn t (slotOf z t p)
+
 abbrev pub pageSlot : State → ℕ → Slot
-pageSlot st p = slotIn (st .table) (slotFor st p)
+pageSlot st p = pageSlotIn (st .sizes) (st .table) p
 
 -- slot s, with page p, of arrays
 abbrev pub slotAt : ℕ → List ℕ → List ℕ → List ℕ → ℕ → Slot

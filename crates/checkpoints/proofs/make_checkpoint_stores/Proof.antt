@@ -2,7 +2,6 @@ use native.Mathlib.Omega.{arith}
 use borrow.Author.Needs.{needs}
 use Rattle.bounded.proofs.Below.{up-ends}
 use Rattle.needs.proofs.Counted.{recorded-le}
-use Rattle.refinement.specs.Checkpoint.{checkpointing}
 use Rattle.checkpoints.proofs.CheckpointMade.{checkpoint-ended}
 use Rattle.checkpoints.proofs.make_checkpoint_stores.Statement.{statement}
 use Rattle.checkpoints.proofs.make_checkpoint_stores.Tie as tie
@@ -21,7 +20,7 @@ make-slot-stores-requires c κs =
 returns : tie.Need-returns
 returns c =
     let s = c .before .before .before .before .before .before .before .before .before .before .before .before in
-    checkpoint-ended (checkpointing (s .args .z) (s .args .head) (s .args .last .now)) (s .args .from) (s .args .image .now) (c .before .before .before .before .before .before .before .before .before .smaller .result) (s .args .n) _ _ _ (c .before .before .before .before .before .before .before .make-slot-stores .ensures) (c .before .before .before .before .before .before .before .before .before .before .recorded-count .ensures) (omega (arith, c .before .before .before .before .before .before .before .before .before .smaller .ensures, c .before .before .before .before .before .before .before .before .before .before .recorded-count .ensures, s .pre .2, s .pre .3, c .before .before .before .before .if1 .taken)) (omega (arith, c .before .before .before .before .before .before .before .before .before .smaller .ensures, c .before .before .before .before .before .before .before .before .before .before .recorded-count .ensures, s .pre .2, s .pre .3, c .before .before .before .before .if1 .taken)) (c .before .before .store-word .ensures)
+    checkpoint-ended (s .args .z) (s .args .head) (s .args .last .now) (s .args .from) (s .args .image .now) (c .before .before .before .before .before .before .before .before .before .smaller .result) (s .args .n) _ _ _ (c .before .before .before .before .before .before .before .make-slot-stores .ensures) (c .before .before .before .before .before .before .before .before .before .before .recorded-count .ensures) (omega (arith, c .before .before .before .before .before .before .before .before .before .smaller .ensures, c .before .before .before .before .before .before .before .before .before .before .recorded-count .ensures, s .pre .2, s .pre .3, c .before .before .before .before .if1 .taken)) (omega (arith, c .before .before .before .before .before .before .before .before .before .smaller .ensures, c .before .before .before .before .before .before .before .before .before .before .recorded-count .ensures, s .pre .2, s .pre .3, c .before .before .before .before .if1 .taken)) (c .before .before .store-word .ensures)
 
 returns-2 : tie.Need-returns-2
 returns-2 c = up-ends _ _ _ _ _ (omega (arith, c .before .before .before .before .before .smaller .ensures)) (c .if1 .left) (c .before .before .before .make-slot-stores .ensures)

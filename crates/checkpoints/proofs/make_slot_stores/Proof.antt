@@ -7,14 +7,14 @@ use Rattle.bounded.proofs.Below.{up-none, up-ends}
 use Rattle.layout.proofs.LayoutLaws.{record-end}
 use Rattle.replay.specs.Table.{noPosition}
 use Rattle.needs.proofs.Counted.{recorded-le}
-use Rattle.refinement.specs.Checkpoint.{checkpointing, checkpointStores}
+use Rattle.refinement.specs.Checkpoint.{checkpointStores}
 use Rattle.refinement.proofs.CheckpointPlaces.{recorded-slot-low}
 use Rattle.checkpoints.proofs.CheckpointMade.{checkpoint-turn}
 use Rattle.checkpoints.proofs.make_slot_stores.Statement.{statement}
 use Rattle.checkpoints.proofs.make_slot_stores.Tie as tie
 
 abbrev Inv-loop : tie.InvT-loop
-Inv-loop image₀ z head last from n i₀ image i = (i ≤ n) × (length image ≡ length image₀) × (image ≡ checkpointStores (checkpointing z head last) from i image₀)
+Inv-loop image₀ z head last from n i₀ image i = (i ≤ n) × (length image ≡ length image₀) × (image ≡ checkpointStores z head last from i image₀)
 
 abbrev μ-loop : tie.MeasureT-loop
 μ-loop image₀ z head last from n i₀ image i = n - i
@@ -56,7 +56,7 @@ loop-again c =
     let h = c .before .before .before .before .before .before .before .before .before .loop in (
       omega (arith, c .before .before .before .before .before .in-piece .ensures, c .before .before .before .before .before .before .before .before .loop-test .taken),
       search needs,
-      checkpoint-turn (checkpointing (s .args .z) (s .args .head) (s .args .last .now)) (s .args .from) (s .args .image .now) (h .i) _ _ _ _ _ _ (h .inv .2) (c .before .before .before .before .before .before .before .recorded-slot .ensures) (c .before .before .before .before .before .before .last-words .ensures) (c .before .before .before .slot-word .ensures) (omega (arith, c .before .before .before .before .before .in-piece .ensures)) (omega (arith, c .before .before .before .before .before .in-piece .ensures, c .before .before .before .before .before .before .before .before .loop-test .taken, s .pre .2)) (c .before .before .copy-words .ensures),
+      checkpoint-turn (s .args .z) (s .args .head) (s .args .last .now) (s .args .from) (s .args .image .now) (h .i) _ _ _ _ _ _ (h .inv .2) (c .before .before .before .before .before .before .before .recorded-slot .ensures) (c .before .before .before .before .before .before .last-words .ensures) (c .before .before .before .slot-word .ensures) (omega (arith, c .before .before .before .before .before .in-piece .ensures)) (omega (arith, c .before .before .before .before .before .in-piece .ensures, c .before .before .before .before .before .before .before .before .loop-test .taken, s .pre .2)) (c .before .before .copy-words .ensures),
     )
 
 returns : tie.Need-returns Inv-loop μ-loop

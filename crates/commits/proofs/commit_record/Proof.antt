@@ -1,6 +1,6 @@
 use Prim.Native.Nat.{_<_}
 use native.Mathlib.Omega.{arith}
-use Rattle.refinement.specs.Commit.{committing}
+use Rattle.replay.specs.Table.{slotsOfArrays}
 use Rattle.refinement.proofs.CommitPlaces.{held-slot-low}
 use Rattle.commits.proofs.CommitMade.{commit-made}
 use borrow.Author.Needs.{needs}
@@ -34,7 +34,7 @@ element-copy-out-exclusive-or c =
 returns : tie.Need-returns
 returns c =
     let s = c .before .before .before .before in
-    commit-made (committing (s .args .z) (s .args .head) (s .args .page .now) (s .args .original .now) (s .args .spare .now) (s .args .bitmap .now) (s .args .held .now)) (s .args .w) (s .args .j) _ _ _ (c .before .before .before .held-slot .ensures) (c .before .before .slot-at .ensures) (c .exclusive-or .ensures)
+    commit-made (s .args .z) (s .args .head) (slotsOfArrays (s .args .page .now) (s .args .original .now) (s .args .spare .now) (s .args .bitmap .now)) (s .args .held .now) (s .args .w) (s .args .j) _ _ _ (c .before .before .before .held-slot .ensures) (c .before .before .slot-at .ensures) (c .exclusive-or .ensures)
 
 pub commit-record-spec : {M : Type 1} → statement M
 commit-record-spec =

@@ -2,7 +2,7 @@ use native.Mathlib.Omega.{arith}
 use borrow.Author.Needs.{needs}
 use Rattle.bounded.proofs.Below.{up-ends}
 use Rattle.state.proofs.Numbers.{held-le}
-use Rattle.refinement.specs.Commit.{committing}
+use Rattle.replay.specs.Table.{slotsOfArrays}
 use Rattle.commits.proofs.CommitMade.{commit-ended}
 use Rattle.commits.proofs.make_commit_stores.Statement.{statement}
 use Rattle.commits.proofs.make_commit_stores.Tie as tie
@@ -26,7 +26,7 @@ position-requires c κs =
 returns : tie.Need-returns
 returns c =
     let s = c .before .before .before .before .before .before .before .before .before .before .before .before .before in
-    commit-ended (committing (s .args .z) (s .args .head) (s .args .page .now) (s .args .original .now) (s .args .spare .now) (s .args .bitmap .now) (s .args .held .now)) (s .args .w) (s .args .from) (s .args .image .now) (c .before .before .before .before .before .before .before .before .before .before .smaller .result) (s .args .n) _ _ _ _ (c .before .before .before .before .before .before .before .before .make-record-stores .ensures) (c .before .before .before .before .before .before .before .before .before .before .before .held-count .ensures) (omega (arith, c .before .before .before .before .before .before .before .before .before .before .smaller .ensures, c .before .before .before .before .before .before .before .before .before .before .before .held-count .ensures, s .pre .4, s .pre .5, c .before .before .before .before .before .if1 .taken)) (omega (arith, c .before .before .before .before .before .before .before .before .before .before .smaller .ensures, c .before .before .before .before .before .before .before .before .before .before .before .held-count .ensures, s .pre .4, s .pre .5, c .before .before .before .before .before .if1 .taken)) (c .before .before .before .before .position .ensures) (c .before .before .store-word .ensures)
+    commit-ended (s .args .z) (s .args .head) (slotsOfArrays (s .args .page .now) (s .args .original .now) (s .args .spare .now) (s .args .bitmap .now)) (s .args .held .now) (s .args .w) (s .args .from) (s .args .image .now) (c .before .before .before .before .before .before .before .before .before .before .smaller .result) (s .args .n) _ _ _ _ (c .before .before .before .before .before .before .before .before .make-record-stores .ensures) (c .before .before .before .before .before .before .before .before .before .before .before .held-count .ensures) (omega (arith, c .before .before .before .before .before .before .before .before .before .before .smaller .ensures, c .before .before .before .before .before .before .before .before .before .before .before .held-count .ensures, s .pre .4, s .pre .5, c .before .before .before .before .before .if1 .taken)) (omega (arith, c .before .before .before .before .before .before .before .before .before .before .smaller .ensures, c .before .before .before .before .before .before .before .before .before .before .before .held-count .ensures, s .pre .4, s .pre .5, c .before .before .before .before .before .if1 .taken)) (c .before .before .before .before .position .ensures) (c .before .before .store-word .ensures)
 
 returns-2 : tie.Need-returns-2
 returns-2 c = up-ends _ _ _ _ _ (omega (arith, c .before .before .before .before .before .smaller .ensures)) (c .if1 .left) (c .before .before .before .make-record-stores .ensures)

@@ -6,7 +6,8 @@ use Rattle.bounded.proofs.Below.{up-none, up-ends}
 use Rattle.layout.proofs.LayoutLaws.{record-end}
 use Rattle.journal.specs.Records.{position}
 use Rattle.state.proofs.Numbers.{held-le}
-use Rattle.refinement.specs.Commit.{committing, commitStores}
+use Rattle.replay.specs.Table.{slotsOfArrays}
+use Rattle.refinement.specs.Commit.{commitStores}
 use Rattle.refinement.proofs.CommitPlaces.{commit-record-fits}
 use Rattle.commits.proofs.CommitMade.{commit-turn}
 use borrow.Author.Needs.{needs}
@@ -14,7 +15,7 @@ use Rattle.commits.proofs.make_record_stores.Statement.{statement}
 use Rattle.commits.proofs.make_record_stores.Tie as tie
 
 abbrev Inv-loop : tie.InvT-loop
-Inv-loop image₀ z head page original spare bitmap held w from n i₀ image i = (i ≤ n) × (length image ≡ length image₀) × (image ≡ commitStores (committing z head page original spare bitmap held) w from i image₀)
+Inv-loop image₀ z head page original spare bitmap held w from n i₀ image i = (i ≤ n) × (length image ≡ length image₀) × (image ≡ commitStores z head (slotsOfArrays page original spare bitmap) held w from i image₀)
 
 abbrev μ-loop : tie.MeasureT-loop
 μ-loop image₀ z head page original spare bitmap held w from n i₀ image i = n - i
@@ -36,7 +37,7 @@ store-record-words-requires : tie.Need-store-record-words-requires Inv-loop μ-l
 store-record-words-requires c κs =
     let s = c .before .before .before .before .before .before .before in
     let at = s .args .from + c .before .before .before .before .before .loop .i in (
-      rw (c .before .before .before .commit-record .ensures) (commit-record-fits (committing (s .args .z) (s .args .head) (s .args .page .now) (s .args .original .now) (s .args .spare .now) (s .args .bitmap .now) (s .args .held .now)) (s .args .w) _ (s .pre .0) (s .pre .1) (s .pre .2)),
+      rw (c .before .before .before .commit-record .ensures) (commit-record-fits (s .args .z) (s .args .head) (slotsOfArrays (s .args .page .now) (s .args .original .now) (s .args .spare .now) (s .args .bitmap .now)) (s .args .held .now) (s .args .w) _ (s .pre .0) (s .pre .1) (s .pre .2)),
       omega (arith, c .before .in-piece .ensures),
       omega (arith, c .before .before .record-place .ensures, record-end (s .args .z) (s .pre .0) (position (s .args .z) (s .args .head) (at / 4)), s .pre .5, c .before .before .before .before .before .loop .inv .1),
     )
@@ -53,7 +54,7 @@ loop-again c =
     let h = c .before .before .before .before .before .before .before .before .loop in (
       omega (arith, c .before .before .before .before .in-piece .ensures, c .before .before .before .before .before .before .before .loop-test .taken),
       search needs,
-      commit-turn (committing (s .args .z) (s .args .head) (s .args .page .now) (s .args .original .now) (s .args .spare .now) (s .args .bitmap .now) (s .args .held .now)) (s .args .w) (s .args .from) (s .args .image .now) (h .i) _ _ _ _ _ (h .inv .2) (c .before .before .before .before .before .before .commit-record .ensures) (c .before .before .before .before .before .record-place .ensures) (omega (arith, c .before .before .before .before .in-piece .ensures)) (omega (arith, c .before .before .before .before .in-piece .ensures, c .before .before .before .before .before .before .before .loop-test .taken, s .pre .4)) (c .before .before .store-record-words .ensures),
+      commit-turn (s .args .z) (s .args .head) (slotsOfArrays (s .args .page .now) (s .args .original .now) (s .args .spare .now) (s .args .bitmap .now)) (s .args .held .now) (s .args .w) (s .args .from) (s .args .image .now) (h .i) _ _ _ _ _ (h .inv .2) (c .before .before .before .before .before .before .commit-record .ensures) (c .before .before .before .before .before .record-place .ensures) (omega (arith, c .before .before .before .before .in-piece .ensures)) (omega (arith, c .before .before .before .before .in-piece .ensures, c .before .before .before .before .before .before .before .loop-test .taken, s .pre .4)) (c .before .before .store-record-words .ensures),
     )
 
 returns : tie.Need-returns Inv-loop μ-loop

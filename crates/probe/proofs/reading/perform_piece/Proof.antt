@@ -1,53 +1,55 @@
 use Prim.Native.Nat.{_-_}
-use mathlib.Core.Path.{_≡_, refl, _∙_}
 use native.Mathlib.Omega.{arith}
-use lib.ListN.{length}
+use lib.ListN.{length, drop}
 use borrow.Author.Needs.{needs}
-use Rattle.probe.proofs.Ends.{end-after}
+use Rattle.probe.specs.Program.{stand}
+use Rattle.probe.proofs.Shown.{Before, More, before-first, before-line, less-left, before-rest, before-end}
 use Rattle.probe.proofs.reading.perform_piece.Statement.{statement}
 use Rattle.probe.proofs.reading.perform_piece.Tie as tie
 
 abbrev Inv-loop : tie.InvT-loop
-Inv-loop buffer₀ line₀ piece out₀ s₀ from₀ buffer line out s from = (length buffer ≡ length buffer₀) × (length line ≡ length line₀)
+Inv-loop buffer₀ line₀ piece out₀ s₀ from₀ buffer line out s from =
+    Before (stand s₀ buffer₀ line₀ out₀) piece (stand s buffer line out) (drop from piece)
 
 abbrev μ-loop : tie.MeasureT-loop
 μ-loop buffer₀ line₀ piece out₀ s₀ from₀ buffer line out s from = length piece - from
 
 loop-holds : tie.Need-loop-holds Inv-loop μ-loop
-loop-holds c = (refl, refl)
+loop-holds c = before-first _ _
 
-same-length : tie.Need-same-length Inv-loop μ-loop
-same-length c = c .before .before .before .before .before .before .before .loop .inv .0
+-- a turn as far as both of its ways go together
+more : (c : tie.After-keep Inv-loop μ-loop)
+    → (let end = c .before .before .line-end .result in
+    let l = c .before .before .before .before .loop in
+    let a = c .before .before .before .before .before .before .args in
+    More (stand (a .s) (a .buffer .now) (a .line .now) (a .out .now)) (a .piece .now) (l .s) (l .buffer) (l .line) (l .out) (l .from) end (c .keep .last .0) (c .keep .result))
+more c =
+    record {
+      inside = c .before .before .before .loop-test .taken;
+      found = c .before .before .line-end .ensures;
+      laid = c .keep .ensures .0;
+      count = c .keep .ensures .1;
+      before = c .before .before .before .before .loop .inv;
+    }
 
-same-length-2 : tie.Need-same-length-2 Inv-loop μ-loop
-same-length-2 c = c .before .before .before .keep .kept .0 ∙ c .before .before .before .before .before .before .before .loop .inv .1
+returns : tie.Need-returns Inv-loop μ-loop
+returns c = before-rest (more (c .before)) (c .if1 .taken)
 
 add-from : tie.Need-add-from Inv-loop μ-loop
 add-from c =
-    let more = c .before .before .before .before .before .before .if1 .left in
-    let fits = c .before .before .before .before .before .before .before .before .before .before .before .before .before .before .before .before .before .good .1 .1 .1 .0 .0 in
-    omega (arith, more, fits)
+    let start = c .before .before .before .before .before .before .before .before .before .before .before .before in
+    omega (arith, c .before .before .before .before .before .if1 .left, start .good .1 .1 .1 .0 .0)
 
 loop-less : tie.Need-loop-less Inv-loop μ-loop
 loop-less c =
-    let more = c .before .before .before .before .before .before .if1 .left in
-    let found = c .before .before .before .before .before .before .before .before .before .before .before in
-    let test = found .before .loop-test .taken in
-    let from = found .before .before .loop .from in
-    let e = end-after (found .before .before .before .before .before .before .args .piece .now) from test in
-    omega (arith, more, test, found .line-end .ensures, e)
+    less-left (more (c .before .before .before .before .before .before)) (c .before .before .before .before .before .if1 .left)
 
 loop-again : tie.Need-loop-again Inv-loop μ-loop
 loop-again c =
-    let kept = c .before .before .before .before .before .before .before .before .before in
-    let inv = kept .before .before .before .before .loop .inv in
-    (c .before .before .perform-kept .kept .1 .0 ∙ inv .0, kept .keep .kept .0 ∙ inv .1)
+    before-line (more (c .before .before .before .before .before .before)) (c .before .before .before .before .before .if1 .left) (c .perform-kept .ensures)
 
-same-length-3 : tie.Need-same-length-3 Inv-loop μ-loop
-same-length-3 c = c .before .loop .inv .0
-
-same-length-4 : tie.Need-same-length-4 Inv-loop μ-loop
-same-length-4 c = c .before .loop .inv .1
+returns-2 : tie.Need-returns-2 Inv-loop μ-loop
+returns-2 c = before-end _ _ _ (c .before .loop .from) (c .loop-test .left) (c .before .loop .inv)
 
 pub perform-piece-spec : {M : Type 1} → statement M
 perform-piece-spec =
@@ -58,13 +60,9 @@ perform-piece-spec =
     loop-holds
     (λ c κs. search needs)
     (λ c κs. search needs)
-    same-length
-    same-length-2
-    (λ c. search needs)
+    returns
     (λ c κs. search needs)
     add-from
     loop-less
     loop-again
-    same-length-3
-    same-length-4
-    (λ c. search needs))
+    returns-2)

@@ -5,8 +5,8 @@ use Rattle.probe.proofs.reading.write_out.Statement.{statement}
 use Rattle.probe.proofs.reading.write_out.Tie as tie
 
 slice-aggregate-write-all : tie.Need-slice-aggregate-write-all
-slice-aggregate-write-all c = sym (length-take-le (c .before .lesser .result) (c .before .before .before .args .out .now) (c .before .lesser .ensures .1))
+slice-aggregate-write-all c = sym (length-take-le _ _ (c .before .if1 .left))
 
 pub write-out-spec : {M : Type 1} → statement M
 write-out-spec =
-    tie.close (tie.spec (λ c κs. search needs) slice-aggregate-write-all (λ c κs. search needs) (λ c. search needs))
+    tie.close (tie.spec (λ c. search needs) slice-aggregate-write-all (λ c κs. search needs) (λ c. search needs))

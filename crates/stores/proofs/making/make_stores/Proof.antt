@@ -7,7 +7,6 @@ use Rattle.refinement.proofs.Going.{going, write-of, commit-of, consolidate-of,
 use Rattle.writes.proofs.WriteMade.{write-stores-of}
 use Rattle.commits.proofs.CommitMade.{commit-stores-of}
 use Rattle.consolidations.proofs.ConsolidateMade.{consolidate-stores-of}
-use Rattle.checkpoints.proofs.CheckpointMade.{checkpoint-stores-of}
 use borrow.Author.Needs.{needs}
 use Rattle.stores.proofs.making.make_stores.Statement.{statement}
 use Rattle.stores.proofs.making.make_stores.Tie as tie
@@ -63,7 +62,7 @@ returns-4 c = let s = c .before .before .before .before .before .before .before 
 
 returns-5 : tie.Need-returns-5
 returns-5 c = let s = c .before .before .before .before .before .before .before in
-    stores-of (st s) (s .args .n) (s .args .image .now) _ (c .before .before .before .before .enum-told2 .given .1) (c .before .before .make-checkpoint-stores .ensures ∙ checkpoint-stores-of (st s) _ (s .args .n) (s .args .image .now))
+    stores-of (st s) (s .args .n) (s .args .image .now) _ (c .before .before .before .before .enum-told2 .given .1) (c .before .before .make-checkpoint-stores .ensures)
 
 pub make-stores-spec : {M : Type 1} → statement M
 make-stores-spec =
