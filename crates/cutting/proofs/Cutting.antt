@@ -5,7 +5,7 @@ use Prim.Native.Nat.{ℕ, zero, suc, _+_, _-_, _<_, _≤_, min}
 use native.Mathlib.Omega.{arith}
 use lib.Dec.{eqb}
 use lib.ListN.{length, take, drop, length-take, length-drop, drop-of-length-le}
-use lib.Seq.{take-length}
+use lib.Seq.{take-length, drop-drop}
 use Rattle.bounded.proofs.Tests.{caseOn}
 use Rattle.bytes.specs.Bytes.{indexOf, indexAfter, slice}
 use Rattle.words.specs.Words.{part, over}
@@ -29,6 +29,10 @@ unfolding indexOf indexAfter
 index-le b [] = omega arith
 index-le b (x ∷ l) = caseOn (eqb x b) (λ t. rw t (omega arith)) (λ t. rw t (omega (arith, index-le b l)))
 
+pub end-index : (l : List ℕ) (from : ℕ) → from ≤ length l → lineEnd l from ≡ from + indexOf 10 (drop from l)
+unfolding lineEnd
+end-index l from h = omega arith
+
 pub end-le : (l : List ℕ) (from : ℕ) → lineEnd l from ≤ length l
 unfolding lineEnd
 end-le l from = omega (arith, index-le 10 (drop from l), length-drop from l)
@@ -36,6 +40,26 @@ end-le l from = omega (arith, index-le 10 (drop from l), length-drop from l)
 pub end-ge : (l : List ℕ) (from : ℕ) → from ≤ length l → from ≤ lineEnd l from
 unfolding lineEnd
 end-ge l from h = omega arith
+
+index-again : (b : ℕ) (l : List ℕ) → indexOf b (drop (indexOf b l) l) ≡ 0
+unfolding indexOf indexAfter
+index-again b [] = refl
+index-again b (x ∷ l) = caseOn (eqb x b) (λ t. rw (t, t)) (λ t. rw t (index-again b l))
+
+-- a line's end is the end from itself on
+pub end-again : (l : List ℕ) (from : ℕ) → from ≤ length l → lineEnd l from ≡ lineEnd l (lineEnd l from)
+end-again l from h =
+    let e : lineEnd l from ≡ from + indexOf 10 (drop from l) = end-index l from h in
+    let k : lineEnd l (lineEnd l from) ≡ lineEnd l from + indexOf 10 (drop (lineEnd l from) l) = end-index l (lineEnd l from) (end-le l from) in
+    let z : indexOf 10 (drop (lineEnd l from) l) ≡ 0 = rw (e, ← drop-drop) (index-again 10 (drop from l)) in
+    omega arith
+
+-- and a newline is a line's end
+pub end-here : (l : List ℕ) (at : ℕ) (rest : List ℕ) → at ≤ length l → drop at l ≡ 10 ∷ rest → at ≡ lineEnd l at
+unfolding indexOf indexAfter
+end-here l at rest h e =
+    let k : lineEnd l at ≡ at + 0 = end-index l at h ∙ rw e in
+    omega arith
 
 -- ---- what fits
 

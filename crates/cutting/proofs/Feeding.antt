@@ -32,6 +32,15 @@ module _ {W : Type 0} (act : W → List ℕ → W) where
       let k : suc (indexOf 10 l) < suc (length l) = rw t at h in
       rw t (to-newline (record { done = f .done; begun = f .begun ++ (b ∷ []) }) l (omega arith) ∙ rw append-assoc))
 
+  to-end : (f : Fed W) (l : List ℕ)
+      → fed act f l ≡ fed act (record { done = f .done; begun = f .begun ++ take (indexOf 10 l) l }) (drop (indexOf 10 l) l)
+  unfolding fed fedByte indexOf indexAfter
+  to-end f [] = rw append-nil
+  to-end f (b ∷ l) =
+      caseOn (eqb b 10)
+      (λ t. rw (t, append-nil, t))
+      (λ t. rw t (to-end (record { done = f .done; begun = f .begun ++ (b ∷ []) }) l ∙ rw append-assoc))
+
   no-newline : (f : Fed W) (l : List ℕ) → indexOf 10 l ≡ length l → fed act f l ≡ record { done = f .done; begun = f .begun ++ l }
   unfolding fed fedByte indexOf indexAfter
   no-newline f [] h = rw append-nil
@@ -63,3 +72,10 @@ module _ {W : Type 0} (act : W → List ℕ → W) where
     -- no newline is left
     pub fed-rest : lineEnd piece from ≡ length piece → fed act f (drop from piece) ≡ record { done = f .done; begun = f .begun ++ drop from piece }
     fed-rest h = no-newline f (drop from piece) (simp length-drop (omega (arith, found)))
+
+    -- up to the line's end, which no newline is before
+    pub fed-to : fed act f (drop from piece) ≡ fed act (record { done = f .done; begun = f .begun ++ part piece from (lineEnd piece from - from) }) (drop (lineEnd piece from) piece)
+    unfolding part
+    fed-to =
+        let n : lineEnd piece from - from ≡ indexOf 10 (drop from piece) = omega (arith, found) in
+        rw n (to-end f (drop from piece) ∙ rw (drop-drop, ← found))

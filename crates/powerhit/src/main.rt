@@ -1,5 +1,12 @@
 // Program powerhit: calls as lines of standard input, each answered by a line of standard output (document 01).
 // What a line does and prints is script's. Here the input is cut into lines and the output is collected.
+ghost use mathlib.Core.Bool.{false};
+ghost use mathlib.Core.Path.{_≡_};
+ghost use mathlib.Core.List.{List, [], _∷_};
+ghost use Prim.Native.Nat.{ℕ, _≤_};
+ghost use lib.ListN.{length};
+ghost use Rattle.cutting.specs.Pieces.{lineEnd};
+ghost use Rattle.powerhit.specs.Program.{roomed, Shows, first, Takes, Lines, Closes, Reads, TakesSome, Ran};
 use executing::Machine;
 use libc::STDIN_FILENO;
 use libc::STDOUT_FILENO;
@@ -21,7 +28,10 @@ struct Session {
     ok: bool,
 }
 
-fn started() -> Session {
+// No byte is read yet.
+fn started() -> Session
+    ensures { λ r. ⌜ ((image line out : List ℕ) → Shows r image line out (first image)) ⌝ }
+{
     let machine = performing::start();
     Session {
         machine,
@@ -35,7 +45,10 @@ fn started() -> Session {
 }
 
 // A write failed: there is nothing more to do.
-fn stopped(machine: Machine) -> Session {
+fn stopped(machine: Machine) -> Session
+    ensures { λ r. ⌜ r .ok ≡ false ⌝ }
+    ensures { λ r. ⌜ r .kept ≡ 0 ⌝ }
+{
     Session {
         machine,
         lines: 0,
@@ -47,35 +60,47 @@ fn stopped(machine: Machine) -> Session {
     }
 }
 
-fn write_out(out: &[u8], at: usize) -> bool {
-    if at > out.len() {
+fn write_out(out: &[u8; 65536], at: usize) -> bool {
+    if at > 65536 {
         return false;
     }
-    io::write_all(STDOUT_FILENO, &out[..at])
+    let bytes: &[u8] = out;
+    io::write_all(STDOUT_FILENO, &bytes[..at])
 }
 
-// Performs the lines that a newline ends, from byte `from` of a piece on.
+// Writes what is not yet written where there is too little room for a line, and gives how many bytes are then not written:
+// still those, where the write failed.
+fn make_room(out: &[u8; 65536], at: usize) -> usize
+    ensures { λ r. ⌜ (r ≤ 65000 → r ≡ roomed at) ⌝ }
+{
+    if at > 65000 && write_out(out, at) {
+        return 0;
+    }
+    at
+}
+
+// Performs the lines of a piece that a newline ends, from one on that goes from byte `from` to byte `to`.
 fn perform_lines(
     s: Session,
     image: &mut [u8],
     piece: &[u8],
     from: usize,
-    out: &mut [u8],
-) -> Session {
-    if !s.ok | (from > piece.len()) {
-        return s;
-    }
+    to: usize,
+    out: &mut [u8; 65536],
+) -> Session
+    requires { ⌜ from ≤ to ⌝ }
+    requires { ⌜ to ≡ lineEnd (now piece) to ⌝ }
+    ensures { λ r. ⌜ Lines s (now (image .entry)) (now (out .entry)) (now (piece .entry)) from to r (now (image .exit)) (now (out .exit)) ⌝ }
+{
     let mut machine = s.machine;
     let mut lines = s.lines;
     let mut at = s.at;
     let mut start = from;
-    let mut end = cutting::line_end(piece, start);
+    let mut end = to;
     while end < piece.len() {
+        at = make_room(out, at);
         if at > 65000 {
-            if !write_out(out, at) {
-                return stopped(machine);
-            }
-            at = 0;
+            return stopped(machine);
         }
         lines = std::num::wrapping_add_usize(lines, 1);
         let p = performing::perform(machine, image, lines, &piece[start..end], out, at);
@@ -88,7 +113,7 @@ fn perform_lines(
         machine,
         lines,
         start,
-        kept: s.kept,
+        kept: 0,
         at,
         more: true,
         ok: true,
@@ -96,36 +121,45 @@ fn perform_lines(
 }
 
 // Performs the line that was kept, its newline put behind it. One that fills the buffer is too long to be of any right form.
-fn perform_kept(s: Session, image: &mut [u8], line: &mut [u8], out: &mut [u8]) -> Session {
-    if line.len() == 0 {
-        return s;
-    }
-    let mut end = s.kept;
-    if end >= line.len() {
-        end = line.len() - 1;
-    }
+fn perform_kept(s: Session, image: &mut [u8], line: &mut [u8], out: &mut [u8; 65536]) -> Session
+    requires { ⌜ length (now line) ≡ 2048 ⌝ }
+    ensures { λ r. ⌜ Takes s (now (image .entry)) (now (line .entry)) (now (out .entry)) (10 ∷ []) r (now (image .exit)) (now (line .exit)) (now (out .exit)) ⌝ }
+    ensures { λ r. ⌜ r .kept ≡ 0 ⌝ }
+{
+    let end = cutting::lesser(s.kept, 2047);
     line[end] = b'\n';
-    let mut next = perform_lines(s, image, &line[..end + 1], 0, out);
-    next.kept = 0;
-    next
+    perform_lines(s, image, &line[..end + 1], 0, end, out)
 }
 
 // Performs the lines of a piece. The first may have begun in an earlier piece; what stands after the last is kept.
 fn perform_piece(
     s: Session,
     image: &mut [u8],
-    line: &mut [u8],
+    line: &mut [u8; 2048],
     piece: &[u8],
-    out: &mut [u8],
-) -> Session {
+    out: &mut [u8; 65536],
+) -> Session
+    ensures { λ r. ⌜ Takes s (now (image .entry)) (now (line .entry)) (now (out .entry)) (now (piece .entry)) r (now (image .exit)) (now (line .exit)) (now (out .exit)) ⌝ }
+{
     let end = cutting::line_end(piece, 0);
     let mut begun = s;
     begun.kept = cutting::keep(line, s.kept, piece, 0, end);
     if end == piece.len() {
         return begun;
     }
-    let first = perform_kept(begun, image, line, out);
-    let mut last = perform_lines(first, image, piece, end + 1, out);
+    let next = perform_kept(begun, image, line, out);
+    if !next.ok {
+        return next;
+    }
+    let from = end + 1;
+    let mut last = perform_lines(
+        next,
+        image,
+        piece,
+        from,
+        cutting::line_end(piece, from),
+        out,
+    );
     last.kept = cutting::keep(line, 0, piece, last.start, piece.len());
     last
 }
@@ -134,18 +168,17 @@ fn perform_piece(
 fn read_piece(
     s: Session,
     image: &mut [u8],
-    line: &mut [u8],
+    line: &mut [u8; 2048],
     input: &mut [u8],
-    out: &mut [u8],
-) -> Session {
+    out: &mut [u8; 65536],
+) -> Session
+    ensures { λ r. ⌜ Reads s (now (image .entry)) (now (line .entry)) (now (out .entry)) (now (input .exit)) r (now (image .exit)) (now (line .exit)) (now (out .exit)) ⌝ }
+{
     let got = libc::read(STDIN_FILENO, input);
     let n = io::count(got, input);
-    if n == 0 {
-        let mut ended = s;
-        ended.more = false;
-        return ended;
-    }
-    perform_piece(s, image, line, &input[..n], out)
+    let mut next = perform_piece(s, image, line, &input[..n], out);
+    next.more = n > 0;
+    next
 }
 
 // Reads to the end of the input. A proved loop has to end, so this one counts its turns down from a number that no run uses
@@ -153,26 +186,51 @@ fn read_piece(
 fn read_all(
     s: Session,
     image: &mut [u8],
-    line: &mut [u8],
+    line: &mut [u8; 2048],
     input: &mut [u8],
-    out: &mut [u8],
-) -> Session {
+    out: &mut [u8; 65536],
+) -> Session
+    ensures { λ r. ⌜ TakesSome s (now (image .entry)) (now (line .entry)) (now (out .entry)) r (now (image .exit)) (now (line .exit)) (now (out .exit)) ⌝ }
+{
     let mut s = s;
     let mut turns = u64::MAX;
-    while turns > 0 && s.more {
+    while turns > 0 && s.more && s.ok {
         s = read_piece(s, image, line, input, out);
         turns -= 1;
     }
     s
 }
 
-// Performs a last line that no newline ends, and writes what is left.
-fn finish(s: Session, image: &mut [u8], line: &mut [u8], out: &mut [u8]) -> bool {
+// Performs a last line that no newline ends.
+fn perform_last(
+    s: Session,
+    image: &mut [u8],
+    line: &mut [u8; 2048],
+    out: &mut [u8; 65536],
+) -> Session
+    ensures { λ r. ⌜ Closes s (now (image .entry)) (now (line .entry)) (now (out .entry)) r (now (image .exit)) (now (out .exit)) ⌝ }
+{
+    let text: &mut [u8] = line;
     if s.kept == 0 {
-        return write_out(out, s.at);
+        return s;
     }
-    let last = perform_kept(s, image, line, out);
-    write_out(out, last.at)
+    perform_kept(s, image, text, out)
+}
+
+// Performs the lines of the whole input. What of the output is not written yet is left to the caller.
+fn perform_input(
+    image: &mut [u8],
+    line: &mut [u8; 2048],
+    input: &mut [u8],
+    out: &mut [u8; 65536],
+) -> Session
+    ensures { λ r. ⌜ Ran (now (image .entry)) r (now (image .exit)) (now (out .exit)) ⌝ }
+{
+    let s = read_all(started(), image, line, input, out);
+    if !s.ok {
+        return s;
+    }
+    perform_last(s, image, line, out)
 }
 
 fn main() {
@@ -183,6 +241,6 @@ fn main() {
     if !io::write_all(STDOUT_FILENO, b"line,call,answer,stores,byte\n") {
         return;
     }
-    let s = read_all(started(), &mut image, &mut line, &mut input, &mut out);
-    finish(s, &mut image, &mut line, &mut out);
+    let last = perform_input(&mut image, &mut line, &mut input, &mut out);
+    write_out(&out, last.at);
 }

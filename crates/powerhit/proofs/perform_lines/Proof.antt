@@ -1,46 +1,98 @@
-use Prim.Native.Nat.{_+_, _-_, _≤_}
-use mathlib.Core.Bool.{not}
-use mathlib.Core.Path.{_≡_, refl}
+-- At the head of the loop the lines before `start` are performed, and `end` is where the next one ends.
+use Prim.Native.Nat.{ℕ, _+_, _-_, _<_, _≤_, _^_}
+use mathlib.Core.Path.{_≡_, refl, sym, _∙_}
 use native.Mathlib.Omega.{arith}
-use lib.Dec.{ltb}
-use lib.ListN.{length}
+use lib.ListN.{length, drop}
 use borrow.Author.Needs.{needs}
-use borrow.Author.Tests.{ltb-false}
-use Rattle.bounded.proofs.Tests.{or-right}
-use Rattle.cutting.proofs.Cutting.{end-le, end-ge}
+use Rattle.words.specs.Words.{part}
+use Rattle.cutting.specs.Pieces.{lineEnd}
+use Rattle.cutting.specs.Feeding.{fed}
+use Rattle.cutting.proofs.Cutting.{end-le, end-ge, end-again}
+use Rattle.powerhit.specs.Program.{Work, act, Stands}
+use Rattle.powerhit.proofs.Going.{Reached, reached-line, reached-end, lines-stopped}
 use Rattle.powerhit.proofs.perform_lines.Statement.{statement}
 use Rattle.powerhit.proofs.perform_lines.Tie as tie
 
 abbrev Inv-loop : tie.InvT-loop
-Inv-loop s image₀ piece from out₀ machine₀ lines₀ at₀ start₀ end₀ image out machine lines at start end =
-    (length image ≡ length image₀) × (length out ≡ length out₀) × (start ≤ end) × (end ≤ length piece)
+Inv-loop image₀ piece from to out₀ machine₀ lines₀ at₀ start₀ end₀ image out machine lines at start end =
+    (length image ≡ length image₀) × (start ≤ end) × (end ≡ lineEnd piece end)
+    × ((w : Work) → Stands machine₀ lines₀ at₀ image₀ out₀ w
+    → Reached machine lines at image out piece start end (fed act (record { done = w; begun = part piece from (to - from) }) (drop to piece)))
 
 abbrev μ-loop : tie.MeasureT-loop
-μ-loop s image₀ piece from out₀ machine₀ lines₀ at₀ start₀ end₀ image out machine lines at start end = length piece - start
+μ-loop image₀ piece from to out₀ machine₀ lines₀ at₀ start₀ end₀ image out machine lines at start end = length piece - start
+
+-- a line lies before its newline, and that in the piece
+record Line (start end size : ℕ) : Type 0 where
+  begins : start ≤ end
+  ends : end < size
+  word : size < 2 ^ 64
+
+line : (c : tie.In-loop Inv-loop μ-loop)
+    → Line (c .before .loop .start) (c .before .loop .end) (length (c .before .before .before .before .before .args .piece .now))
+line c =
+    let head = c .before in
+    record {
+      begins = head .loop .inv .1;
+      ends = c .loop-test .taken;
+      word = omega (arith, head .before .before .before .before .good .1 .1 .0);
+    }
 
 loop-holds : tie.Need-loop-holds Inv-loop μ-loop
 loop-holds c =
-    let s = c .before .before .before .before .before .before .before in
-    let l = s .args .piece .now in
-    let f = s .args .from in
-    let inside : f ≤ length l =
-    ltb-false (length l) f (or-right (not (s .args .s .ok)) (ltb (length l) f) (c .before .before .if1 .left)) in
-    (refl, refl, omega (arith, end-ge l f inside, c .line-end .ensures), omega (arith, end-le l f, c .line-end .ensures))
+    let start = c .before .before .before in
+    (refl, start .pre .0, start .pre .1, λ w stands. record { work = w; stands = stands; left = refl })
+
+sub-perform : tie.Need-sub-perform Inv-loop μ-loop
+sub-perform c = line (c .before .before .before .before .before) .begins
+
+part-perform-start : tie.Need-part-perform-start Inv-loop μ-loop
+part-perform-start c = let l = line (c .before .before .before .before .before) in omega (arith, l .begins, l .ends)
+
+part-perform-end : tie.Need-part-perform-end Inv-loop μ-loop
+part-perform-end c = let l = line (c .before .before .before .before .before) in omega (arith, l .ends)
 
 add-start : tie.Need-add-start Inv-loop μ-loop
 add-start c =
-    let test = c .before .before .before .before .before .before .before .before .before .before .before .loop-test in
-    let s = c .before .before .before .before .before .before .before .before .before .before .before .before .before .before .before .before .before .before .before .before in
-    omega (arith, test .taken, s .good .1 .1 .0)
+    let l = line (c .before .before .before .before .before .before .before .before .before .before .before) in
+    omega (arith, l .ends, l .word)
+
+loop-less : tie.Need-loop-less Inv-loop μ-loop
+loop-less c =
+    let l = line (c .before .before .before .before .before .before .before .before .before .before .before .before) in
+    omega (arith, l .begins, l .ends)
 
 loop-again : tie.Need-loop-again Inv-loop μ-loop
+unfolding part
 loop-again c =
-    let test = c .before .before .before .before .before .before .before .before .before .before .before .before .loop-test in
-    let turn = c .before .before .before .before .before .before .before .before .before .before .before .before .before in
-    let e = turn .loop .end in
-    let l = turn .before .before .before .before .before .before .before .before .args .piece .now in
-    let some : e + 1 ≤ length l = omega (arith, test .taken) in
-    (search needs, search needs, omega (arith, end-ge l (e + 1) some, c .line-end2 .ensures), omega (arith, end-le l (e + 1), c .line-end2 .ensures))
+    let done = c .before .before .before .before in
+    let count = done .before .before .before .before in
+    let room = count .before .before in
+    let turn = room .before .before in
+    let head = turn .before in
+    let inv = head .loop .inv in
+    let piece = head .before .before .before .before .args .piece .now in
+    let next = head .loop .end + 1 in
+    let size = done .before .perform-arg3 .given .0 .1 in
+    let l = line turn in
+    let some : next ≤ length piece = omega (arith, l .ends) in
+    let found = c .line-end .ensures in (
+      done .perform .kept .1 .0 ∙ inv .0,
+      omega (arith, found, end-ge piece next some),
+      rw found (end-again piece next some),
+      λ w stands.
+          reached-line (inv .3 w stands) (room .make-room .result) _ (done .perform .result) _ _ (c .line-end .result) (inv .2) (l .ends)
+          (room .make-room .ensures (count .before .if1 .left)) (count .before .if1 .left) size (done .perform .kept .1 .1 .1 .1 .0 ∙ size)
+          (count .wrapping-add-usize .ensures) (done .perform .ensures) found,
+    )
+
+returns-2 : tie.Need-returns-2 Inv-loop μ-loop
+returns-2 c =
+    let head = c .before in
+    let piece = head .before .before .before .before .args .piece .now in
+    let inv = head .loop .inv in
+    let all : head .loop .end ≡ length piece = omega (arith, c .loop-test .left, inv .2, end-le piece (head .loop .end)) in
+    record { stands = λ w stands ok. reached-end (inv .3 w stands) (inv .1) all; kept = refl }
 
 pub perform-lines-spec : {M : Type 1} → statement M
 perform-lines-spec =
@@ -48,23 +100,19 @@ perform-lines-spec =
     (tie.spec
     Inv-loop
     μ-loop
-    (λ c. search needs)
-    (λ c κs. search needs)
     loop-holds
     (λ c κs. search needs)
     (λ c κs. search needs)
     (λ c. search needs)
-    (λ c. search needs)
-    (λ c. search needs)
+    (λ c. lines-stopped (c .stopped .ensures .0) (c .stopped .ensures .1))
     (λ c κs. search needs)
-    (λ c. search needs)
-    (λ c. search needs)
-    (λ c. search needs)
+    sub-perform
+    part-perform-start
+    part-perform-end
     (λ c κs. search needs)
     add-start
     (λ c κs. search needs)
-    (λ c. search needs)
+    loop-less
     loop-again
     (λ c. search needs)
-    (λ c. search needs)
-    (λ c. search needs))
+    returns-2)

@@ -1,11 +1,12 @@
-use mathlib.Core.Path.{sym}
-use lib.Seq.{length-take-le}
 use borrow.Author.Needs.{needs}
+use mathlib.Core.Path.{sym}
+use native.Mathlib.Omega.{arith}
+use lib.Seq.{length-take-le}
 use Rattle.powerhit.proofs.write_out.Statement.{statement}
 use Rattle.powerhit.proofs.write_out.Tie as tie
 
 slice-aggregate-write-all : tie.Need-slice-aggregate-write-all
-slice-aggregate-write-all c = sym (length-take-le _ _ (c .before .if1 .left))
+slice-aggregate-write-all c = let x = c .before .before .before .args in sym (length-take-le (x .at) (x .out .now) (omega arith))
 
 pub write-out-spec : {M : Type 1} → statement M
 write-out-spec =

@@ -1,0 +1,95 @@
+-- Program powerhit (document 01): where it stands after any bytes of input, in pieces of any size. A newline has the line before it performed.
+use Prim.Native.Nat.{ℕ, _+_, _-_, _%_, _^_}
+use mathlib.Core.Bool.{true, cond}
+use mathlib.Core.List.{List, [], _++_}
+use mathlib.Core.Path.{_≡_}
+use lib.Dec.{leb, ltb}
+use lib.ListN.{length, take, drop}
+use Rattle.words.specs.Words.{part}
+use Rattle.cutting.specs.Buffers.{Holds, Ends}
+use Rattle.cutting.specs.Feeding.{Fed, fed, ended}
+use Rattle.executing.specs.declared.Machine.{Machine}
+use Rattle.printing.specs.Output.{outputLine}
+use Rattle.script.specs.Listing.{text}
+use Rattle.script.specs.Performed.{started, lineTurn}
+use Rattle.powerhit.specs.declared.Session.{Session}
+
+-- what the lines so far came to: the machine, its image, how many they were, all that is printed, and how many of its last bytes
+-- are not yet handed to a write
+pub record Work : Type 0 where
+  pub machine : Machine
+  pub image : List ℕ
+  pub lines : ℕ
+  pub printed : List ℕ
+  pub waiting : ℕ
+
+-- before a line all that waits is written where there may be too little room for what the line prints
+abbrev pub roomed : ℕ → ℕ
+roomed waiting = cond (leb waiting 65000) waiting 0
+
+-- one line more; the count of lines is a machine word
+unfoldable pub act : Work → List ℕ → Work
+act w line =
+    let n = (w .lines + 1) % 2 ^ 64 in
+    let t = lineTurn (w .machine) (w .image) line in
+    let text = outputLine n (t .turned .output) in
+    record {
+      machine = t .turned .machine;
+      image = t .image;
+      lines = n;
+      printed = w .printed ++ text;
+      waiting = roomed (w .waiting) + length text;
+    }
+
+-- before the first byte
+abbrev pub first : List ℕ → Fed Work
+first image =
+    record {
+      done = record { machine = started; image = image; lines = 0; printed = text "line,call,answer,stores,byte\n"; waiting = 0 };
+      begun = [];
+    }
+
+-- that a machine, its image, a count of lines and the first bytes of an output buffer are what the lines came to: the bytes are
+-- those that wait to be written (what a write does with them no contract says)
+pub record Stands (m : Machine) (n at : ℕ) (img out : List ℕ) (w : Work) : Type 0 where
+  pub machine : m ≡ w .machine
+  pub image : img ≡ w .image
+  pub lines : n ≡ w .lines
+  pub waiting : at ≡ w .waiting
+  pub unwritten : Ends out at (w .printed)
+
+-- that a session and its buffers are what the bytes so far came to: of the next line the line buffer has what has come, as much as fits
+pub record Shows (s : Session) (image line out : List ℕ) (f : Fed Work) : Type 0 where
+  pub lines : Stands (s .machine) (s .lines) (s .at) image out (f .done)
+  pub next : Holds line (s .kept) (f .begun)
+
+-- that these bytes bring the one session and its buffers to the other; where a write failed nothing is said
+pub record Takes (s : Session) (image line out bytes : List ℕ) (r : Session) (image′ line′ out′ : List ℕ) : Type 0 where
+  pub shows : (f : Fed Work) → Shows s image line out f → r .ok ≡ true → Shows r image′ line′ out′ (fed act f bytes)
+
+-- the same of the lines of a piece, from one on that goes from byte `from` to byte `to`: what has come of the next one begins at `start`
+pub record Lines (s : Session) (image out piece : List ℕ) (from to : ℕ) (r : Session) (image′ out′ : List ℕ) : Type 0 where
+  pub stands : (w : Work) → Stands (s .machine) (s .lines) (s .at) image out w → r .ok ≡ true
+      → (let f = fed act (record { done = w; begun = part piece from (to - from) }) (drop to piece) in
+      Stands (r .machine) (r .lines) (r .at) image′ out′ (f .done) × (f .begun ≡ drop (r .start) piece))
+  pub kept : r .kept ≡ 0
+
+-- the input's end does: a last line that no newline ends is performed too
+pub record Closes (s : Session) (image line out : List ℕ) (r : Session) (image′ out′ : List ℕ) : Type 0 where
+  pub stands : (f : Fed Work) → Shows s image line out f → r .ok ≡ true → Stands (r .machine) (r .lines) (r .at) image′ out′ (ended act f)
+
+-- the bytes do that a read put at the start of `input`; there may be more where it put any. (Which bytes they are no contract says.)
+pub record Reads (s : Session) (image line out input : List ℕ) (r : Session) (image′ line′ out′ : List ℕ) : Type 0 where
+  pub count : ℕ
+  pub goes : Takes s image line out (take count input) r image′ line′ out′
+  pub more : r .more ≡ ltb 0 count
+
+-- some bytes do
+pub record TakesSome (s : Session) (image line out : List ℕ) (r : Session) (image′ line′ out′ : List ℕ) : Type 0 where
+  pub bytes : List ℕ
+  pub goes : Takes s image line out bytes r image′ line′ out′
+
+-- the whole input, whatever it is, has brought the program here, with this image at first
+pub record Ran (image : List ℕ) (r : Session) (image′ out′ : List ℕ) : Type 0 where
+  pub input : List ℕ
+  pub stands : r .ok ≡ true → Stands (r .machine) (r .lines) (r .at) image′ out′ (ended act (fed act (first image) input))
