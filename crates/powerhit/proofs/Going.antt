@@ -1,6 +1,6 @@
 -- A session and its buffers, and where the bytes bring them.
 use mathlib.Core.Path.{_≡_, refl, sym, ap, _∙_}
-use mathlib.Core.Bool.{Bool, true, false}
+use mathlib.Core.Bool.{Bool, true}
 use mathlib.Core.List.{List, [], _∷_, _++_, append-nil}
 use Prim.Native.Nat.{ℕ, _+_, _-_, _%_, _^_, _<_, _≤_, min}
 use native.Mathlib.Omega.{arith}
@@ -9,7 +9,7 @@ use lib.ListN.{length, take, drop, set, length-take, length-drop, length-set, dr
 use lib.Seq.{length-take-le, take-all, take-take, take-at, drop-at, take-suc-set}
 use native.Mathlib.Numerals.{add-one}
 use borrow.Author.Tests.{ne-eqb, le-leb, leb-true, leb-false}
-use Rattle.bounded.proofs.Tests.{caseOn, contradicts}
+use Rattle.bounded.proofs.Tests.{caseOn}
 use Rattle.words.specs.Words.{part, over}
 use Rattle.cutting.specs.Pieces.{lineEnd, fitting}
 use Rattle.cutting.specs.Buffers.{Holds, Ends}
@@ -32,6 +32,9 @@ act-cut : (w : Work) (n : ℕ) (line : List ℕ) → 691 < n → act w (take n l
 unfolding act
 act-cut w n line h = rw (cut-line 9 n line h)
 
+roomed-low : (at : ℕ) → roomed at ≤ 65000
+roomed-low at = caseOn (leb at 65000) (λ t. rw t (leb-true at 65000 t)) (λ t. rw t (omega arith))
+
 -- all that waits is written, or nothing
 ends-room : {out : List ℕ} {at : ℕ} {printed : List ℕ} → Ends out at printed → Ends out (roomed at) printed
 ends-room {out} {at} {printed} h = caseOn (leb at 65000) (λ t. rw t h) (λ t. rw t (ends-none out printed))
@@ -47,12 +50,13 @@ unfolding act
 act-stands w line out h r k = record { machine = refl; image = refl; lines = refl; waiting = refl; unwritten = ends-more _ h r k }
 
 stands-line : {m : Machine} {n at : ℕ} {img out : List ℕ} {w : Work} → Stands m n at img out w
-    → (line : List ℕ) (room k : ℕ) (r : Performed) (img′ out′ : List ℕ) → room ≡ roomed at → room ≤ 65000 → length out ≡ 65536 → length out′ ≡ 65536
+    → (line : List ℕ) (room k : ℕ) (r : Performed) (img′ out′ : List ℕ) → room ≡ roomed at → length out ≡ 65536 → length out′ ≡ 65536
     → k ≡ (n + 1) % 2 ^ 64
     → (let p = performed m img k line out room in (r ≡ p .result) × ((img′ ≡ p .image) × (out′ ≡ p .out)))
     → Stands (r .machine) k (r .end) img′ out′ (act w line)
 unfolding performed
-stands-line {at = at} {out = out} {w = w} stands line room k r img′ out′ made low size size′ e p =
+stands-line {at = at} {out = out} {w = w} stands line room k r img′ out′ made size size′ e p =
+    let low : room ≤ 65000 = rw made (roomed-low at) in
     let t : leb (room + 67) (length out) ≡ true = le-leb (room + 67) (length out) (omega arith) in
     let a : room ≡ roomed (w .waiting) = made ∙ ap roomed (stands .waiting) in
     let q = rw (t, e, stands .machine, stands .image, stands .lines, a) at p in
@@ -80,16 +84,16 @@ fed-next f piece end e h =
 
 module _ {m : Machine} {n at : ℕ} {img out piece : List ℕ} {start end : ℕ} {bytes : Fed Work} (reached : Reached m n at img out piece start end bytes) where
   pub reached-line : (room k : ℕ) (r : Performed) (img′ out′ : List ℕ) (next : ℕ) → end ≡ lineEnd piece end → end < length piece
-      → room ≡ roomed at → room ≤ 65000 → length out ≡ 65536 → length out′ ≡ 65536
+      → room ≡ roomed at → length out ≡ 65536 → length out′ ≡ 65536
       → k ≡ (n + 1) % 2 ^ 64
       → (let p = performed m img k (part piece start (end - start)) out room in (r ≡ p .result) × ((img′ ≡ p .image) × (out′ ≡ p .out)))
       → next ≡ lineEnd piece (end + 1)
       → Reached (r .machine) k (r .end) img′ out′ piece (end + 1) next bytes
-  reached-line room k r img′ out′ next e some made low size size′ count p found =
+  reached-line room k r img′ out′ next e some made size size′ count p found =
       let line : List ℕ = part piece start (end - start) in
       record {
         work = act (reached .work) line;
-        stands = stands-line (reached .stands) line room k r img′ out′ made low size size′ count p;
+        stands = stands-line (reached .stands) line room k r img′ out′ made size size′ count p;
         left = reached .left ∙ fed-next (record { done = reached .work; begun = line }) piece end e some ∙ rw (← found);
       }
 
@@ -101,9 +105,6 @@ module _ {m : Machine} {n at : ℕ} {img out piece : List ℕ} {start end : ℕ}
       let none : drop end piece ≡ [] = drop-of-length-le piece {i = end} (omega arith) in
       let f : bytes ≡ record { done = reached .work; begun = drop start piece } = reached .left ∙ rw (all, none) in
       rw f (reached .stands, refl)
-
-pub lines-stopped : {s r : Session} {img out piece : List ℕ} {from end : ℕ} {img′ out′ : List ℕ} → r .ok ≡ false → r .kept ≡ 0 → Lines s img out piece from end r img′ out′
-lines-stopped e k = record { stands = λ w stands ok. contradicts ok e; kept = k }
 
 -- ---- the line that is kept
 
@@ -155,13 +156,13 @@ pub goes-newline : {s r : Session} {img line out img′ line′ out′ : List �
 unfolding fed fedByte
 goes-newline {s = s} {line = line} {line′ = line′} end size e lines =
     record {
-      shows = λ f shows ok.
+      shows = λ f shows.
           let i : end < length line = omega arith in
           let w = f .done in
           let t : act w (take end line) ≡ act w (f .begun) =
           ap (act w) (rw e (take-both (s .kept) 2047 line ∙ rw (shows .next .bytes, size) (take-take 2047 2048 (f .begun) (omega arith))))
           ∙ act-cut w 2047 (f .begun) (omega arith) in
-          let d = lines .stands w (shows .lines) ok .0 in
+          let d = lines .stands w (shows .lines) .0 in
           record { lines = rw (← t) (rw (closed-line line end i, closed-rest line end i) at d); next = rw (lines .kept) (holds-none line′) };
     }
 
@@ -170,36 +171,33 @@ goes-newline {s = s} {line = line} {line′ = line′} end size e lines =
 module _ {s : Session} {img line out : List ℕ} where
   pub finishes-none : length line ≡ 2048 → s .kept ≡ 0 → Closes s img line out s img out
   unfolding ended
-  finishes-none size e = record { stands = λ f shows ok. rw (none-begun size (shows .next) e) (shows .lines) }
+  finishes-none size e = record { stands = λ f shows. rw (none-begun size (shows .next) e) (shows .lines) }
 
   -- one that no newline ends is performed as if one did
   pub finishes-some : {r : Session} {img′ line′ out′ : List ℕ} → (s .kept ≡ 0 → ⊥) → Takes s img line out (10 ∷ []) r img′ line′ out′ → Closes s img line out r img′ out′
   unfolding ended fed fedByte
   finishes-some e g =
-      record { stands = λ f shows ok. rw (ne-eqb (length (f .begun)) 0 (some-begun (shows .next) e)) (g .shows f shows ok .lines) }
+      record { stands = λ f shows. rw (ne-eqb (length (f .begun)) 0 (some-begun (shows .next) e)) (g .shows f shows .lines) }
 
 -- ---- pieces
 
 module _ {s : Session} {img line out : List ℕ} where
   pub goes-none : Takes s img line out [] s img line out
   unfolding fed
-  goes-none = record { shows = λ f shows ok. shows }
+  goes-none = record { shows = λ f shows. shows }
 
   -- whether there is more to read is no part of it
   pub goes-more : {bytes : List ℕ} {r : Session} {img′ line′ out′ : List ℕ} (more : Bool) → Takes s img line out bytes r img′ line′ out′
       → Takes s img line out bytes (record { machine = r .machine; lines = r .lines; start = r .start; kept = r .kept; at = r .at; more = more; ok = r .ok }) img′ line′ out′
   goes-more more g =
       record {
-        shows = λ f shows ok.
-            let h = g .shows f shows ok in record { lines = h .lines; next = h .next };
+        shows = λ f shows.
+            let h = g .shows f shows in record { lines = h .lines; next = h .next };
       }
 
-  pub goes-stopped : {bytes : List ℕ} {r : Session} {img′ line′ out′ : List ℕ} → r .ok ≡ false → Takes s img line out bytes r img′ line′ out′
-  goes-stopped e = record { shows = λ f shows ok. contradicts ok e }
-
-  pub goes-then : {a b : List ℕ} {q r : Session} {img′ line′ out′ img″ line″ out″ : List ℕ} → q .ok ≡ true
+  pub goes-then : {a b : List ℕ} {q r : Session} {img′ line′ out′ img″ line″ out″ : List ℕ}
       → Takes s img line out a q img′ line′ out′ → Takes q img′ line′ out′ b r img″ line″ out″ → Takes s img line out (a ++ b) r img″ line″ out″
-  goes-then {a = a} e g h = record { shows = λ f shows ok. rw fed-append (h .shows (fed act f a) (g .shows f shows e) ok) }
+  goes-then {a = a} g h = record { shows = λ f shows. rw fed-append (h .shows (fed act f a) (g .shows f shows)) }
 
 -- a piece whose first line goes on to `end`: q is the session with what the line keeps of it
 module _ {s : Session} {img line out : List ℕ} (piece : List ℕ) (end : ℕ) (q : Session) (line′ : List ℕ)
@@ -214,23 +212,23 @@ module _ {s : Session} {img line out : List ℕ} (piece : List ℕ) (end : ℕ) 
   unfolding part
   goes-rest e =
       let all : take (end - 0) piece ≡ piece = take-all (end - 0) piece (omega arith) in
-      record { shows = λ f shows ok. rw (fed-rest act f piece 0 (omega arith) (sym found ∙ e), ← all) (shows-begun f shows) }
+      record { shows = λ f shows. rw (fed-rest act f piece 0 (omega arith) (sym found ∙ e), ← all) (shows-begun f shows) }
 
   -- then its newline, and the lines after it; what stands after the last newline is kept
-  pub goes-lines : {n r t : Session} {img′ line″ out′ img″ line‴ out″ : List ℕ} (e : ℕ) → end < length piece → n .ok ≡ true
+  pub goes-lines : {n r t : Session} {img′ line″ out′ img″ line‴ out″ : List ℕ} (e : ℕ) → end < length piece
       → Takes q img line′ out (10 ∷ []) n img′ line″ out′
       → e ≡ lineEnd piece (end + 1) → Lines n img′ out′ piece (end + 1) e r img″ out″
       → line‴ ≡ over line″ 0 (fitting line″ 0 piece (r .start) (length piece))
       → t .kept ≡ 0 + length (fitting line″ 0 piece (r .start) (length piece))
-      → t .machine ≡ r .machine → t .lines ≡ r .lines → t .at ≡ r .at → t .ok ≡ r .ok
+      → t .machine ≡ r .machine → t .lines ≡ r .lines → t .at ≡ r .at
       → Takes s img line out piece t img″ line‴ out″
   unfolding fed fedByte part
-  goes-lines {r = r} {line″ = line″} e some good g at-e h a b c d k o =
+  goes-lines {r = r} {line″ = line″} e some g at-e h a b c d k =
       record {
-        shows = λ f shows ok.
+        shows = λ f shows.
             let w = act (f .done) (f .begun ++ part piece 0 (end - 0)) in
-            let n = g .shows _ (shows-begun f shows) good in
-            let p = h .stands w (n .lines) (sym o ∙ ok) in
+            let n = g .shows _ (shows-begun f shows) in
+            let p = h .stands w (n .lines) in
             let all : take (length piece - r .start) (drop (r .start) piece) ≡ drop (r .start) piece =
             take-all (length piece - r .start) (drop (r .start) piece) (omega (arith, length-drop (r .start) piece)) in
             let m : Holds (over line″ 0 (fitting line″ 0 piece (r .start) (length piece))) (0 + length (fitting line″ 0 piece (r .start) (length piece))) (take (length piece - r .start) (drop (r .start) piece)) =
@@ -241,13 +239,10 @@ module _ {s : Session} {img line out : List ℕ} (piece : List ℕ) (end : ℕ) 
 
 -- ---- the whole input
 
-pub performs-stopped : {img : List ℕ} {r : Session} {img′ out′ : List ℕ} → r .ok ≡ false → Ran img r img′ out′
-performs-stopped e = record { input = []; stands = λ ok. contradicts ok e }
-
 pub performs-all : {s q r : Session} {img line out img′ line′ out′ img″ out″ : List ℕ} → Shows s img line out (first img)
-    → TakesSome s img line out q img′ line′ out′ → q .ok ≡ true → Closes q img′ line′ out′ r img″ out″ → Ran img r img″ out″
-performs-all {img = img} shows reads good ends =
+    → TakesSome s img line out q img′ line′ out′ → Closes q img′ line′ out′ r img″ out″ → Ran img r img″ out″
+performs-all {img = img} shows reads ends =
     record {
       input = reads .bytes;
-      stands = ends .stands (fed act (first img) (reads .bytes)) (reads .goes .shows (first img) shows good);
+      stands = ends .stands (fed act (first img) (reads .bytes)) (reads .goes .shows (first img) shows);
     }

@@ -1,6 +1,6 @@
 -- Program powerhit (document 01): where it stands after any bytes of input, in pieces of any size. A newline has the line before it performed.
 use Prim.Native.Nat.{ℕ, _+_, _-_, _%_, _^_}
-use mathlib.Core.Bool.{true, cond}
+use mathlib.Core.Bool.{cond}
 use mathlib.Core.List.{List, [], _++_}
 use mathlib.Core.Path.{_≡_}
 use lib.Dec.{leb, ltb}
@@ -63,20 +63,20 @@ pub record Shows (s : Session) (image line out : List ℕ) (f : Fed Work) : Type
   pub lines : Stands (s .machine) (s .lines) (s .at) image out (f .done)
   pub next : Holds line (s .kept) (f .begun)
 
--- that these bytes bring the one session and its buffers to the other; where a write failed nothing is said
+-- that these bytes bring the one session and its buffers to the other
 pub record Takes (s : Session) (image line out bytes : List ℕ) (r : Session) (image′ line′ out′ : List ℕ) : Type 0 where
-  pub shows : (f : Fed Work) → Shows s image line out f → r .ok ≡ true → Shows r image′ line′ out′ (fed act f bytes)
+  pub shows : (f : Fed Work) → Shows s image line out f → Shows r image′ line′ out′ (fed act f bytes)
 
 -- the same of the lines of a piece, from one on that goes from byte `from` to byte `to`: what has come of the next one begins at `start`
 pub record Lines (s : Session) (image out piece : List ℕ) (from to : ℕ) (r : Session) (image′ out′ : List ℕ) : Type 0 where
-  pub stands : (w : Work) → Stands (s .machine) (s .lines) (s .at) image out w → r .ok ≡ true
+  pub stands : (w : Work) → Stands (s .machine) (s .lines) (s .at) image out w
       → (let f = fed act (record { done = w; begun = part piece from (to - from) }) (drop to piece) in
       Stands (r .machine) (r .lines) (r .at) image′ out′ (f .done) × (f .begun ≡ drop (r .start) piece))
   pub kept : r .kept ≡ 0
 
 -- the input's end does: a last line that no newline ends is performed too
 pub record Closes (s : Session) (image line out : List ℕ) (r : Session) (image′ out′ : List ℕ) : Type 0 where
-  pub stands : (f : Fed Work) → Shows s image line out f → r .ok ≡ true → Stands (r .machine) (r .lines) (r .at) image′ out′ (ended act f)
+  pub stands : (f : Fed Work) → Shows s image line out f → Stands (r .machine) (r .lines) (r .at) image′ out′ (ended act f)
 
 -- the bytes do that a read put at the start of `input`; there may be more where it put any. (Which bytes they are no contract says.)
 pub record Reads (s : Session) (image line out input : List ℕ) (r : Session) (image′ line′ out′ : List ℕ) : Type 0 where
@@ -92,4 +92,4 @@ pub record TakesSome (s : Session) (image line out : List ℕ) (r : Session) (im
 -- the whole input, whatever it is, has brought the program here, with this image at first
 pub record Ran (image : List ℕ) (r : Session) (image′ out′ : List ℕ) : Type 0 where
   pub input : List ℕ
-  pub stands : r .ok ≡ true → Stands (r .machine) (r .lines) (r .at) image′ out′ (ended act (fed act (first image) input))
+  pub stands : Stands (r .machine) (r .lines) (r .at) image′ out′ (ended act (fed act (first image) input))

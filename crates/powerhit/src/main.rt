@@ -1,6 +1,5 @@
 // Program powerhit: calls as lines of standard input, each answered by a line of standard output (document 01).
 // What a line does and prints is script's. Here the input is cut into lines and the output is collected.
-ghost use mathlib.Core.Bool.{false};
 ghost use mathlib.Core.Path.{_≡_};
 ghost use mathlib.Core.List.{List, [], _∷_};
 ghost use Prim.Native.Nat.{ℕ, _≤_};
@@ -44,22 +43,6 @@ fn started() -> Session
     }
 }
 
-// A write failed: there is nothing more to do.
-fn stopped(machine: Machine) -> Session
-    ensures { λ r. ⌜ r .ok ≡ false ⌝ }
-    ensures { λ r. ⌜ r .kept ≡ 0 ⌝ }
-{
-    Session {
-        machine,
-        lines: 0,
-        start: 0,
-        kept: 0,
-        at: 0,
-        more: false,
-        ok: false,
-    }
-}
-
 fn write_out(out: &[u8; 65536], at: usize) -> bool {
     if at > 65536 {
         return false;
@@ -68,15 +51,19 @@ fn write_out(out: &[u8; 65536], at: usize) -> bool {
     io::write_all(STDOUT_FILENO, &bytes[..at])
 }
 
-// Writes what is not yet written where there is too little room for a line, and gives how many bytes are then not written:
-// still those, where the write failed.
-fn make_room(out: &[u8; 65536], at: usize) -> usize
-    ensures { λ r. ⌜ (r ≤ 65000 → r ≡ roomed at) ⌝ }
-{
-    if at > 65000 && write_out(out, at) {
-        return 0;
+// Writes a full buffer, unless a write failed before, and gives whether every write went well.
+fn write_full(out: &[u8; 65536], at: usize, ok: bool) -> bool {
+    if ok && at > 65000 {
+        return write_out(out, at);
     }
-    at
+    ok
+}
+
+// How many bytes of output wait after that.
+fn left(at: usize) -> usize
+    ensures { λ r. ⌜ r ≡ roomed at ⌝ }
+{
+    if at <= 65000 { at } else { 0 }
 }
 
 // Performs the lines of a piece that a newline ends, from one on that goes from byte `from` to byte `to`.
@@ -97,11 +84,10 @@ fn perform_lines(
     let mut at = s.at;
     let mut start = from;
     let mut end = to;
+    let mut ok = s.ok;
     while end < piece.len() {
-        at = make_room(out, at);
-        if at > 65000 {
-            return stopped(machine);
-        }
+        ok = write_full(out, at, ok);
+        at = left(at);
         lines = std::num::wrapping_add_usize(lines, 1);
         let p = performing::perform(machine, image, lines, &piece[start..end], out, at);
         machine = p.machine;
@@ -116,7 +102,7 @@ fn perform_lines(
         kept: 0,
         at,
         more: true,
-        ok: true,
+        ok,
     }
 }
 
@@ -124,7 +110,6 @@ fn perform_lines(
 fn perform_kept(s: Session, image: &mut [u8], line: &mut [u8], out: &mut [u8; 65536]) -> Session
     requires { ⌜ length (now line) ≡ 2048 ⌝ }
     ensures { λ r. ⌜ Takes s (now (image .entry)) (now (line .entry)) (now (out .entry)) (10 ∷ []) r (now (image .exit)) (now (line .exit)) (now (out .exit)) ⌝ }
-    ensures { λ r. ⌜ r .kept ≡ 0 ⌝ }
 {
     let end = cutting::lesser(s.kept, 2047);
     line[end] = b'\n';
@@ -148,9 +133,6 @@ fn perform_piece(
         return begun;
     }
     let next = perform_kept(begun, image, line, out);
-    if !next.ok {
-        return next;
-    }
     let from = end + 1;
     let mut last = perform_lines(
         next,
@@ -227,9 +209,6 @@ fn perform_input(
     ensures { λ r. ⌜ Ran (now (image .entry)) r (now (image .exit)) (now (out .exit)) ⌝ }
 {
     let s = read_all(started(), image, line, input, out);
-    if !s.ok {
-        return s;
-    }
     perform_last(s, image, line, out)
 }
 
@@ -242,5 +221,7 @@ fn main() {
         return;
     }
     let last = perform_input(&mut image, &mut line, &mut input, &mut out);
-    write_out(&out, last.at);
+    if last.ok {
+        write_out(&out, last.at);
+    }
 }

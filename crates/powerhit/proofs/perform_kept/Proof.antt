@@ -27,7 +27,7 @@ returns : tie.Need-returns
 returns c =
     let lines = c .before .before .perform-lines .ensures in
     let place = c .before .before .before .before .before .before in
-    (goes-newline (place .lesser .result) (place .before .before .before .pre) (place .lesser .ensures) lines, lines .kept)
+    goes-newline (place .lesser .result) (place .before .before .before .pre) (place .lesser .ensures) lines
 
 pub perform-kept-spec : {M : Type 1} → statement M
 perform-kept-spec =

@@ -9,18 +9,18 @@ use Rattle.cutting.specs.Pieces.{lineEnd}
 use Rattle.cutting.specs.Feeding.{fed}
 use Rattle.cutting.proofs.Cutting.{end-le, end-ge, end-again}
 use Rattle.powerhit.specs.Program.{Work, act, Stands}
-use Rattle.powerhit.proofs.Going.{Reached, reached-line, reached-end, lines-stopped}
+use Rattle.powerhit.proofs.Going.{Reached, reached-line, reached-end}
 use Rattle.powerhit.proofs.perform_lines.Statement.{statement}
 use Rattle.powerhit.proofs.perform_lines.Tie as tie
 
 abbrev Inv-loop : tie.InvT-loop
-Inv-loop image₀ piece from to out₀ machine₀ lines₀ at₀ start₀ end₀ image out machine lines at start end =
+Inv-loop image₀ piece from to out₀ machine₀ lines₀ at₀ start₀ end₀ ok₀ image out machine lines at start end ok =
     (length image ≡ length image₀) × (start ≤ end) × (end ≡ lineEnd piece end)
     × ((w : Work) → Stands machine₀ lines₀ at₀ image₀ out₀ w
     → Reached machine lines at image out piece start end (fed act (record { done = w; begun = part piece from (to - from) }) (drop to piece)))
 
 abbrev μ-loop : tie.MeasureT-loop
-μ-loop image₀ piece from to out₀ machine₀ lines₀ at₀ start₀ end₀ image out machine lines at start end = length piece - start
+μ-loop image₀ piece from to out₀ machine₀ lines₀ at₀ start₀ end₀ ok₀ image out machine lines at start end ok = length piece - start
 
 -- a line lies before its newline, and that in the piece
 record Line (start end size : ℕ) : Type 0 where
@@ -67,8 +67,8 @@ unfolding part
 loop-again c =
     let done = c .before .before .before .before in
     let count = done .before .before .before .before in
-    let room = count .before .before in
-    let turn = room .before .before in
+    let room = count .before .left in
+    let turn = count .before .before .before .before in
     let head = turn .before in
     let inv = head .loop .inv in
     let piece = head .before .before .before .before .args .piece .now in
@@ -81,18 +81,18 @@ loop-again c =
       omega (arith, found, end-ge piece next some),
       rw found (end-again piece next some),
       λ w stands.
-          reached-line (inv .3 w stands) (room .make-room .result) _ (done .perform .result) _ _ (c .line-end .result) (inv .2) (l .ends)
-          (room .make-room .ensures (count .before .if1 .left)) (count .before .if1 .left) size (done .perform .kept .1 .1 .1 .1 .0 ∙ size)
+          reached-line (inv .3 w stands) (room .result) _ (done .perform .result) _ _ (c .line-end .result) (inv .2) (l .ends)
+          (room .ensures) size (done .perform .kept .1 .1 .1 .1 .0 ∙ size)
           (count .wrapping-add-usize .ensures) (done .perform .ensures) found,
     )
 
-returns-2 : tie.Need-returns-2 Inv-loop μ-loop
-returns-2 c =
+returns : tie.Need-returns Inv-loop μ-loop
+returns c =
     let head = c .before in
     let piece = head .before .before .before .before .args .piece .now in
     let inv = head .loop .inv in
     let all : head .loop .end ≡ length piece = omega (arith, c .loop-test .left, inv .2, end-le piece (head .loop .end)) in
-    record { stands = λ w stands ok. reached-end (inv .3 w stands) (inv .1) all; kept = refl }
+    record { stands = λ w stands. reached-end (inv .3 w stands) (inv .1) all; kept = refl }
 
 pub perform-lines-spec : {M : Type 1} → statement M
 perform-lines-spec =
@@ -103,8 +103,6 @@ perform-lines-spec =
     loop-holds
     (λ c κs. search needs)
     (λ c κs. search needs)
-    (λ c. search needs)
-    (λ c. lines-stopped (c .stopped .ensures .0) (c .stopped .ensures .1))
     (λ c κs. search needs)
     sub-perform
     part-perform-start
@@ -115,4 +113,4 @@ perform-lines-spec =
     loop-less
     loop-again
     (λ c. search needs)
-    returns-2)
+    returns)

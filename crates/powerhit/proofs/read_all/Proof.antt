@@ -26,7 +26,7 @@ loop-again c =
     let read = done .ensures in (
       done .kept .1 .0 ∙ inv .0,
       done .kept .1 .1 .1 .0 ∙ inv .1,
-      record { bytes = inv .2 .bytes ++ take (read .count) _; goes = goes-then (test .if2 .taken) (inv .2 .goes) (read .goes) },
+      record { bytes = inv .2 .bytes ++ take (read .count) _; goes = goes-then (inv .2 .goes) (read .goes) },
     )
 
 pub read-all-spec : {M : Type 1} → statement M
