@@ -1,4 +1,4 @@
-// Text of scripts: a line as a letter and numbers, numbers as decimals, and lines cut out of what was read.
+// Text of scripts: a line as a letter and numbers.
 pub mod parse;
 
 // A line of a script: one letter, then numbers, each after a comma. A line of another form has letter 0.
