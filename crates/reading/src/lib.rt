@@ -1,5 +1,5 @@
 // Read: 64 bytes into the lent buffer's start.
-mod finding;
+mod locating;
 
 ghost use mathlib.Core.Path.{_≡_};
 ghost use Rattle.answers.specs.Answers.{numberOf, storesOf};
@@ -41,7 +41,7 @@ pub fn read(
     if (writer > 3) | (page >= st.sizes.pages) | (line > 63) | (target.len() < 64) {
         return Answer::BadArgument;
     }
-    let found = finding::line_found(
+    let found = locating::line_found(
         st.sizes,
         &st.table.page,
         &st.table.original,

@@ -93,7 +93,7 @@ module _ {past : List ℕ} (z : Sizes) (v : World) (b : Reference) (h : Reached 
       contradicts (ap (λ (x : ℕ). eqb x 19) n)
       (commit-fits u (related-valid (u .st) (u .image) (turn c (d .number) (d .stores) b) (r .related)) (subst (λ (s : State). s .head ≡ s .tail) (sym e) refl) w)
 
-  makes-room : MakesRoom v
+  pub makes-room : MakesRoom v
   makes-room =
       let ok = related-valid (v .st) (v .image) b (h .related) in
       let fits = durable-fits past (v .st) (v .image) b (related-durable (v .st) (v .image) b (h .related)) in

@@ -66,7 +66,7 @@ module _ {past : List ℕ} (z : Sizes) (w k : ℕ) where
         λ l. reached-finds z (d .world) (continues (committing w) 0 c) (after 0 (omega arith)),
       )
 
-whole : {past : List ℕ} (z : Sizes) (v : World) (b : Reference) → Reached z past v b → (w k : ℕ) → exec (commit w) v .number ≡ 0 → Whole z v b w k
+pub whole : {past : List ℕ} (z : Sizes) (v : World) (b : Reference) → Reached z past v b → (w k : ℕ) → exec (commit w) v .number ≡ 0 → Whole z v b w k
 unfolding exec commitOf
 whole {past = past} z v b h w k taken =
     let d = exec (commit w) v in

@@ -76,3 +76,4 @@ pub mod PageFrame
 pub mod NeverRefused
 pub mod CommitWhole
 pub mod CheckpointRoom
+pub mod Demand

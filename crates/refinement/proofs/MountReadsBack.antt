@@ -48,7 +48,7 @@ module _ {past : List ℕ} (v : World) (b : Reference) (h : Related past v b) wh
         line = λ p l lp ll. sym (ap (λ (m : State). lineOf (v .image) m p l) mount-state) ∙ finds-page p l lp ll ∙ sym (D .committed p l lp ll);
       }
 
-  reads-back : ReadsBack (v .image) (v .st) (exec mount v .world .st)
+  pub reads-back : ReadsBack (v .image) (v .st) (exec mount v .world .st)
   reads-back = subst (ReadsBack (v .image) (v .st)) (sym mount-state) found-back
 
 -- at any time a mount finds the reference machine's pages

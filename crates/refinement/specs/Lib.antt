@@ -13,3 +13,4 @@ pub mod Run
 pub mod Reference
 pub mod Statement
 pub mod Beside
+pub mod Demand
