@@ -52,7 +52,7 @@ use Rattle.refinement.proofs.WriteMid.{write-mid}
 use Rattle.leftovers.proofs.Alike.{slotsOf, Alike, Leaves, Stays, alike-after, stays}
 
 -- the slots that a mount finds are those of the view shown
-shown-slots : (img : List ℕ) (v : View) → Shows img v → slotsOf img ≡ v .table
+pub shown-slots : (img : List ℕ) (v : View) → Shows img v → slotsOf img ≡ v .table
 shown-slots img v shows = ap (λ (u : View). u .table) shows
 
 -- ---- a store that is not the last, or the last of a write

@@ -19,7 +19,7 @@ use Rattle.refinement.specs.Beside.{Always}
 -- word a of the image is left over, v being a world right after a mount: its state has the header and the slots after replay
 pub data Leftover (v : World) (a : ℕ) : Type 0 where
   -- one of the four words of the place where position q sits, if no live record sits there
-  dead-place : (q k : ℕ) → k < 4
+  journal-place : (q k : ℕ) → k < 4
       → ((i : ℕ) → i < liveCount (v .st .sizes) (v .st .head) (v .st .tail) → placeOf (v .st .sizes) (position (v .st .sizes) (v .st .tail) i) ≡ placeOf (v .st .sizes) q → ⊥)
       → a ≡ recordWord (v .st .sizes) q + k → Leftover v a
   -- one of the three words of slot s in the slot table, if the slot has a live record
