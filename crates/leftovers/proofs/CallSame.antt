@@ -1,8 +1,8 @@
 -- Every call in two images that are alike, of the same state and the same reference machine: the same answer, and images alike again.
-use Prim.Native.Nat.{ℕ, _<_, _≤_, min}
+use Prim.Native.Nat.{ℕ, _<_, min}
 use mathlib.Core.Bool.{Bool, true, false, cond, _||_}
 use mathlib.Core.List.{List, [], _∷_}
-use mathlib.Core.Path.{_≡_, refl, sym, ap, ap₂, _∙_, subst}
+use mathlib.Core.Path.{_≡_, refl, sym, ap, ap₂, _∙_}
 use native.Mathlib.Omega.{arith}
 use lib.Dec.{ltb, leb, eqb}
 use lib.ListN.{length, replicate}
@@ -11,9 +11,9 @@ use Rattle.bounded.specs.Rows.{Row, refusal}
 use Rattle.bounded.proofs.Rows.{none-apply}
 use Rattle.bounded.proofs.Tests.{caseOn}
 use Rattle.layout.specs.declared.Sizes.{Sizes}
-use Rattle.layout.specs.Layout.{imageLength, pageWord}
-use Rattle.image.specs.Lines.{lineBytes, merged, lineWords}
-use Rattle.words.specs.Words.{word, over}
+use Rattle.layout.specs.Layout.{imageLength}
+use Rattle.image.specs.Lines.{merged, lineWords}
+use Rattle.words.specs.Words.{word}
 use Rattle.replay.specs.declared.Table.{Table}
 use Rattle.replay.specs.Table.{slotOf}
 use Rattle.mount.specs.Mount.{sizesFrom}
@@ -30,7 +30,7 @@ use Rattle.refinement.specs.Stores.{World, stepped, steppedBy, left}
 use Rattle.refinement.specs.Calls.{rowState, rowPending, rowNotPending, worldOf, asked, beginOf, abortOf, writeCallRows, finishedLine, writeOf, commitOf, consolidateOf, checkpointOf, readRows, readRow, readBytes, stepRows, stepRow, stepOf, stepBytes, runOf, runBytes}
 use Rattle.refinement.specs.Recall.{recallRow, recallBytes}
 use Rattle.refinement.specs.Run.{Call, Result, mount, checkpoint, step, begin, abort, commit, consolidate, run, write, read, recall, exec, result}
-use Rattle.refinement.specs.Reference.{Reference, readLine, recallLine}
+use Rattle.refinement.specs.Reference.{Reference}
 use Rattle.refinement.proofs.Copies.{durable-legal, durable-fits}
 use Rattle.refinement.proofs.Invariant.{Durable, Never, Quiet, Busy, Related}
 use Rattle.refinement.proofs.MountCall.{mount-found}
@@ -41,7 +41,7 @@ use Rattle.refinement.proofs.Seen.{seen-line}
 use Rattle.refinement.proofs.Sound.{is-quiet, is-busy, related-valid, related-durable}
 use Rattle.refinement.proofs.Stepping.{unslotted-durable}
 use Rattle.leftovers.specs.Leftovers.{Same}
-use Rattle.leftovers.proofs.Alike.{slotsOf, Alike}
+use Rattle.leftovers.proofs.Alike.{Alike}
 use Rattle.leftovers.proofs.OneStore.{shown-slots, one-store}
 use Rattle.leftovers.proofs.Runs.{run-state, run-alike}
 use Rattle.leftovers.proofs.SameRows.{same-refusal}
@@ -136,11 +136,10 @@ module _ {past past′ : List ℕ} (st : State) (x y : List ℕ) (b : Reference)
       let rows = none-apply (writeCallRows st x w p l o n bytes) (omega arith) q in
       let a = args-good z w p l o n (rows .1 .1 .1 .1 .0) in
       let X : Quiet past st x b = is-quiet st x b h (rows .1 .1 .0) in
-      let Y : Quiet past′ st y b = is-quiet st y b k (rows .1 .1 .0) in
-      (
+      let Y : Quiet past′ st y b = is-quiet st y b k (rows .1 .1 .0) in (
         ap (λ (line : List ℕ). lineWords (merged line o n bytes))
-        (seen-line st x b Never (X .durable) (X .writers) w p l (a .writer-low) (a .page-low) (a .line-low) (λ c. c)
-        ∙ sym (seen-line st y b Never (Y .durable) (Y .writers) w p l (a .writer-low) (a .page-low) (a .line-low) (λ c. c))),
+            (seen-line st x b Never (X .durable) (X .writers) w p l (a .writer-low) (a .page-low) (a .line-low) (λ c. c)
+            ∙ sym (seen-line st y b Never (Y .durable) (Y .writers) w p l (a .writer-low) (a .page-low) (a .line-low) (λ c. c))),
         frame p (a .page-low),
       ))
       ∙ ap (λ (r : ℕ). asked r st op (finishedLine st y w p l o n bytes) (pageFrame st y p)) e

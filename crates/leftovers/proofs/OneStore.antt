@@ -1,7 +1,7 @@
 -- One store of a pending operation: what a mount finds before and after it. It is the last one of a commit, a consolidation or a checkpoint
 -- that changes the slots found, by the state alone; every other store changes nothing that a mount reads.
 use Prim.Native.Nat.{ℕ, _+_, _*_, _<_}
-use mathlib.Core.Bool.{Bool, true, false}
+use mathlib.Core.Bool.{false}
 use mathlib.Core.List.{List}
 use mathlib.Core.Logic.{⊎-elim}
 use mathlib.Core.Path.{_≡_, refl, sym, ap, ap₂, _∙_, subst}
@@ -119,8 +119,8 @@ commit-leaves past st img b B w e last =
       kept =
           λ p low t none. (
             ap (λ (u : Table). slotOf z u p) before
-            ∙ unslotted-before (word img) z (st .head) n new (D .view .table) (st .table) (durable-legal past st img b D) (view-sixteen img (D .view) (D .shows)) (D .behind)
-            (commit-names st w) p low (ap (λ (u : Table). slotOf z u p) (sym after) ∙ none),
+                ∙ unslotted-before (word img) z (st .head) n new (D .view .table) (st .table) (durable-legal past st img b D) (view-sixteen img (D .view) (D .shows)) (D .behind)
+                (commit-names st w) p low (ap (λ (u : Table). slotOf z u p) (sym after) ∙ none),
             header-page img z headWord x (omega arith) (durable-fits past st img b D) p,
           );
     })
@@ -153,9 +153,9 @@ consolidate-leaves past st img b B p e last =
       kept =
           λ q low t none. (
             ap (λ (u : Table). slotOf z u q) before
-            ∙ sym (slot-kept (consolidate-frees past st img b B p e) q low (eqb-false q p t))
-            ∙ ap (λ (u : Table). slotOf z u q) (sym after)
-            ∙ none,
+                ∙ sym (slot-kept (consolidate-frees past st img b B p e) q low (eqb-false q p t))
+                ∙ ap (λ (u : Table). slotOf z u q) (sym after)
+                ∙ none,
             header-page img z headWord x (omega arith) whole q,
           );
     })

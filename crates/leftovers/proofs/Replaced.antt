@@ -1,6 +1,6 @@
 -- Right after a mount with the leftovers replaced: no word that a mount reads is left over, and no word of a committed copy is, so the image
 -- shows what it showed and has the same committed copies.
-use Prim.Native.Nat.{ℕ, _+_, _<_, _≤_}
+use Prim.Native.Nat.{ℕ, _+_, _<_}
 use mathlib.Core.List.{List}
 use mathlib.Core.Path.{_≡_, refl, sym, ap, _∙_, subst}
 use native.Mathlib.Omega.{arith}
@@ -17,7 +17,7 @@ use Rattle.image.proofs.LineLaws.{line-ext}
 use Rattle.journal.specs.Records.{position}
 use Rattle.replay.specs.declared.Table.{Table}
 use Rattle.replay.specs.Table.{slotOf, frameNames}
-use Rattle.mount.proofs.View.{View, Shows, Read, header, journal, slot, page, Agree, viewOf, slot-none, same-view}
+use Rattle.mount.proofs.View.{View, Shows, Read, header, journal, slot, page, slot-none, same-view}
 use Rattle.mount.proofs.Verdict.{Taken}
 use Rattle.mount.proofs.Dead.{Dead, dead-past, dead-line, dead-place, dead-slot, dead-page}
 use Rattle.refinement.specs.Stores.{World}

@@ -1,12 +1,12 @@
 -- A run in two images, of the same state: the states stay equal, and the images alike.
 use Prim.Native.Nat.{ℕ, zero, suc, _+_, _≤_, min}
-use mathlib.Core.Bool.{false, cond}
+use mathlib.Core.Bool.{cond}
 use mathlib.Core.List.{List}
-use mathlib.Core.Path.{_≡_, refl, sym, ap, _∙_, subst}
+use mathlib.Core.Path.{_≡_, sym, ap, _∙_, subst}
 use native.Mathlib.Omega.{arith}
 use lib.Dec.{eqb}
 use Rattle.state.specs.declared.State.{State}
-use Rattle.operations.specs.Operations.{isIdle, needs}
+use Rattle.operations.specs.Operations.{needs}
 use Rattle.refinement.specs.Stores.{World, completed, withMade, stepped, steppedBy, left}
 use Rattle.refinement.specs.Calls.{worldOf}
 use Rattle.refinement.specs.Reference.{Reference, advances}

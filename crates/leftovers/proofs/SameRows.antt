@@ -1,5 +1,5 @@
 -- Two tables of refusals that agree in each row, once the rows before it do not apply, give the same number.
-use mathlib.Core.Bool.{true, false}
+use mathlib.Core.Bool.{false}
 use mathlib.Core.List.{List, [], _∷_}
 use mathlib.Core.Path.{_≡_, refl, sym, _∙_}
 use Rattle.bounded.specs.Rows.{Row, refusal}

@@ -3,7 +3,7 @@
 use Prim.Native.Nat.{ℕ}
 use mathlib.Core.List.{List, [], _∷_}
 use mathlib.Core.Logic.{inl}
-use mathlib.Core.Path.{_≡_, refl, sym, ap, _∙_, subst}
+use mathlib.Core.Path.{refl, sym, ap, _∙_, subst}
 use lib.ListN.{drop}
 use Rattle.layout.specs.declared.Sizes.{Sizes}
 use Rattle.layout.specs.Layout.{imageLength}
@@ -11,16 +11,17 @@ use Rattle.state.specs.declared.State.{State}
 use Rattle.mount.proofs.View.{View}
 use Rattle.refinement.specs.Stores.{World}
 use Rattle.refinement.specs.Calls.{worldOf}
-use Rattle.refinement.specs.Run.{Call, Result, mount, exec}
+use Rattle.refinement.specs.Run.{Call, Result, exec}
 use Rattle.refinement.specs.Reference.{Reference, none, idle, turn}
 use Rattle.refinement.specs.Statement.{AllLent}
 use Rattle.refinement.proofs.CallSound.{call-sound}
 use Rattle.refinement.proofs.Invariant.{Durable, Quiet, Related}
 use Rattle.refinement.proofs.MountCall.{mounted-committed, mount-found}
 use Rattle.refinement.proofs.Mounted.{stateOf, Committed, mounted-quiet}
-use Rattle.refinement.proofs.Reached.{Reached, always}
+use Rattle.refinement.proofs.Reached.{always}
 use Rattle.refinement.proofs.Sound.{related-valid, related-durable}
 use Rattle.leftovers.specs.Leftovers.{Replaced, SameFrom, Unseen, LeftoversNeverShow}
+use Rattle.leftovers.proofs.AfterMount.{after-mount}
 use Rattle.leftovers.proofs.Alike.{Alike}
 use Rattle.leftovers.proofs.CallSame.{call-same, call-alike}
 use Rattle.leftovers.proofs.Replaced.{still-shows, still-quiet, still-alike}
@@ -72,9 +73,7 @@ module _ {past : List ℕ} (w : World) (b : Reference) (h : Related past w b) wh
         later = λ calls lent. same-from calls lent (stateOf view) (w .image) image fresh (inl quiet) (inl q) (still-alike (w .image) view (D .shows) (D .mounts) image R);
       }
 
-  unseen : (image : List ℕ) → Replaced (exec mount w .world) image → Unseen (exec mount w .world) (worldOf (exec mount w .world .st) image)
-  unseen image =
-      subst (λ (v : World). Replaced v image → Unseen v (worldOf (v .st) image)) (sym (ap (λ (d : Result). d .world) (mount-found w b h))) (unseen-of image)
-
 pub leftovers-never-show : LeftoversNeverShow
-leftovers-never-show = always _ (λ z buffer w b h. unseen w b (h .related))
+leftovers-never-show =
+    always _ (λ z buffer w b h.
+    after-mount (λ v. (image : List ℕ) → Replaced v image → Unseen v (worldOf (v .st) image)) w b (h .related) (unseen-of w b (h .related)))

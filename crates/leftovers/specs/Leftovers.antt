@@ -3,9 +3,10 @@
 -- list stands for a power cut, as in demand 3.
 use Prim.Native.Nat.{ℕ, _+_, _<_, _≤_}
 use mathlib.Core.List.{List, [], _∷_}
+use mathlib.Core.Logic.{_⊎_}
 use mathlib.Core.Path.{_≡_}
 use lib.ListN.{length}
-use Rattle.words.specs.Words.{Bytes, word}
+use Rattle.words.specs.Words.{Bytes, word, store}
 use Rattle.layout.specs.Layout.{frames, placeOf, pageWord, slotWord, recordWord, paddingWord, frameWord, lineWord, imageWords}
 use Rattle.journal.specs.Records.{position, liveCount}
 use Rattle.replay.specs.Table.{noPosition, lastIn, slotOf}
@@ -66,3 +67,28 @@ pub record Unseen (v u : World) : Type 0 where
 abbrev pub LeftoversNeverShow : Type 0
 LeftoversNeverShow =
     Always (λ z buffer w b. let v = exec mount w .world in (image : List ℕ) → Replaced v image → Unseen v (worldOf (v .st) image))
+
+-- ---- beside it: the list is as long as it can be, and any word may stand there
+
+-- word a is one that a mount or a recall goes by: of the header (which has two that are not read), of a live record, of a slot without one, of
+-- the page table for a page without a slot, of the committed copy of a line
+pub data Needed (v : World) (a : ℕ) : Type 0 where
+  header : a < 8 → Needed v a
+  live-record : (i k : ℕ) → i < liveCount (v .st .sizes) (v .st .head) (v .st .tail) → k < 4
+      → a ≡ recordWord (v .st .sizes) (position (v .st .sizes) (v .st .tail) i) + k → Needed v a
+  slot-table : (s k : ℕ) → s < v .st .sizes .slots → k < 3 → lastIn (v .st .table) s ≡ noPosition → a ≡ slotWord (v .st .sizes) s + k → Needed v a
+  page-table : (p : ℕ) → p < v .st .sizes .pages → slotOf (v .st .sizes) (v .st .table) p ≡ v .st .sizes .slots → a ≡ pageWord p → Needed v a
+  committed-copy : (p l k : ℕ) → p < v .st .sizes .pages → l < 64 → k < 8
+      → a ≡ lineWord (v .st .sizes) (frameOf (word (v .image)) (v .st .sizes) (v .st .table) p l) l + k → Needed v a
+
+-- every word of the image is left over or needed
+abbrev pub EveryWord : Type 0
+EveryWord = Always (λ z buffer w b. let v = exec mount w .world in (a : ℕ) → a < imageWords (v .st .sizes) → Leftover v a ⊎ Needed v a)
+
+-- the image itself may stand there; and where an image may, it may with any word stored over one that is left over
+pub record Scribbled (v : World) : Type 0 where
+  pub none : Replaced v (v .image)
+  pub more : (image : List ℕ) → Replaced v image → (a x : ℕ) → Leftover v a → Replaced v (store image a x)
+
+abbrev pub AnyWord : Type 0
+AnyWord = Always (λ z buffer w b. Scribbled (exec mount w .world))
