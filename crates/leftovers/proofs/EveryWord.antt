@@ -47,7 +47,7 @@ module _ (v : World) (g : Legal (v .st .sizes)) where
   page-told a l h =
       let p : ℕ = a - 8 in
       caseOn (ltb (slotOf z (v .st .table) p) (z .slots))
-      (λ t. inl (slotted-page p (omega arith) (ltb-true (slotOf z (v .st .table) p) (z .slots) t) (omega arith)))
+      (λ t. inl (slotted-page p (omega arith) (omega (arith, ltb-true (slotOf z (v .st .table) p) (z .slots) t)) (omega arith)))
       (λ t. inr (page-table p (omega arith) (slot-none z (v .st .table) p t) (omega arith)))
 
   slot-told : (a : ℕ) → 8 + z .pages ≤ a → a < 8 + z .pages + 3 * z .slots → Told a
@@ -56,7 +56,7 @@ module _ (v : World) (g : Legal (v .st .sizes)) where
       let s : ℕ = i / 3 in
       caseOn (eqb (lastIn (v .st .table) s) noPosition)
       (λ t. inr (slot-table s (i % 3) (omega arith) (omega arith) (eqb-true (lastIn (v .st .table) s) noPosition t) (omega arith)))
-      (λ t. inl (under-record s (i % 3) (omega arith) (omega arith) (eqb-false (lastIn (v .st .table) s) noPosition t) (omega arith)))
+      (λ t. inl (under-record s (i % 3) (omega arith) (omega arith) (λ e. absurd (eqb-false (lastIn (v .st .table) s) noPosition t e)) (omega arith)))
 
   place-told : (a : ℕ) → 8 + z .pages + 3 * z .slots ≤ a → a < paddingWord z → Told a
   place-told a l h =
@@ -69,7 +69,7 @@ module _ (v : World) (g : Legal (v .st .sizes)) where
       ⊎-elim
       (λ (x : (j : ℕ) × (j < liveCount z (v .st .head) (v .st .tail)) × (eqb (there j) (placeOf z q) ≡ true)).
       inr (live-record (x .0) k (x .1) (omega arith) (omega (arith, at, eqb-true (there (x .0)) (placeOf z q) (x .2)))))
-      (λ f. inl (journal-place q k (omega arith) (λ j m e. eqb-false (there j) (placeOf z q) (f j m) e) at))
+      (λ f. inl (journal-place q k (omega arith) (λ j m e. eqb-false (there j) (placeOf z q) (f j (omega (arith, m))) e) at))
       (some-or-none (λ j. eqb (there j) (placeOf z q)) (liveCount z (v .st .head) (v .st .tail)))
 
   line-told : (a : ℕ) → frameWord z ≤ a → a < imageWords z → Told a
@@ -81,7 +81,7 @@ module _ (v : World) (g : Legal (v .st .sizes)) where
       ⊎-elim
       (λ (x : (p : ℕ) × (p < z .pages) × (eqb (copy p) f ≡ true)).
       inr (committed-copy (x .0) m (i % 8) (x .1) (omega arith) (omega arith) (omega (arith, eqb-true (copy (x .0)) f (x .2)))))
-      (λ n. inl (other-copy f m (i % 8) (omega arith) (omega arith) (omega arith) (λ p lp e. eqb-false (copy p) f (n p lp) e) (omega arith)))
+      (λ n. inl (other-copy f m (i % 8) (omega arith) (omega arith) (omega arith) (λ p lp e. eqb-false (copy p) f (n p (omega (arith, lp))) e) (omega arith)))
       (some-or-none (λ p. eqb (copy p) f) (z .pages))
 
   -- below a bound, or from it on
@@ -94,7 +94,7 @@ module _ (v : World) (g : Legal (v .st .sizes)) where
       split a (8 + z .pages) (page-told a b₁) (λ b₂.
       split a (8 + z .pages + 3 * z .slots) (slot-told a b₂) (λ b₃.
       split a (paddingWord z) (place-told a b₃) (λ b₄.
-      split a (frameWord z) (λ l. inl (padding b₄ l)) (λ b₅.
+      split a (frameWord z) (λ l. inl (padding (omega (arith, b₄)) (omega (arith, l)))) (λ b₅.
       line-told a b₅ h)))))
 
   -- ---- a leftover stored over

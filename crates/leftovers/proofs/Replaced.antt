@@ -9,7 +9,7 @@ use lib.ListN.{length, drop}
 use Rattle.bounded.specs.Count.{Once}
 use Rattle.bounded.proofs.Tests.{caseOn}
 use Rattle.layout.specs.declared.Sizes.{Sizes}
-use Rattle.layout.specs.Layout.{Legal, frames, pageWord, lineWord, imageLength, imageWords}
+use Rattle.layout.specs.Layout.{Legal, frames, pageWord, lineWord, imageLength, frameWord}
 use Rattle.layout.proofs.LayoutLaws.{place-lt, line-apart}
 use Rattle.words.specs.Words.{Bytes, word}
 use Rattle.image.specs.Lines.{lineBytes}
@@ -31,12 +31,12 @@ use Rattle.refinement.proofs.Names.{owned-low, committed-owned}
 use Rattle.leftovers.specs.Leftovers.{Leftover, journal-place, under-record, slotted-page, padding, other-copy, Replaced}
 use Rattle.leftovers.proofs.Alike.{Alike}
 
--- the words that a mount reads lie in the image
-read-inside : (v : View) → Legal (v .sizes) → (a : ℕ) → Read v a → a < imageWords (v .sizes)
-read-inside v g a (header h) = omega arith
-read-inside v g a (journal i k h l e) = omega (arith, place-lt (v .sizes) g (position (v .sizes) (v .tail) i))
-read-inside v g a (slot s k h q l e) = omega arith
-read-inside v g a (page p h q e) = omega arith
+-- the words that a mount reads lie before the frames
+read-before : (v : View) → Legal (v .sizes) → (a : ℕ) → Read v a → a < frameWord (v .sizes)
+read-before v g a (header h) = omega arith
+read-before v g a (journal i k h l e) = omega (arith, place-lt (v .sizes) g (position (v .sizes) (v .tail) i))
+read-before v g a (slot s k h q l e) = omega arith
+read-before v g a (page p h q e) = omega arith
 
 module _ (img : List ℕ) (view : View) (shows : Shows img view) (taken : Taken (length img) view) where
   abbrev z : Sizes
@@ -53,9 +53,9 @@ module _ (img : List ℕ) (view : View) (shows : Shows img view) (taken : Taken 
 
   -- a mount reads no leftover
   left-dead : (a : ℕ) → Leftover v a → Dead view a
-  left-dead a (journal-place q k l f e) = subst (Dead view) (sym e) (dead-place view q k l f)
-  left-dead a (under-record s k h l f e) = subst (Dead view) (sym e) (dead-slot view s k h l f)
-  left-dead a (slotted-page p h f e) = subst (Dead view) (sym e) (dead-page view p h f)
+  left-dead a (journal-place q k l f e) = subst (Dead view) (sym e) (dead-place view q k l (λ i m. f i (omega (arith, m))))
+  left-dead a (under-record s k h l f e) = subst (Dead view) (sym e) (dead-slot view s k h l (λ n. f n))
+  left-dead a (slotted-page p h f e) = subst (Dead view) (sym e) (dead-page view p h (omega (arith, f)))
   left-dead a (padding l m) = dead-past view legal a l
   left-dead a (other-copy f l k lf ll lk n e) = subst (Dead view) (sym e) (dead-line view legal f l k)
 
@@ -70,7 +70,7 @@ module _ (img : List ℕ) (view : View) (shows : Shows img view) (taken : Taken 
   committed-left p l k lp ll lk a at (padding m n) = omega arith
   committed-left p l k lp ll lk a at (other-copy f m j lf lm lj n e) =
       let w = line-apart z (copyOf p l) l k f m j ll lm lk lj (sym at ∙ e) in
-      n p lp (ap (copyOf p) (sym (w .1)) ∙ w .0)
+      n p (omega (arith, lp)) (ap (copyOf p) (sym (w .1)) ∙ w .0)
 
   once : Once (frames z) (frameNames (word img) z t)
   once = subst (Once (frames z)) (view-names img view shows) (taken .names)
@@ -80,7 +80,7 @@ module _ (img : List ℕ) (view : View) (shows : Shows img view) (taken : Taken 
 
   module _ (image : List ℕ) (R : Replaced v image) where
     read-kept : (a : ℕ) → Read view a → word image a ≡ word img a
-    read-kept a q = R .kept a (read-inside view legal a q) (λ l. left-dead a l q)
+    read-kept a q = R .kept a (omega (arith, read-before view legal a q)) (λ l. left-dead a l q)
 
     pub still-shows : Shows image view
     still-shows = sym (same-view (word img) (word image) (λ a q. sym (read-kept a (subst (λ (u : View). Read u a) shows q)))) ∙ shows
