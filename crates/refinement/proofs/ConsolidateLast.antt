@@ -103,7 +103,7 @@ module _ (past : List ℕ) (st : State) (img : List ℕ) (b : Reference) (valid 
   -- ---- with the stores before it landed
 
   module _ (landed : (j : ℕ) → j < copyStoreCount t + 5 → word img (consolidateAt st p j) ≡ consolidateValue st img p j) where
-    page-landed : word img (pageWord p) ≡ copyTo t
+    pub page-landed : word img (pageWord p) ≡ copyTo t
     page-landed = ap (word img) (sym (at-page st p)) ∙ landed (copyStoreCount t) (omega arith) ∙ value-page st p img
 
     record-landed : (k : ℕ) → k < 4 → word img (recordWord z (st .head) + k) ≡ wordOfRecord (freeingRecord st p 0) k
@@ -194,6 +194,11 @@ module _ (past : List ℕ) (st : State) (img : List ℕ) (b : Reference) (valid 
       abbrev after : List ℕ
       after = store img headWord (position z (st .head) 1)
 
+      pub freed-shows : Shows after (appended (word img) (D .view) 1 new)
+      freed-shows =
+          let x : after ≡ store img headWord (position (D .view .sizes) (D .view .head) 1) = rw (D .sizes-same, D .head-same) in
+          subst (λ (i : List ℕ). Shows i (appended (word img) (D .view) 1 new)) (sym x) (append-view img (D .view) (D .shows) 1 new can-append (omega (arith, D .mounts .fits)) has-landed)
+
       abbrev table : Table
       table = consolidateTable st p
 
@@ -258,12 +263,11 @@ module _ (past : List ℕ) (st : State) (img : List ℕ) (b : Reference) (valid 
       pub consolidated-durable : Durable past (completed st (Consolidate p)) after (withWork idle b)
       consolidated-durable =
           let fits : 8 * headWord + 8 ≤ length img = header-fits img z headWord (position z (st .head) 1) (omega arith) whole in
-          let x : after ≡ store img headWord (position (D .view .sizes) (D .view .head) 1) = rw (D .sizes-same, D .head-same) in
           record {
             bytes = bytes-store img headWord (position z (st .head) 1) (D .bytes);
             past-kept = drop-store img headWord (position z (st .head) 1) (imageLength z) fits (omega arith) ∙ D .past-kept;
             view = appended (word img) (D .view) 1 new;
-            shows = subst (λ (i : List ℕ). Shows i (appended (word img) (D .view) 1 new)) (sym x) (append-view img (D .view) (D .shows) 1 new can-append (omega arith) has-landed);
+            shows = freed-shows;
             mounts = subst (λ (n : ℕ). Taken n (appended (word img) (D .view) 1 new)) (sym (length-store img headWord (position z (st .head) 1) fits)) still-taken;
             sizes-same = D .sizes-same;
             head-same = ap₂ (λ (y : Sizes) (h : ℕ). position y h 1) (D .sizes-same) (D .head-same);

@@ -40,11 +40,11 @@ no-row img e =
     let row : ℕ = refusal (mountRows (length img) (word img)) in
     caseOn (eqb row 0) (λ t. eqb-true row 0 t) (λ t. rw t at e)
 
-abbrev argsBad : List ℕ → ℕ → ℕ → List ℕ → Bool
+abbrev pub argsBad : List ℕ → ℕ → ℕ → List ℕ → Bool
 argsBad img p l target = leb (sizesFrom (word img) .pages) p || ltb 63 l || ltb (length target) 64
 
 module _ {past : List ℕ} (st : State) (img : List ℕ) (b : Reference) (valid : stateOk st ≡ true) (D : Durable past st img b) (p l : ℕ) (target : List ℕ) where
-  row-is : recallRow img p l target ≡ cond (argsBad img p l target) 11 0
+  pub row-is : recallRow img p l target ≡ cond (argsBad img p l target) 11 0
   unfolding recallRow
   row-is =
       refusal-past (mountRows (length img) (word img)) ((argsBad img p l target, 11) ∷ [])

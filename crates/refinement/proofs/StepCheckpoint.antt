@@ -87,18 +87,21 @@ module _ (past : List ℕ) (st : State) (img : List ℕ) (b : Reference) (D : Du
             (D .behind .slot-same s l);
       }
 
+  pub emptied-shows : Shows after (emptied (D .view))
+  emptied-shows =
+      let head-low : D .view .head < 2 * D .view .sizes .places = D .mounts .positions .head-low in
+      subst (λ (h : ℕ). Shows (store img tailWord h) (emptied (D .view))) (D .head-same)
+      (emptied-view img (D .view) (D .shows) (D .mounts .legal) copied (D .mounts .records) (omega (arith, whole)) (omega (arith, D .mounts .legal .places-high)))
+
   checkpointed-durable : Durable past (completed st Checkpoint) after (withWork idle b)
   checkpointed-durable =
       let g : Legal z = durable-legal past st img b D in
       let fits : 8 * tailWord + 8 ≤ length img = header-fits img z tailWord (st .head) (omega arith) whole in
-      let head-low : D .view .head < 2 * D .view .sizes .places = D .mounts .positions .head-low in
       record {
         bytes = bytes-store img tailWord (st .head) (D .bytes);
         past-kept = drop-store img tailWord (st .head) (imageLength z) fits (omega arith) ∙ D .past-kept;
         view = emptied (D .view);
-        shows =
-            subst (λ (h : ℕ). Shows (store img tailWord h) (emptied (D .view))) (D .head-same)
-            (emptied-view img (D .view) (D .shows) (D .mounts .legal) copied (D .mounts .records) (omega arith) (omega (arith, D .mounts .legal .places-high)));
+        shows = emptied-shows;
         mounts = subst (λ (n : ℕ). Taken n (emptied (D .view))) (sym (length-store img tailWord (st .head) fits)) (emptied-taken (length img) (D .view) (D .mounts));
         sizes-same = D .sizes-same;
         head-same = D .head-same;
@@ -123,10 +126,10 @@ module _ (past : List ℕ) (st : State) (img : List ℕ) (b : Reference) (B : Bu
   abbrev m : ℕ
   m = st .pending .made
 
-  few-made : m < needs st Checkpoint
+  pub few-made : m < needs st Checkpoint
   few-made = pends st Checkpoint (B .valid) is refl .made-low
 
-  needed : needs st Checkpoint ≡ 3 * recorded st + 1
+  pub needed : needs st Checkpoint ≡ 3 * recorded st + 1
   unfolding needs
   needed =
       let l : m < needs st Checkpoint = few-made in
@@ -143,24 +146,34 @@ module _ (past : List ℕ) (st : State) (img : List ℕ) (b : Reference) (B : Bu
       (checkpoint-mid past st img b (B .durable) m l)
       (ap (λ (n : ℕ). under nothing (n - (m + 1))) (sym (needs-made st (m + 1) Checkpoint)))
 
-  complete : m ≡ 3 * recorded st → Quiet past (completed st Checkpoint) (store img tailWord (st .head)) (withWork idle b)
+  abbrev end : List ℕ
+  end = store img tailWord (st .head)
+
+  all-landed : m ≡ 3 * recorded st → (j : ℕ) → j < 3 * recorded st → word img (checkpointAt st j) ≡ checkpointValue st img j
+  all-landed e j l = subst (λ (o : Op). word img (storeAt st o j) ≡ storeValue st img o j) is (B .landed j (omega arith))
+
+  -- the image shows no live record, and the slots that it showed
+  pub checkpoint-shows : m ≡ 3 * recorded st → Shows end (emptied (B .durable .view))
+  checkpoint-shows e = emptied-shows past st img b (B .durable) (all-landed e)
+
+  complete : m ≡ 3 * recorded st → Quiet past (completed st Checkpoint) end (withWork idle b)
   complete e =
-      let landed : (j : ℕ) → j < 3 * recorded st → word img (checkpointAt st j) ≡ checkpointValue st img j =
-      λ j l. subst (λ (o : Op). word img (storeAt st o j) ≡ storeValue st img o j) is (B .landed j (omega arith)) in
       record {
         valid = checkpoint-valid st (B .valid) (B .durable .behind .sixteen);
         pending = refl;
-        durable = checkpointed-durable past st img b (B .durable) landed;
-        writers = checkpointed-writing past st img b (B .durable) landed (subst (λ (o : Op). Writing st img b (Changing o)) is (B .writers));
+        durable = checkpointed-durable past st img b (B .durable) (all-landed e);
+        writers = checkpointed-writing past st img b (B .durable) (all-landed e) (subst (λ (o : Op). Writing st img b (Changing o)) is (B .writers));
         work = refl;
       }
 
-  ends : m ≡ 3 * recorded st → Related past (stepped (worldOf st img)) (advances 1 (b .work) b)
-  ends e =
+  pub checkpoint-image : m ≡ 3 * recorded st → storeMade st img Checkpoint m ≡ end
+  checkpoint-image e =
       let g : Legal (st .sizes) = durable-legal past st img b (B .durable) in
       let full : Sixteen (st .table) = B .durable .behind .sixteen in
-      step-last past st img b Checkpoint nothing (store img tailWord (st .head)) is working (omega (arith, needed))
-      (ap (storeMade st img Checkpoint) e ∙ ap₂ (λ (a v : ℕ). store img a v) (at-tail st g full) (value-tail st g full img)) (complete e)
+      ap (storeMade st img Checkpoint) e ∙ ap₂ (λ (a v : ℕ). store img a v) (at-tail st g full) (value-tail st g full img)
+
+  ends : m ≡ 3 * recorded st → Related past (stepped (worldOf st img)) (advances 1 (b .work) b)
+  ends e = step-last past st img b Checkpoint nothing end is working (omega (arith, needed)) (checkpoint-image e) (complete e)
 
   pub step-checkpoint : Related past (stepped (worldOf st img)) (advances 1 (b .work) b)
   step-checkpoint =

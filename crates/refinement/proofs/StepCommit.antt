@@ -92,8 +92,8 @@ module _ (past : List ℕ) (st : State) (img : List ℕ) (b : Reference) (ok : s
     abbrev now : View
     now = appended (word img) before n new
 
-    shows : Shows headStored now
-    shows = append-view img before (own-shows past st img b D) n new can-append (omega (arith, whole)) landed
+    pub head-shows : Shows headStored now
+    head-shows = append-view img before (own-shows past st img b D) n new can-append (omega (arith, whole)) landed
 
     names : Once (frames z) (namesIn now)
     unfolding frameNames
@@ -120,7 +120,7 @@ module _ (past : List ℕ) (st : State) (img : List ℕ) (b : Reference) (ok : s
             bytes = bytes-store img headWord x (D .bytes);
             past-kept = drop-store img headWord x (imageLength z) fits (omega arith) ∙ D .past-kept;
             view = now;
-            shows = shows;
+            shows = head-shows;
             mounts = subst (λ (k : ℕ). Taken k now) (sym (length-store img headWord x fits)) takes;
             sizes-same = refl;
             head-same = refl;
@@ -241,7 +241,11 @@ module _ (past : List ℕ) (st : State) (img : List ℕ) (b : Reference) (B : Bu
             (λ c. rw c (writing .no-writes v p l i lv lp ll li (sym (keep v p l (eqb-false v w c)) ∙ h)));
       }
 
-  image-is : storeMade st img (Commit w) (st .pending .made) ≡ image
+  -- the records join what the image showed
+  pub commit-shows : Shows image (appended (word img) (ownView past st img b D₀) (count st w) (commitRecord st w))
+  commit-shows = head-shows past st img b (B .valid) D₀ w can done-ok all-landed
+
+  pub image-is : storeMade st img (Commit w) (st .pending .made) ≡ image
   image-is =
       ap (λ (m : ℕ). store img (commitAt st w m) (commitValue st w m)) last ∙ ap₂ (λ (a x : ℕ). store img a x) (at-head st w) (value-head st w)
 

@@ -10,13 +10,15 @@ use lib.ListN.{length}
 use borrow.Author.Tests.{ltb-true, ltb-false, eqb-true, eqb-false}
 use Rattle.bounded.specs.Rows.{refusal}
 use Rattle.bounded.proofs.Tests.{caseOn, and-left}
-use Rattle.layout.specs.Layout.{headWord, imageLength}
+use Rattle.layout.specs.Layout.{headWord, pageWord, imageLength}
 use Rattle.image.specs.Lines.{lineBytes}
 use Rattle.words.specs.Words.{word, store}
 use Rattle.journal.specs.declared.Slot.{Slot}
 use Rattle.journal.specs.Records.{position}
 use Rattle.replay.specs.Table.{slotIn}
 use Rattle.replay.proofs.Tables.{Sixteen}
+use Rattle.mount.proofs.Append.{appended}
+use Rattle.mount.proofs.View.{Shows}
 use Rattle.masks.specs.Lines.{inMask}
 use Rattle.state.specs.declared.State.{State}
 use Rattle.state.specs.declared.Op.{Op}
@@ -25,7 +27,7 @@ use Rattle.state.specs.Held.{heldAt}
 use Rattle.operations.specs.Operations.{slotFor, slotted, opRows, needs}
 use Rattle.operations.proofs.Taken.{ConsolidateTaken, consolidate-taken}
 use Rattle.refinement.specs.Frames.{pageSlot, otherFrame}
-use Rattle.refinement.specs.Consolidate.{copyFrom, copyStoreCount, freeingRecord, consolidateAt, consolidateValue, consolidateTable}
+use Rattle.refinement.specs.Consolidate.{copyTo, copyFrom, copyStoreCount, freeingRecord, consolidateAt, consolidateValue, consolidateTable}
 use Rattle.refinement.specs.Stores.{stepped, completed, storeAt, storeValue, storeMade}
 use Rattle.refinement.proofs.Pending.{Pends, pends}
 use Rattle.refinement.proofs.ConsolidateValid.{consolidate-valid}
@@ -37,10 +39,10 @@ use Rattle.refinement.proofs.Copies.{durable-fits}
 use Rattle.refinement.proofs.ConsolidateStores.{Part, part-of, at-head, value-head}
 use Rattle.refinement.proofs.ConsolidateSlot.{Freed, freed}
 use Rattle.refinement.proofs.ConsolidateMid.{held-other, consolidate-mid}
-use Rattle.refinement.proofs.ConsolidateLast.{frees-state, consolidated-durable}
+use Rattle.refinement.proofs.ConsolidateLast.{frees-state, frees-mounted, page-landed, freed-shows, consolidated-durable}
 use Rattle.refinement.proofs.FreeNames.{Frees, slot-gone, slot-kept, slot-in-kept}
 use Rattle.refinement.proofs.HeaderStore.{header-line}
-use Rattle.refinement.proofs.Stepping.{needs-made, step-mid}
+use Rattle.refinement.proofs.Stepping.{Mid, needs-made, step-mid}
 use Rattle.refinement.proofs.StepLast.{step-last}
 
 -- ---- the writers, when it is complete
@@ -124,7 +126,7 @@ module _ (past : List ℕ) (st : State) (img : List ℕ) (b : Reference) (B : Bu
   unfolding needs
   needed = refl
 
-  some-left : m < copyStoreCount t + 6
+  pub some-left : m < copyStoreCount t + 6
   some-left = subst (λ (n : ℕ). m < n) needed (under-way .made-low)
 
   working : b .work ≡ under nothing (needs st (Consolidate p) - m)
@@ -133,34 +135,52 @@ module _ (past : List ℕ) (st : State) (img : List ℕ) (b : Reference) (B : Bu
   part : (i : ℕ) → i < copyStoreCount t + 5 → Part t i
   part i l = part-of t i l
 
+  pub consolidate-between : m < copyStoreCount t + 5 → Mid past st img b (B .durable) (Consolidate p) m
+  consolidate-between l = consolidate-mid past st img b (B .valid) (B .durable) p F m (λ i h. part i (omega arith))
+
   goes-on : m < copyStoreCount t + 5 → Related past (stepped (worldOf st img)) (advances 1 (b .work) b)
   goes-on l =
       step-mid past st img b B nothing (Consolidate p) is refl working (omega (arith, needed))
-      (consolidate-mid past st img b (B .valid) (B .durable) p F m (λ i h. part i (omega arith)))
+      (consolidate-between l)
       (ap (λ (n : ℕ). under nothing (n - (m + 1))) (sym (needs-made st (m + 1) (Consolidate p))))
 
   abbrev after : List ℕ
   after = store img headWord (position (st .sizes) (st .head) 1)
 
+  all-landed : m ≡ copyStoreCount t + 5 → (j : ℕ) → j < copyStoreCount t + 5 → word img (consolidateAt st p j) ≡ consolidateValue st img p j
+  all-landed e j l = subst (λ (o : Op). word img (storeAt st o j) ≡ storeValue st img o j) is (B .landed j (omega arith))
+
+  sixteen : Sixteen (B .durable .view .table)
+  sixteen = view-sixteen img (B .durable .view) (B .durable .shows)
+
+  -- the freeing record joins what the image showed, the page's word is stored
+  pub consolidate-shows : m ≡ copyStoreCount t + 5 → Shows after (appended (word img) (B .durable .view) 1 (freeingRecord st p))
+  consolidate-shows e = freed-shows past st img b (B .valid) (B .durable) p F (all-landed e) sixteen
+
+  pub consolidate-page : m ≡ copyStoreCount t + 5 → word img (pageWord p) ≡ copyTo t
+  consolidate-page e = page-landed past st img b (B .valid) (B .durable) p F (all-landed e)
+
+  pub consolidate-frees : Frees (st .sizes) (st .head) (freeingRecord st p) (B .durable .view .table) (slotFor st p) p (copyFrom t)
+  consolidate-frees = frees-mounted past st img b (B .valid) (B .durable) p F sixteen
+
   complete : m ≡ copyStoreCount t + 5 → Quiet past (completed st (Consolidate p)) after (withWork idle b)
   complete e =
-      let landed : (j : ℕ) → j < copyStoreCount t + 5 → word img (consolidateAt st p j) ≡ consolidateValue st img p j =
-      λ j l. subst (λ (o : Op). word img (storeAt st o j) ≡ storeValue st img o j) is (B .landed j (omega arith)) in
       let full : Sixteen (st .table) = B .durable .behind .sixteen in
       record {
         valid = consolidate-valid st p (B .valid) full no-row;
         pending = refl;
-        durable = consolidated-durable past st img b (B .valid) (B .durable) p F landed (view-sixteen img (B .durable .view) (B .durable .shows));
+        durable = consolidated-durable past st img b (B .valid) (B .durable) p F (all-landed e) sixteen;
         writers =
             consolidated-writing st img b p (position (st .sizes) (st .head) 1) F (frees-state st p (B .valid) full F) (durable-fits past st img b (B .durable))
             (λ w q l c. c) (subst (λ (o : Op). Writing st img b (Changing o)) is (B .writers));
         work = refl;
       }
 
+  pub consolidate-image : m ≡ copyStoreCount t + 5 → storeMade st img (Consolidate p) m ≡ after
+  consolidate-image e = ap (storeMade st img (Consolidate p)) e ∙ ap₂ (λ (a v : ℕ). store img a v) (at-head st p) (value-head st p img)
+
   ends : m ≡ copyStoreCount t + 5 → Related past (stepped (worldOf st img)) (advances 1 (b .work) b)
-  ends e =
-      step-last past st img b (Consolidate p) nothing after is working (omega (arith, needed))
-      (ap (storeMade st img (Consolidate p)) e ∙ ap₂ (λ (a v : ℕ). store img a v) (at-head st p) (value-head st p img)) (complete e)
+  ends e = step-last past st img b (Consolidate p) nothing after is working (omega (arith, needed)) (consolidate-image e) (complete e)
 
   pub step-consolidate : Related past (stepped (worldOf st img)) (advances 1 (b .work) b)
   step-consolidate =

@@ -1,0 +1,252 @@
+-- Every call in two images that are alike, of the same state and the same reference machine: the same answer, and images alike again.
+use Prim.Native.Nat.{ℕ, _<_, min}
+use mathlib.Core.Bool.{Bool, true, false, cond, _||_}
+use mathlib.Core.List.{List, [], _∷_}
+use mathlib.Core.Path.{_≡_, refl, sym, ap, ap₂, _∙_}
+use native.Mathlib.Omega.{arith}
+use lib.Dec.{ltb, leb, eqb}
+use lib.ListN.{length, replicate}
+use borrow.Author.Tests.{eqb-true, le-ltb}
+use Rattle.bounded.specs.Rows.{Row, refusal}
+use Rattle.bounded.proofs.Rows.{none-apply}
+use Rattle.bounded.proofs.Tests.{caseOn}
+use Rattle.layout.specs.declared.Sizes.{Sizes}
+use Rattle.layout.specs.Layout.{imageLength}
+use Rattle.image.specs.Lines.{merged, lineWords}
+use Rattle.words.specs.Words.{word}
+use Rattle.replay.specs.declared.Table.{Table}
+use Rattle.replay.specs.Table.{slotOf}
+use Rattle.mount.specs.Mount.{sizesFrom}
+use Rattle.mount.proofs.View.{View, slot-none}
+use Rattle.state.specs.declared.State.{State}
+use Rattle.state.specs.declared.Op.{Op}
+use Rattle.state.specs.declared.Op.the-variants.{Write, Commit, Consolidate, Checkpoint}
+use Rattle.operations.specs.Operations.{slotFor, slotted, frameBad, commitRows, consolidateRows}
+use Rattle.operations.proofs.Taken.{args-good}
+use Rattle.refinement.specs.Frames.{pageFrame}
+use Rattle.refinement.specs.Mount.{quietState}
+use Rattle.refinement.specs.Outcome.{Outcome, answered}
+use Rattle.refinement.specs.Stores.{World, stepped, steppedBy, left}
+use Rattle.refinement.specs.Calls.{rowState, rowPending, rowNotPending, worldOf, asked, beginOf, abortOf, writeCallRows, finishedLine, writeOf, commitOf, consolidateOf, checkpointOf, readRows, readRow, readBytes, stepRows, stepRow, stepOf, stepBytes, runOf, runBytes}
+use Rattle.refinement.specs.Recall.{recallRow, recallBytes}
+use Rattle.refinement.specs.Run.{Call, Result, mount, checkpoint, step, begin, abort, commit, consolidate, run, write, read, recall, exec, result}
+use Rattle.refinement.specs.Reference.{Reference}
+use Rattle.refinement.proofs.Copies.{durable-legal, durable-fits}
+use Rattle.refinement.proofs.Invariant.{Durable, Never, Quiet, Busy, Related}
+use Rattle.refinement.proofs.MountCall.{mount-found}
+use Rattle.refinement.proofs.Mounted.{stateOf}
+use Rattle.refinement.proofs.ReadCall.{read-args, read-sound}
+use Rattle.refinement.proofs.RecallCall.{row-is, recall-sound}
+use Rattle.refinement.proofs.Seen.{seen-line}
+use Rattle.refinement.proofs.Sound.{is-quiet, is-busy, related-valid, related-durable}
+use Rattle.refinement.proofs.Stepping.{unslotted-durable}
+use Rattle.leftovers.specs.Leftovers.{Same}
+use Rattle.leftovers.proofs.Alike.{Alike}
+use Rattle.leftovers.proofs.OneStore.{shown-slots, one-store}
+use Rattle.leftovers.proofs.Runs.{run-state, run-alike}
+use Rattle.leftovers.proofs.SameRows.{same-refusal}
+
+-- equal outcomes, over any images
+by-outcome : {o p : Outcome} {x y : List ℕ} → o ≡ p → Same (result o x) (result p y)
+by-outcome e = record { number = ap (λ (o : Outcome). o .number) e; stores = ap (λ (o : Outcome). o .stores) e; target = refl; state = ap (λ (o : Outcome). o .state) e }
+
+-- an operation asked for: the finished line and the frame matter where it is taken
+asked-same : (st : State) (row : ℕ) (op : Op) (line line′ : List ℕ) (frame frame′ : ℕ) → (row ≡ 0 → (line ≡ line′) × (frame ≡ frame′))
+    → asked row st op line frame ≡ asked row st op line′ frame′
+asked-same st row op line line′ frame frame′ f =
+    caseOn (eqb row 0)
+    (λ t. let q = f (eqb-true row 0 t) in ap₂ (λ (l : List ℕ) (g : ℕ). asked row st op l g) (q .0) (q .1))
+    (λ t. rw t)
+
+-- images or targets that a taken call changes
+when-taken : {A : Type 0} (P : A → A → Type 0) (row row′ : ℕ) (a b c d : A) → row ≡ row′ → (row ≡ 0 → P a c) → P b d → P (cond (eqb row 0) a b) (cond (eqb row′ 0) c d)
+when-taken P row row′ a b c d e f g =
+    caseOn (eqb row 0)
+    (λ t. let u : eqb row′ 0 ≡ true = ap (λ (n : ℕ). eqb n 0) (sym e) ∙ t in rw (t, u) (f (eqb-true row 0 t)))
+    (λ t. let u : eqb row′ 0 ≡ false = ap (λ (n : ℕ). eqb n 0) (sym e) ∙ t in rw (t, u) g)
+
+module _ {past past′ : List ℕ} (st : State) (x y : List ℕ) (b : Reference) (h : Related past (worldOf st x) b) (k : Related past′ (worldOf st y) b) (same : Alike (st .sizes) x y) where
+  abbrev z : Sizes
+  z = st .sizes
+
+  abbrev v : World
+  v = worldOf st x
+
+  abbrev u : World
+  u = worldOf st y
+
+  abbrev D : Durable past st x b
+  D = related-durable st x b h
+
+  abbrev E : Durable past′ st y b
+  E = related-durable st y b k
+
+  -- row 4
+  short : ltb (length x) (imageLength z) ≡ ltb (length y) (imageLength z)
+  short = le-ltb (length x) (imageLength z) (durable-fits past st x b D) ∙ sym (le-ltb (length y) (imageLength z) (durable-fits past′ st y b E))
+
+  -- the frame of a page
+  frame : (p : ℕ) → p < z .pages → pageFrame st x p ≡ pageFrame st y p
+  unfolding pageFrame
+  frame p low =
+      caseOn (slotted st p)
+      (λ t. rw t)
+      (λ t.
+      let none : slotOf z (D .view .table) p ≡ z .slots = unslotted-durable (word x) z (D .view .table) (st .table) (durable-legal past st x b D) (D .behind) p low (slot-none z (st .table) p t) in
+      rw t (same .words p low (ap (λ (s : Table). slotOf z s p) (shown-slots x (D .view) (D .shows)) ∙ none)))
+
+  bad-same : (p : ℕ) → p < z .pages
+      → frameBad z (st .table .page) (st .table .original) (st .table .spare) (slotFor st p) (pageFrame st x p)
+      ≡ frameBad z (st .table .page) (st .table .original) (st .table .spare) (slotFor st p) (pageFrame st y p)
+  bad-same p low = ap (frameBad z (st .table .page) (st .table .original) (st .table .spare) (slotFor st p)) (frame p low)
+
+  -- what an image shows, under the state's own header
+  found-same : stateOf (D .view) ≡ stateOf (E .view)
+  found-same =
+      let e₀ = D .sizes-same ∙ sym (E .sizes-same) in
+      let e₁ = D .head-same ∙ sym (E .head-same) in
+      let e₂ = D .tail-same ∙ sym (E .tail-same) in
+      let e₃ = sym (shown-slots x (D .view) (D .shows)) ∙ same .table ∙ shown-slots y (E .view) (E .shows) in
+      λ i. quietState (e₀ i) (e₁ i) (e₂ i) (e₃ i)
+
+  mount-same : Same (exec mount v) (exec mount u)
+  unfolding exec
+  mount-same =
+      let m = mount-found v b h in
+      let n = mount-found u b k in
+      record {
+        number = ap (λ (d : Result). d .number) m ∙ sym (ap (λ (d : Result). d .number) n);
+        stores = ap (λ (d : Result). d .stores) m ∙ sym (ap (λ (d : Result). d .stores) n);
+        target = refl;
+        state = ap (λ (d : Result). d .world .st) m ∙ found-same ∙ sym (ap (λ (d : Result). d .world .st) n);
+      }
+
+  -- ---- operations asked for
+
+  write-same : (w p l o n : ℕ) (bytes : List ℕ) → writeOf st x w p l o n bytes ≡ writeOf st y w p l o n bytes
+  unfolding writeOf
+  write-same w p l o n bytes =
+      let row : ℕ = refusal (writeCallRows st x w p l o n bytes) in
+      let op : Op = Write w p l o n in
+      let e : row ≡ refusal (writeCallRows st y w p l o n bytes) =
+      same-refusal (writeCallRows st x w p l o n bytes) (writeCallRows st y w p l o n bytes)
+      (refl, refl, λ _. (short, refl, λ _. (refl, refl, λ _. (refl, refl, λ _. (refl, refl, λ f. (refl, refl, λ _. (refl, refl, λ _. (refl, refl, λ _. (bad-same p (args-good z w p l o n f .page-low), refl, λ _. tt))))))))) in
+      asked-same st row op (finishedLine st x w p l o n bytes) (finishedLine st y w p l o n bytes) (pageFrame st x p) (pageFrame st y p)
+      (λ q.
+      let rows = none-apply (writeCallRows st x w p l o n bytes) (omega arith) q in
+      let a = args-good z w p l o n (rows .1 .1 .1 .1 .0) in
+      let X : Quiet past st x b = is-quiet st x b h (rows .1 .1 .0) in
+      let Y : Quiet past′ st y b = is-quiet st y b k (rows .1 .1 .0) in (
+        ap (λ (line : List ℕ). lineWords (merged line o n bytes))
+            (seen-line st x b Never (X .durable) (X .writers) w p l (a .writer-low) (a .page-low) (a .line-low) (λ c. c)
+            ∙ sym (seen-line st y b Never (Y .durable) (Y .writers) w p l (a .writer-low) (a .page-low) (a .line-low) (λ c. c))),
+        frame p (a .page-low),
+      ))
+      ∙ ap (λ (r : ℕ). asked r st op (finishedLine st y w p l o n bytes) (pageFrame st y p)) e
+
+  -- the others read the image's length alone
+  rest-same : (rows : List Row) (op : Op)
+      → asked (refusal (rowState st ∷ (ltb (length x) (imageLength z), 4) ∷ rowPending st ∷ rows)) st op (replicate 8 0) 0
+      ≡ asked (refusal (rowState st ∷ (ltb (length y) (imageLength z), 4) ∷ rowPending st ∷ rows)) st op (replicate 8 0) 0
+  rest-same rows op = ap (λ (s : Bool). asked (refusal (rowState st ∷ (s, 4) ∷ rowPending st ∷ rows)) st op (replicate 8 0) 0) short
+
+  -- ---- read, recall
+
+  read-same : (w p l : ℕ) (target : List ℕ) → Same (exec (read w p l target) v) (exec (read w p l target) u)
+  unfolding exec readRow readBytes
+  read-same w p l target =
+      let e : readRow st x w p l target ≡ readRow st y w p l target =
+      same-refusal (readRows st x w p l target) (readRows st y w p l target)
+      (refl, refl, λ _. (short, refl, λ _. (refl, refl, λ _. (refl, refl, λ a. (bad-same p (read-args st w p l target a .1), refl, λ _. tt))))) in
+      record {
+        number = e;
+        stores = refl;
+        target =
+            caseOn (eqb (readRow st x w p l target) 0)
+            (λ t.
+            let q : readRow st x w p l target ≡ 0 = eqb-true (readRow st x w p l target) 0 t in
+            read-sound w p l target v b h .right q ∙ sym (read-sound w p l target u b k .right (sym e ∙ q)))
+            (λ t. let s : eqb (readRow st y w p l target) 0 ≡ false = ap (λ (n : ℕ). eqb n 0) (sym e) ∙ t in rw (t, s));
+        state = refl;
+      }
+
+  recall-same : (p l : ℕ) (target : List ℕ) → Same (exec (recall p l target) v) (exec (recall p l target) u)
+  unfolding exec recallBytes
+  recall-same p l target =
+      let sizes : sizesFrom (word x) ≡ sizesFrom (word y) = ap (λ (w : View). w .sizes) (D .shows) ∙ D .sizes-same ∙ sym (ap (λ (w : View). w .sizes) (E .shows) ∙ E .sizes-same) in
+      let e : recallRow x p l target ≡ recallRow y p l target =
+      row-is st x b (related-valid st x b h) D p l target
+      ∙ ap (λ (s : Sizes). cond (leb (s .pages) p || ltb 63 l || ltb (length target) 64) 11 0) sizes
+      ∙ sym (row-is st y b (related-valid st y b k) E p l target) in
+      record {
+        number = e;
+        stores = refl;
+        target =
+            caseOn (eqb (recallRow x p l target) 0)
+            (λ t.
+            let q : recallRow x p l target ≡ 0 = eqb-true (recallRow x p l target) 0 t in
+            recall-sound p l target v b h .right .1 q ∙ sym (recall-sound p l target u b k .right .1 (sym e ∙ q)))
+            (λ t. let s : eqb (recallRow y p l target) 0 ≡ false = ap (λ (n : ℕ). eqb n 0) (sym e) ∙ t in rw (t, s));
+        state = refl;
+      }
+
+  -- ---- step, run
+
+  row-same : stepRow st x ≡ stepRow st y
+  row-same = ap (λ (s : Bool). refusal (rowState st ∷ (s, 4) ∷ rowNotPending st ∷ [])) short
+
+  both-busy : stepRow st x ≡ 0 → Busy past st x b × Busy past′ st y b
+  both-busy e = let rows = none-apply (stepRows st x) (omega arith) e in (is-busy st x b h (rows .1 .1 .0), is-busy st y b k (rows .1 .1 .0))
+
+  step-same : stepOf st x ≡ stepOf st y
+  unfolding stepOf stepped
+  step-same = ap (λ (r : ℕ). answered r st 1 (stepped v .st)) row-same
+
+  step-alike : Alike z (stepBytes st x) (stepBytes st y)
+  unfolding stepBytes
+  step-alike =
+      when-taken (Alike z) (stepRow st x) (stepRow st y) (stepped v .image) x (stepped u .image) y row-same
+      (λ e. let q = both-busy e in one-store past past′ st x y b (q .0) (q .1) same) same
+
+  run-same : (n : ℕ) → runOf st x n ≡ runOf st y n
+  unfolding runOf
+  run-same n =
+      let m : ℕ = min n (left st) in
+      ap₂ (λ (r : ℕ) (s : State). answered r st m s) row-same (run-state m v u refl)
+
+  runs-alike : (n : ℕ) → Alike z (runBytes st x n) (runBytes st y n)
+  unfolding runBytes
+  runs-alike n =
+      let m : ℕ = min n (left st) in
+      when-taken (Alike z) (stepRow st x) (stepRow st y) (steppedBy m v .image) x (steppedBy m u .image) y row-same
+      (λ e. let q = both-busy e in run-alike past past′ st x y b (q .0) (q .1) same m (omega arith)) same
+
+  -- ---- every call
+
+  pub call-same : (c : Call) → Same (exec c v) (exec c u)
+  unfolding exec beginOf abortOf commitOf consolidateOf checkpointOf
+  call-same mount = mount-same
+  call-same checkpoint = by-outcome (rest-same [] Checkpoint)
+  call-same step = by-outcome step-same
+  call-same (begin w) = by-outcome refl
+  call-same (abort w) = by-outcome refl
+  call-same (commit w) = by-outcome (rest-same (commitRows st w) (Commit w))
+  call-same (consolidate p) = by-outcome (rest-same (consolidateRows st p) (Consolidate p))
+  call-same (run n) = by-outcome (run-same n)
+  call-same (write w p l o n bytes) = by-outcome (write-same w p l o n bytes)
+  call-same (read w p l target) = read-same w p l target
+  call-same (recall p l target) = recall-same p l target
+
+  pub call-alike : (c : Call) → Alike z (exec c v .world .image) (exec c u .world .image)
+  unfolding exec
+  call-alike mount = same
+  call-alike checkpoint = same
+  call-alike step = step-alike
+  call-alike (begin w) = same
+  call-alike (abort w) = same
+  call-alike (commit w) = same
+  call-alike (consolidate p) = same
+  call-alike (run n) = runs-alike n
+  call-alike (write w p l o n bytes) = same
+  call-alike (read w p l target) = same
+  call-alike (recall p l target) = same

@@ -1,0 +1,9 @@
+pub mod Alike
+pub mod OneStore
+pub mod Runs
+pub mod SameRows
+pub mod CallSame
+pub mod AfterMount
+pub mod Replaced
+pub mod Theorem
+pub mod EveryWord
