@@ -6,7 +6,7 @@ use mathlib.Core.Path.{_≡_, refl, sym, ap₂, _∙_}
 use native.Mathlib.Omega.{arith}
 use lib.Dec.{eqb, ltb}
 use lib.ListN.{set}
-use borrow.Author.Tests.{ne-eqb, eqb-true, not-false}
+use borrow.Author.Tests.{ne-eqb, eqb-true, ltb-false, not-false}
 use Rattle.bounded.specs.Rows.{Row, refusal}
 use Rattle.bounded.specs.Tab.{filled}
 use Rattle.bounded.proofs.Tests.{caseOn, row-keeps}
@@ -66,6 +66,13 @@ ask-none st n op e =
     let a = row-past (not (stateOk st)) 8 second (omega arith) e in
     let b = row-past (ltb n (imageLength (st .sizes))) 4 third (omega arith) (a .1) in
     let c = row-past (not (isIdle (st .pending .op))) 9 own (omega arith) (b .1) in (not-false (stateOk st) (a .0), c .1)
+
+-- and the buffer is long enough
+pub ask-long : (st : State) (n : ℕ) (op : Op) → refusal (quietRows st n ++ opRows st op 0) ≡ 0 → imageLength (st .sizes) ≤ n
+ask-long st n op e =
+    let third = cond (not (isIdle (st .pending .op))) 9 (refusal (opRows st op 0)) in
+    let second = cond (ltb n (imageLength (st .sizes))) 4 third in
+    ltb-false n (imageLength (st .sizes)) (row-past (ltb n (imageLength (st .sizes))) 4 third (omega arith) (row-past (not (stateOk st)) 8 second (omega arith) e .1) .0)
 
 -- a call that asks for an operation, with the rows rs
 module _ (st : State) (op : Op) (line : List ℕ) (frame : ℕ) (d : Done) (rs : List Row) where

@@ -28,7 +28,7 @@ pub fn pending_from(op: Op, line: [u64; 8], frame: usize) -> Pending
 }
 
 // The first row that turns a commit, a consolidation or a checkpoint back, of an image of n bytes.
-fn ask_row<'a>(
+pub fn ask_row<'a>(
     z: Sizes,
     head: usize,
     tail: usize,

@@ -1,10 +1,11 @@
-// The rounds. A round is three functions, each called at one place and ending in the next, and passes on what a call gave whole: the next call then reads
-// the state where it lies. Where room was wanted, which is rare, the round is ended in room.
+// The rounds. The state's arrays are kept here and lent to each call.
 ghost use Prim.Native.Nat.{_<_};
 use crate::room;
-use answers::Done;
 use layout::Sizes;
+use replay::Table;
 use state::State;
+use state::Writers;
+use stores::Places;
 
 // The state after the rounds, and the stores that they made.
 pub struct Played {
@@ -29,77 +30,133 @@ fn pair_of(r: usize, stay: usize) -> usize
     r / stay % 8
 }
 
-// The round's commit.
-fn close(image: &mut [u8; 84288], stores: &mut u64, before: Done) -> Done {
-    let done = transactions::commit(before.state, image, 0);
-    let answer = done.answer;
-    if room::is_wanted(answer) {
-        return room::commit(image, stores, done.state);
-    }
-    let done = stepping::run(done.state, image, 1000);
-    let answer = done.answer;
-    room::count(stores, answer);
-    done
-}
-
-// The round from its second write on.
-fn go_on(
+// Round r: one of 24 lines of the pair's first page, as meters are, and the next of the 64 of its second, as a history is.
+fn round(
     image: &mut [u8; 84288],
     stores: &mut u64,
-    before: Done,
-    page: usize,
-    line: usize,
-    data: &[u8; 64],
-) -> Done {
-    let done = transactions::write(before.state, image, 0, page, line, 0, 64, data);
-    let answer = done.answer;
-    if room::is_wanted(answer) {
-        let st = room::write(image, stores, done.state, page, line, data);
-        return room::commit_whole(image, stores, st);
-    }
-    let done = stepping::run(done.state, image, 1000);
-    let answer = done.answer;
-    room::count(stores, answer);
-    close(image, stores, done)
-}
-
-// Round r: one of 24 lines of the pair's first page, as meters are, and the next of the 64 of its second, as a history is.
-fn round(image: &mut [u8; 84288], stores: &mut u64, before: Done, r: usize, stay: usize) -> Done {
-    let page = 2 * pair_of(r, stay);
-    let next = page + 1;
+    z: Sizes,
+    at: Places,
+    page: &mut [usize; 16],
+    original: &mut [usize; 16],
+    spare: &mut [usize; 16],
+    bitmap: &mut [u64; 16],
+    last: &mut [usize; 16],
+    opened: &mut [bool; 4],
+    held: &mut [u64; 64],
+    r: usize,
+    stay: usize,
+) -> Places {
+    let p = 2 * pair_of(r, stay);
+    let next = p + 1;
     let v = 2 * (r as u64 % 4294967296);
+    writers_in_place::begin(z, at, page, original, spare, bitmap, last, opened, held, 0);
     let one = line_of(v + 1);
+    let at = room::write(
+        image,
+        stores,
+        z,
+        at,
+        page,
+        original,
+        spare,
+        bitmap,
+        last,
+        opened,
+        held,
+        p,
+        r % 24,
+        &one,
+    );
     let two = line_of(v + 2);
-    let done = writers::begin(before.state, 0);
-    let done = transactions::write(done.state, image, 0, page, r % 24, 0, 64, &one);
-    let answer = done.answer;
-    if room::is_wanted(answer) {
-        let st = room::write(image, stores, done.state, page, r % 24, &one);
-        let st = room::write_whole(image, stores, st, next, r % 64, &two);
-        return room::commit_whole(image, stores, st);
-    }
-    let done = stepping::run(done.state, image, 1000);
-    let answer = done.answer;
-    room::count(stores, answer);
-    go_on(image, stores, done, next, r % 64, &two)
+    let at = room::write(
+        image,
+        stores,
+        z,
+        at,
+        page,
+        original,
+        spare,
+        bitmap,
+        last,
+        opened,
+        held,
+        next,
+        r % 64,
+        &two,
+    );
+    room::commit(
+        image,
+        stores,
+        z,
+        at,
+        page,
+        original,
+        spare,
+        bitmap,
+        last,
+        opened,
+        held,
+    )
 }
 
 // A fresh store with n rounds played.
 pub fn rounds(image: &mut [u8; 84288], n: usize, stay: usize) -> Played {
-    let mut done = mounting::format(
-        image,
-        Sizes {
-            pages: 16,
-            slots: 4,
-            places: 64,
-        },
-    );
+    let z = Sizes {
+        pages: 16,
+        slots: 4,
+        places: 64,
+    };
+    let done = mounting::format(image, z);
+    let fresh = done.state;
+    let mut page = fresh.table.page;
+    let mut original = fresh.table.original;
+    let mut spare = fresh.table.spare;
+    let mut bitmap = fresh.table.bitmap;
+    let mut last = fresh.table.last;
+    let mut opened = fresh.writers.opened;
+    let mut held = fresh.writers.held;
+    let mut at = Places {
+        head: fresh.head,
+        tail: fresh.tail,
+        next: fresh.next,
+    };
     let mut stores = 0;
     let mut r = 0;
     while r < n {
-        done = round(image, &mut stores, done, r, stay);
+        at = round(
+            image,
+            &mut stores,
+            z,
+            at,
+            &mut page,
+            &mut original,
+            &mut spare,
+            &mut bitmap,
+            &mut last,
+            &mut opened,
+            &mut held,
+            r,
+            stay,
+        );
         r += 1;
     }
-    let state = done.state;
+    let table = Table {
+        page,
+        original,
+        spare,
+        bitmap,
+        last,
+    };
+    let writers = Writers { opened, held };
+    let pending = settled::no_pending();
+    let state = State {
+        sizes: z,
+        head: at.head,
+        tail: at.tail,
+        next: at.next,
+        table,
+        writers,
+        pending,
+    };
     Played { state, stores }
 }

@@ -3,15 +3,10 @@ ghost use mathlib.Core.Path.{_≡_};
 ghost use Prim.Native.Nat.{_+_, _%_};
 ghost use lib.ListN.{getD};
 use answers::Answer;
-use answers::Done;
 use answers::number_of;
-use state::State;
-
-// Whether a call was refused for want of room.
-pub fn is_wanted(a: Answer) -> bool {
-    let row = number_of(a);
-    (row == 15) | (row == 19)
-}
+use in_place::Went;
+use layout::Sizes;
+use stores::Places;
 
 // The stores of a taken call.
 fn stores_in(a: Answer) -> u64 {
@@ -22,39 +17,167 @@ fn stores_in(a: Answer) -> u64 {
     }
 }
 
-// Counts the stores of a run.
-pub fn count(stores: &mut u64, a: Answer) {
+// Counts the stores of a call.
+fn count(stores: &mut u64, a: Answer) {
     *stores = std::num::wrapping_add_u64(*stores, stores_in(a));
 }
 
-// Runs what is pending to its end. No operation needs 1,000 stores.
-fn run_done(image: &mut [u8; 84288], stores: &mut u64, st: State) -> Done {
-    let done = stepping::run(st, image, 1000);
-    let answer = done.answer;
+// Empties the journal.
+fn empty_journal(
+    image: &mut [u8; 84288],
+    stores: &mut u64,
+    z: Sizes,
+    at: Places,
+    page: &mut [usize; 16],
+    original: &mut [usize; 16],
+    spare: &mut [usize; 16],
+    bitmap: &mut [u64; 16],
+    last: &mut [usize; 16],
+    opened: &mut [bool; 4],
+    held: &mut [u64; 64],
+) -> Places {
+    let went = operations_in_place::checkpoint(
+        image,
+        z,
+        at,
+        page,
+        original,
+        spare,
+        bitmap,
+        last,
+        opened,
+        held,
+    );
+    let answer = went.answer;
     count(stores, answer);
-    done
+    went.to
 }
 
-// The same, and the state after it.
-fn run_whole(image: &mut [u8; 84288], stores: &mut u64, st: State) -> State {
-    run_done(image, stores, st).state
-}
-
-// Checkpoints.
-fn empty_journal(image: &mut [u8; 84288], stores: &mut u64, st: State) -> State {
-    let done = transactions::checkpoint(st, image);
-    run_whole(image, stores, done.state)
-}
-
-// Asks for a consolidation, after a checkpoint where the journal is full.
-fn consolidate(image: &mut [u8; 84288], stores: &mut u64, st: State, page: usize) -> Done {
-    let done = transactions::consolidate(st, image, page);
-    let answer = done.answer;
+// Commits, after a checkpoint where the journal is full.
+pub fn commit(
+    image: &mut [u8; 84288],
+    stores: &mut u64,
+    z: Sizes,
+    at: Places,
+    page: &mut [usize; 16],
+    original: &mut [usize; 16],
+    spare: &mut [usize; 16],
+    bitmap: &mut [u64; 16],
+    last: &mut [usize; 16],
+    opened: &mut [bool; 4],
+    held: &mut [u64; 64],
+) -> Places {
+    let went = operations_in_place::commit(
+        image,
+        z,
+        at,
+        page,
+        original,
+        spare,
+        bitmap,
+        last,
+        opened,
+        held,
+        0,
+    );
+    let answer = went.answer;
+    count(stores, answer);
     if number_of(answer) != 19 {
-        return done;
+        return went.to;
     }
-    let st = empty_journal(image, stores, st);
-    transactions::consolidate(st, image, page)
+    let at = empty_journal(
+        image,
+        stores,
+        z,
+        at,
+        page,
+        original,
+        spare,
+        bitmap,
+        last,
+        opened,
+        held,
+    );
+    let went = operations_in_place::commit(
+        image,
+        z,
+        at,
+        page,
+        original,
+        spare,
+        bitmap,
+        last,
+        opened,
+        held,
+        0,
+    );
+    let answer = went.answer;
+    count(stores, answer);
+    went.to
+}
+
+// Consolidates, after a checkpoint where the journal is full.
+fn consolidate(
+    image: &mut [u8; 84288],
+    stores: &mut u64,
+    z: Sizes,
+    at: Places,
+    page: &mut [usize; 16],
+    original: &mut [usize; 16],
+    spare: &mut [usize; 16],
+    bitmap: &mut [u64; 16],
+    last: &mut [usize; 16],
+    opened: &mut [bool; 4],
+    held: &mut [u64; 64],
+    p: usize,
+) -> Went {
+    let went = operations_in_place::consolidate(
+        image,
+        z,
+        at,
+        page,
+        original,
+        spare,
+        bitmap,
+        last,
+        opened,
+        held,
+        p,
+    );
+    let answer = went.answer;
+    count(stores, answer);
+    if number_of(answer) != 19 {
+        return went;
+    }
+    let at = empty_journal(
+        image,
+        stores,
+        z,
+        at,
+        page,
+        original,
+        spare,
+        bitmap,
+        last,
+        opened,
+        held,
+    );
+    let went = operations_in_place::consolidate(
+        image,
+        z,
+        at,
+        page,
+        original,
+        spare,
+        bitmap,
+        last,
+        opened,
+        held,
+        p,
+    );
+    let answer = went.answer;
+    count(stores, answer);
+    went
 }
 
 // The page in the slot k places on from next, of four, going round.
@@ -65,66 +188,119 @@ fn page_after(page: &[usize; 16], next: usize, k: usize) -> usize
 }
 
 // Frees the first slot, going round from the next one to try, of whose page no line is held.
-fn free_slot(image: &mut [u8; 84288], stores: &mut u64, st: State) -> State {
-    let mut st = st;
+fn free_slot(
+    image: &mut [u8; 84288],
+    stores: &mut u64,
+    z: Sizes,
+    at: Places,
+    page: &mut [usize; 16],
+    original: &mut [usize; 16],
+    spare: &mut [usize; 16],
+    bitmap: &mut [u64; 16],
+    last: &mut [usize; 16],
+    opened: &mut [bool; 4],
+    held: &mut [u64; 64],
+) -> Places {
+    let mut at = at;
     let mut k = 0;
     while k < 4 {
-        let page = page_after(&st.table.page, st.next, k);
-        let done = consolidate(image, stores, st, page);
-        let answer = done.answer;
+        let p = page_after(page, at.next, k);
+        let went = consolidate(
+            image,
+            stores,
+            z,
+            at,
+            page,
+            original,
+            spare,
+            bitmap,
+            last,
+            opened,
+            held,
+            p,
+        );
+        let answer = went.answer;
+        at = went.to;
         if number_of(answer) == 0 {
-            return run_whole(image, stores, done.state);
+            return at;
         }
-        st = done.state;
         k += 1;
     }
-    st
+    at
 }
 
-// Writes a line where no slot is free.
+// Writes a line, and frees a slot where none is free.
 pub fn write(
     image: &mut [u8; 84288],
     stores: &mut u64,
-    st: State,
-    page: usize,
+    z: Sizes,
+    at: Places,
+    page: &mut [usize; 16],
+    original: &mut [usize; 16],
+    spare: &mut [usize; 16],
+    bitmap: &mut [u64; 16],
+    last: &mut [usize; 16],
+    opened: &mut [bool; 4],
+    held: &mut [u64; 64],
+    p: usize,
     line: usize,
     data: &[u8; 64],
-) -> State {
-    let st = free_slot(image, stores, st);
-    let done = transactions::write(st, image, 0, page, line, 0, 64, data);
-    run_whole(image, stores, done.state)
-}
-
-// Commits where the journal is full.
-pub fn commit(image: &mut [u8; 84288], stores: &mut u64, st: State) -> Done {
-    let st = empty_journal(image, stores, st);
-    let done = transactions::commit(st, image, 0);
-    run_done(image, stores, done.state)
-}
-
-// Writes a line, and makes room where there is none.
-pub fn write_whole(
-    image: &mut [u8; 84288],
-    stores: &mut u64,
-    st: State,
-    page: usize,
-    line: usize,
-    data: &[u8; 64],
-) -> State {
-    let done = transactions::write(st, image, 0, page, line, 0, 64, data);
-    let answer = done.answer;
-    if is_wanted(answer) {
-        return write(image, stores, done.state, page, line, data);
+) -> Places {
+    let went = write_in_place::write(
+        image,
+        z,
+        at,
+        page,
+        original,
+        spare,
+        bitmap,
+        last,
+        opened,
+        held,
+        0,
+        p,
+        line,
+        0,
+        64,
+        data,
+    );
+    let answer = went.answer;
+    count(stores, answer);
+    if number_of(answer) != 15 {
+        return went.to;
     }
-    run_whole(image, stores, done.state)
-}
-
-// Commits, and makes room where there is none.
-pub fn commit_whole(image: &mut [u8; 84288], stores: &mut u64, st: State) -> Done {
-    let done = transactions::commit(st, image, 0);
-    let answer = done.answer;
-    if is_wanted(answer) {
-        return commit(image, stores, done.state);
-    }
-    run_done(image, stores, done.state)
+    let at = free_slot(
+        image,
+        stores,
+        z,
+        at,
+        page,
+        original,
+        spare,
+        bitmap,
+        last,
+        opened,
+        held,
+    );
+    let went = write_in_place::write(
+        image,
+        z,
+        at,
+        page,
+        original,
+        spare,
+        bitmap,
+        last,
+        opened,
+        held,
+        0,
+        p,
+        line,
+        0,
+        64,
+        data,
+    );
+    let answer = went.answer;
+    count(stores, answer);
+    went.to
 }

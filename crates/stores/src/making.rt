@@ -15,7 +15,7 @@ use state::Op;
 use state::Pending;
 
 // Makes the next n stores of the pending operation.
-fn make_stores<'a>(
+pub fn make_stores<'a>(
     image: &mut [u8],
     z: Sizes,
     head: usize,

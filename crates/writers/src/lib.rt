@@ -11,7 +11,7 @@ use state::Pending;
 use state::State;
 
 // The first row that turns back begin, which wants the writer closed, or abort, which wants it open.
-fn writer_row<'a>(
+pub fn writer_row<'a>(
     z: Sizes,
     head: usize,
     tail: usize,

@@ -1,0 +1,188 @@
+// A commit, a consolidation and a checkpoint on lent arrays, each run to its end.
+ghost use mathlib.Core.Path.{_≡_};
+ghost use mathlib.Core.Bool.{false};
+ghost use lib.ListN.{length};
+ghost use Rattle.operations.specs.Operations.{isIdle};
+ghost use Rattle.refinement.specs.Calls.{commitOf, consolidateOf, checkpointOf};
+ghost use Rattle.in_place.specs.Through.{Through, quietAt, wentTo, askedOf};
+use answers::Answer;
+use in_place::Went;
+use layout::Sizes;
+use state::Op;
+use stores::Places;
+
+// Asks for a commit, a consolidation or a checkpoint, and runs it to its end.
+fn ask(
+    image: &mut [u8],
+    z: Sizes,
+    at: Places,
+    page: &mut [usize; 16],
+    original: &mut [usize; 16],
+    spare: &mut [usize; 16],
+    bitmap: &mut [u64; 16],
+    last: &mut [usize; 16],
+    opened: &mut [bool; 4],
+    held: &mut [u64; 64],
+    op: Op,
+) -> Went
+    requires { ⌜ isIdle op ≡ false ⌝ }
+    ensures { λ r. ⌜ Through (wentTo z r (now (page .exit)) (now (original .exit)) (now (spare .exit)) (now (bitmap .exit)) (now (last .exit)) (now (opened .exit)) (now (held .exit))) (now (image .exit)) (askedOf (quietAt z at (now (page .entry)) (now (original .entry)) (now (spare .entry)) (now (bitmap .entry)) (now (last .entry)) (now (opened .entry)) (now (held .entry))) (length (now (image .entry))) op) (now (image .entry)) ⌝ }
+{
+    let idle = settled::no_pending();
+    let n = image.len();
+    let row = asking::ask_row(
+        z,
+        at.head,
+        at.tail,
+        at.next,
+        page,
+        original,
+        spare,
+        bitmap,
+        last,
+        opened,
+        held,
+        idle,
+        op,
+        n,
+    );
+    if row != 0 {
+        let answer = answers::answer_of(row, 0);
+        return Went { answer, to: at };
+    }
+    let needed = needs::op_needs(z, at.head, at.tail, page, bitmap, last, held, op);
+    let pending = asking::pending_from(op, [0; 8], 0);
+    if needed == 0 {
+        let to = stores::complete(
+            z,
+            at.head,
+            at.tail,
+            at.next,
+            page,
+            original,
+            spare,
+            bitmap,
+            last,
+            opened,
+            held,
+            pending,
+        );
+        return Went {
+            answer: Answer::Taken(0),
+            to,
+        };
+    }
+    let to = in_place::make_all(
+        image,
+        z,
+        at,
+        page,
+        original,
+        spare,
+        bitmap,
+        last,
+        opened,
+        held,
+        pending,
+        needed,
+    );
+    Went {
+        answer: Answer::Taken(needed),
+        to,
+    }
+}
+
+// Commits.
+pub fn commit(
+    image: &mut [u8],
+    z: Sizes,
+    at: Places,
+    page: &mut [usize; 16],
+    original: &mut [usize; 16],
+    spare: &mut [usize; 16],
+    bitmap: &mut [u64; 16],
+    last: &mut [usize; 16],
+    opened: &mut [bool; 4],
+    held: &mut [u64; 64],
+    writer: usize,
+) -> Went
+    ensures { λ r. ⌜ Through (wentTo z r (now (page .exit)) (now (original .exit)) (now (spare .exit)) (now (bitmap .exit)) (now (last .exit)) (now (opened .exit)) (now (held .exit))) (now (image .exit)) (commitOf (quietAt z at (now (page .entry)) (now (original .entry)) (now (spare .entry)) (now (bitmap .entry)) (now (last .entry)) (now (opened .entry)) (now (held .entry))) (now (image .entry)) writer) (now (image .entry)) ⌝ }
+{
+    let op = Op::Commit { writer };
+    ask(
+        image,
+        z,
+        at,
+        page,
+        original,
+        spare,
+        bitmap,
+        last,
+        opened,
+        held,
+        op,
+    )
+}
+
+// Consolidates a page.
+pub fn consolidate(
+    image: &mut [u8],
+    z: Sizes,
+    at: Places,
+    page: &mut [usize; 16],
+    original: &mut [usize; 16],
+    spare: &mut [usize; 16],
+    bitmap: &mut [u64; 16],
+    last: &mut [usize; 16],
+    opened: &mut [bool; 4],
+    held: &mut [u64; 64],
+    p: usize,
+) -> Went
+    ensures { λ r. ⌜ Through (wentTo z r (now (page .exit)) (now (original .exit)) (now (spare .exit)) (now (bitmap .exit)) (now (last .exit)) (now (opened .exit)) (now (held .exit))) (now (image .exit)) (consolidateOf (quietAt z at (now (page .entry)) (now (original .entry)) (now (spare .entry)) (now (bitmap .entry)) (now (last .entry)) (now (opened .entry)) (now (held .entry))) (now (image .entry)) p) (now (image .entry)) ⌝ }
+{
+    let op = Op::Consolidate { page: p };
+    ask(
+        image,
+        z,
+        at,
+        page,
+        original,
+        spare,
+        bitmap,
+        last,
+        opened,
+        held,
+        op,
+    )
+}
+
+// Checkpoints.
+pub fn checkpoint(
+    image: &mut [u8],
+    z: Sizes,
+    at: Places,
+    page: &mut [usize; 16],
+    original: &mut [usize; 16],
+    spare: &mut [usize; 16],
+    bitmap: &mut [u64; 16],
+    last: &mut [usize; 16],
+    opened: &mut [bool; 4],
+    held: &mut [u64; 64],
+) -> Went
+    ensures { λ r. ⌜ Through (wentTo z r (now (page .exit)) (now (original .exit)) (now (spare .exit)) (now (bitmap .exit)) (now (last .exit)) (now (opened .exit)) (now (held .exit))) (now (image .exit)) (checkpointOf (quietAt z at (now (page .entry)) (now (original .entry)) (now (spare .entry)) (now (bitmap .entry)) (now (last .entry)) (now (opened .entry)) (now (held .entry))) (now (image .entry))) (now (image .entry)) ⌝ }
+{
+    let op = Op::Checkpoint;
+    ask(
+        image,
+        z,
+        at,
+        page,
+        original,
+        spare,
+        bitmap,
+        last,
+        opened,
+        held,
+        op,
+    )
+}

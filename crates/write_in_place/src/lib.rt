@@ -1,0 +1,84 @@
+// A write on lent arrays, run to its end.
+ghost use Rattle.refinement.specs.Calls.{writeOf};
+ghost use Rattle.in_place.specs.Through.{Through, quietAt, wentTo};
+use answers::Answer;
+use in_place::Went;
+use layout::Sizes;
+use state::Op;
+use stores::Places;
+
+// Writes the data's first length bytes.
+pub fn write(
+    image: &mut [u8],
+    z: Sizes,
+    at: Places,
+    page: &mut [usize; 16],
+    original: &mut [usize; 16],
+    spare: &mut [usize; 16],
+    bitmap: &mut [u64; 16],
+    last: &mut [usize; 16],
+    opened: &mut [bool; 4],
+    held: &mut [u64; 64],
+    writer: usize,
+    p: usize,
+    line: usize,
+    offset: usize,
+    length: usize,
+    data: &[u8],
+) -> Went
+    ensures { λ r. ⌜ Through (wentTo z r (now (page .exit)) (now (original .exit)) (now (spare .exit)) (now (bitmap .exit)) (now (last .exit)) (now (opened .exit)) (now (held .exit))) (now (image .exit)) (writeOf (quietAt z at (now (page .entry)) (now (original .entry)) (now (spare .entry)) (now (bitmap .entry)) (now (last .entry)) (now (opened .entry)) (now (held .entry))) (now (image .entry)) writer p line offset length (now («data» .entry))) (now (image .entry)) ⌝ }
+{
+    let idle = settled::no_pending();
+    let found = finding::write_found(
+        z,
+        at.head,
+        at.tail,
+        at.next,
+        page,
+        original,
+        spare,
+        bitmap,
+        last,
+        opened,
+        held,
+        idle,
+        image,
+        writer,
+        p,
+        line,
+        offset,
+        length,
+        data,
+    );
+    if found.row != 0 {
+        let answer = answers::answer_of(found.row, 0);
+        return Went { answer, to: at };
+    }
+    let words = lines::merged_line(image, z, found.seen, line, offset, data, length);
+    let op = Op::Write {
+        writer,
+        page: p,
+        line,
+        offset,
+        length,
+    };
+    let pending = asking::pending_from(op, words, found.frame);
+    let to = in_place::make_all(
+        image,
+        z,
+        at,
+        page,
+        original,
+        spare,
+        bitmap,
+        last,
+        opened,
+        held,
+        pending,
+        8,
+    );
+    Went {
+        answer: Answer::Taken(8),
+        to,
+    }
+}

@@ -1,0 +1,86 @@
+// Begin and abort on lent arrays.
+ghost use mathlib.Core.Path.{_≡_};
+ghost use Rattle.refinement.specs.Calls.{beginOf, abortOf};
+ghost use Rattle.in_place.specs.Through.{quietAt, answeredAt};
+use answers::Answer;
+use layout::Sizes;
+use stores::Places;
+
+// Opens a writer.
+pub fn begin<'a>(
+    z: Sizes,
+    at: Places,
+    page: &'a [usize; 16],
+    original: &'a [usize; 16],
+    spare: &'a [usize; 16],
+    bitmap: &'a [u64; 16],
+    last: &'a [usize; 16],
+    opened: &mut [bool; 4],
+    held: &'a [u64; 64],
+    writer: usize,
+) -> Answer
+    ensures { λ r. ⌜ answeredAt r (quietAt z at (now (page .entry)) (now (original .entry)) (now (spare .entry)) (now (bitmap .entry)) (now (last .entry)) (now (opened .exit)) (now (held .entry))) ≡ beginOf (quietAt z at (now (page .entry)) (now (original .entry)) (now (spare .entry)) (now (bitmap .entry)) (now (last .entry)) (now (opened .entry)) (now (held .entry))) writer ⌝ }
+{
+    let idle = settled::no_pending();
+    let row = writers::writer_row(
+        z,
+        at.head,
+        at.tail,
+        at.next,
+        page,
+        original,
+        spare,
+        bitmap,
+        last,
+        opened,
+        held,
+        idle,
+        writer,
+        false,
+    );
+    if row != 0 {
+        return answers::answer_of(row, 0);
+    }
+    state::held::set_open(opened, writer, true);
+    Answer::Taken(0)
+}
+
+// Closes a writer and empties its held lines.
+pub fn abort<'a>(
+    z: Sizes,
+    at: Places,
+    page: &'a [usize; 16],
+    original: &'a [usize; 16],
+    spare: &'a [usize; 16],
+    bitmap: &'a [u64; 16],
+    last: &'a [usize; 16],
+    opened: &mut [bool; 4],
+    held: &mut [u64; 64],
+    writer: usize,
+) -> Answer
+    ensures { λ r. ⌜ answeredAt r (quietAt z at (now (page .entry)) (now (original .entry)) (now (spare .entry)) (now (bitmap .entry)) (now (last .entry)) (now (opened .exit)) (now (held .exit))) ≡ abortOf (quietAt z at (now (page .entry)) (now (original .entry)) (now (spare .entry)) (now (bitmap .entry)) (now (last .entry)) (now (opened .entry)) (now (held .entry))) writer ⌝ }
+{
+    let idle = settled::no_pending();
+    let row = writers::writer_row(
+        z,
+        at.head,
+        at.tail,
+        at.next,
+        page,
+        original,
+        spare,
+        bitmap,
+        last,
+        opened,
+        held,
+        idle,
+        writer,
+        true,
+    );
+    if row != 0 {
+        return answers::answer_of(row, 0);
+    }
+    state::held::set_open(opened, writer, false);
+    state::held::let_go(z, held, writer);
+    Answer::Taken(0)
+}
