@@ -11,6 +11,6 @@ rm -rf "$work"/crates/*/must-fail
 for folder in tests/more_edits/*/; do
     cp -a "$folder" "$work/crates/$(basename "$folder")/must-fail"
 done
-if [ -d target ]; then cp -al target "$work/target" 2>/dev/null || cp -a target "$work/target"; fi
+if [ -d target ]; then cp -a target "$work/target"; fi
 cd "$work"
 rt must-fail
