@@ -6,6 +6,7 @@ pub mod Consolidate
 pub mod Checkpoint
 pub mod Stores
 pub mod Outcome
+pub mod Freeing
 pub mod Calls
 pub mod Mount
 pub mod Recall
@@ -13,3 +14,4 @@ pub mod Run
 pub mod Reference
 pub mod Statement
 pub mod Beside
+pub mod Freed
