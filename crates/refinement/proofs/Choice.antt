@@ -1,13 +1,13 @@
 -- The slot to free: its page has no other slot, so the rows of its consolidation are those that are left.
-use Prim.Native.Nat.{ℕ, _<_, _≤_}
-use mathlib.Core.Bool.{Bool, true, false, _&&_, not}
-use mathlib.Core.List.{List, [], _∷_}
+use Prim.Native.Nat.{ℕ, _<_}
+use mathlib.Core.Bool.{Bool, true, false, not}
+use mathlib.Core.List.{List}
 use mathlib.Core.Logic.{⊎-elim}
 use mathlib.Core.Path.{_≡_, refl, sym, ap, _∙_}
 use native.Mathlib.Omega.{arith}
 use lib.Dec.{eqb, leb, ltb}
 use lib.ListN.{getD}
-use borrow.Author.Tests.{eqb-true, eqb-false, eq-eqb, leb-false, lt-leb, lt-ltb, not-true, not-false}
+use borrow.Author.Tests.{eqb-true, eq-eqb, leb-false, lt-leb, lt-ltb, not-true, not-false}
 use Rattle.bounded.specs.Rows.{refusal}
 use Rattle.bounded.proofs.Below.{none-at, none-made}
 use Rattle.bounded.proofs.Least.{Least, least-finds}

@@ -1,6 +1,6 @@
 -- The call that frees a slot keeps its promise: the slot chosen is the one that there is to choose, and the call is its consolidation.
 use Prim.Native.Nat.{ℕ, _<_, _≤_}
-use mathlib.Core.Bool.{Bool, true, false, not, cond}
+use mathlib.Core.Bool.{Bool, true, false, not}
 use mathlib.Core.List.{List, [], _∷_}
 use mathlib.Core.Logic.{inl, inr}
 use mathlib.Core.Path.{_≡_, refl, sym, ap, _∙_}
@@ -8,7 +8,7 @@ use native.Mathlib.Omega.{arith}
 use native.Mathlib.Nat.{le-antisymm}
 use lib.Dec.{leb, ltb}
 use lib.ListN.{length, getD, replicate}
-use borrow.Author.Tests.{leb-true, leb-false, le-leb, lt-leb, ltb-true, ltb-false}
+use borrow.Author.Tests.{leb-true, leb-false, lt-leb, ltb-true, ltb-false}
 use Rattle.bounded.specs.Rows.{refusal}
 use Rattle.bounded.proofs.Rows.{none-apply, row-at}
 use Rattle.bounded.proofs.Tests.{caseOn, contradicts}
@@ -18,8 +18,10 @@ use Rattle.state.specs.declared.Op.the-variants.{Consolidate}
 use Rattle.operations.specs.Operations.{isIdle, journalFull}
 use Rattle.validity.specs.Validity.{stateOk}
 use Rattle.refinement.specs.Freeing.{freedSlot, freedPage, Freeable, Chosen}
-use Rattle.refinement.specs.Freed.{Frees, FreesSlot}
-use Rattle.refinement.specs.Calls.{quietRows, asked, consolidateCallRows, freeCallRows, consolidateOf, freeOf}
+use Rattle.refinement.specs.Freed.{FreesSlot}
+use Rattle.refinement.specs.Outcome.{Outcome}
+use Rattle.refinement.specs.Run.{Call, consolidate, free, result, exec, after}
+use Rattle.refinement.specs.Calls.{quietRows, worldOf, asked, consolidateCallRows, freeCallRows, consolidateOf, freeOf}
 use Rattle.refinement.proofs.Choice.{finds, freeable, may-free, page-fits, has-slot, none-held}
 
 module _ (st : State) where
@@ -73,6 +75,10 @@ module _ (st : State) where
         let o = one-choice s c in
         same (o .0) ∙ ap (λ (k : ℕ). consolidateOf st img (getD (st .table .page) k 0)) (o .1)
 
+    later : (s : ℕ) → Chosen st s → (calls : List Call) → after (free ∷ calls) (worldOf st img) ≡ after (consolidate (getD (st .table .page) s 0) ∷ calls) (worldOf st img)
+    unfolding after exec
+    later s c calls = ap (λ (o : Outcome). after calls (result o img .world)) (as-chosen s c)
+
 -- the fourth of five rows is the first that applies
 fourth : (a b c d e : Bool) → refusal ((a, 8) ∷ (b, 4) ∷ (c, 9) ∷ (d, 22) ∷ (e, 19) ∷ []) ≡ 22 → (refusal ((a, 8) ∷ (b, 4) ∷ (c, 9) ∷ []) ≡ 0) × (d ≡ true)
 fourth true b c d e h = absurd (omega arith)
@@ -107,5 +113,6 @@ frees-slot st img =
           (λ t. inr (no-slot st (leb-true (slots st) (freedSlot st) t)))
           (λ t. inl (freedSlot st, chosen st (leb-false (slots st) (freedSlot st) t)));
       as-consolidate = as-chosen st img;
+      later = later st img;
       none = (is-22 st img, as-22 st img);
     }
