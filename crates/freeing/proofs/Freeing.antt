@@ -13,10 +13,11 @@ use Rattle.journal.specs.Records.{liveCount}
 use Rattle.state.specs.declared.State.{State}
 use Rattle.state.specs.declared.Pending.{Pending}
 use Rattle.state.specs.declared.Op.the-variants.{Consolidate}
-use Rattle.operations.specs.Operations.{journalFull, needs}
+use Rattle.operations.specs.Operations.{journalFull, consolidateNeeds, needs}
 use Rattle.refinement.specs.Freeing.{freedSlot, freedPage}
 use Rattle.refinement.specs.Outcome.{answered}
 use Rattle.refinement.specs.Calls.{quietRows, freeCallRows, freeOf}
+use Rattle.refinement.proofs.Choice.{own-slot}
 use Rattle.refinement.proofs.Quiet.{Quiet}
 use Rattle.answers.specs.Answers.{outcomeOf}
 use Rattle.answers.specs.declared.Done.{Done}
@@ -50,13 +51,14 @@ module _ (st : State) (img : List ℕ) (d : Done) where
 
       -- p is the page of the slot, and needed the stores that the code counted
       pub asked-free : (p needed : ℕ) (pending : Pending) → live + 1 ≤ st .sizes .places → p ≡ getD (st .table .page) s 0
-          → needed ≡ needs st (Consolidate p) → pending ≡ pendingFrom (Consolidate p) (replicate 8 0) 0
+          → needed ≡ consolidateNeeds (getD (st .table .bitmap) s 0) → pending ≡ pendingFrom (Consolidate p) (replicate 8 0) 0
           → outcomeOf d ≡ answered 0 (pendingWith st pending) needed (pendingWith st pending) → outcomeOf d ≡ freeOf st img
-      unfolding freeOf
+      unfolding freeOf needs
       asked-free p needed pending f a n b h =
           let o = q .past in
           let g : p ≡ freedPage st = a ∙ ap (λ (k : ℕ). getD (st .table .page) k 0) e in
-          let m : needed ≡ needs st (Consolidate (freedPage st)) = n ∙ ap (λ (k : ℕ). needs st (Consolidate k)) g in
+          let low : freedSlot st < st .sizes .slots = rw (← e) l in
+          let m : needed ≡ needs st (Consolidate (freedPage st)) = n ∙ ap (λ (k : ℕ). consolidateNeeds (getD (st .table .bitmap) k 0)) (e ∙ sym (own-slot st (q .ok) low)) in
           ask-pending st (Consolidate (freedPage st)) (replicate 8 0) 0 d (freeCallRows st img) pending needed
           (row-none (freeCallRows st img) (o .0, (o .1 .0, (o .1 .1 .0, (found, (ap (λ (k : ℕ). ltb (st .sizes .places) (k + 1)) (sym c) ∙ le-ltb (st .sizes .places) (live + 1) f, tt))))))
           (b ∙ ap (λ (k : ℕ). pendingFrom (Consolidate k) (replicate 8 0) 0) g)

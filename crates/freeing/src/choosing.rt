@@ -4,6 +4,7 @@ ghost use Prim.Native.Nat.{_<_, _≤_};
 ghost use lib.ListN.{getD};
 ghost use Rattle.bounded.specs.Below.{leastTurn};
 ghost use Rattle.layout.specs.Layout.{Legal};
+ghost use Rattle.operations.specs.Operations.{consolidateNeeds};
 ghost use Rattle.refinement.specs.Freeing.{mayFree, linesToCopy, slotToFree};
 use layout::Sizes;
 
@@ -58,6 +59,14 @@ pub fn slot_to_free<'a>(
         s += 1;
     }
     best
+}
+
+// The stores that the consolidation of slot s needs.
+pub fn stores_of(bitmap: &[u64; 16], s: usize) -> usize
+    requires { ⌜ s < 16 ⌝ }
+    ensures { λ r. ⌜ r ≡ consolidateNeeds (getD (now (bitmap .entry)) s 0) ⌝ }
+{
+    needs::consolidate_needs(bitmap[s])
 }
 
 // The page of slot s.

@@ -42,18 +42,8 @@ pub fn free_slot(st: State, image: &[u8]) -> Done
         return answers::refused(19, next);
     }
     let page = choosing::page_of(&next.table.page, s);
-    let op = Op::Consolidate { page };
-    let needed = needs::op_needs(
-        z,
-        next.head,
-        next.tail,
-        &next.table.page,
-        &next.table.bitmap,
-        &next.table.last,
-        &next.writers.held,
-        op,
-    );
-    let pending = asking::pending_from(op, [0; 8], 0);
+    let needed = choosing::stores_of(&next.table.bitmap, s);
+    let pending = asking::pending_from(Op::Consolidate { page }, [0; 8], 0);
     next.pending = pending;
     answers::taken(needed, next)
 }

@@ -1,12 +1,10 @@
 -- The rows, in their order; then the consolidation of the page of the slot chosen, pending.
-use mathlib.Core.Path.{sym}
 use native.Mathlib.Omega.{arith}
 use lib.ListN.{length}
 use borrow.Author.Needs.{needs}
-use Rattle.operations.specs.Operations.{needs as storesNeeded, Ranged}
+use Rattle.operations.specs.Operations.{Ranged}
 use Rattle.refinement.specs.Calls.{quietRows}
 use Rattle.refinement.proofs.Going.{ranges-of}
-use Rattle.refinement.proofs.PageSlots.{slotted-of}
 use Rattle.refinement.proofs.Quiet.{Quiet, quiet}
 use Rattle.answers.proofs.Answered.{row-known}
 use Rattle.freeing.proofs.Freeing.{first-refused, none-refused, full-refused, asked-free}
@@ -48,16 +46,13 @@ returns-3 c =
 page-of-requires : tie.Need-page-of-requires
 page-of-requires c κs = omega (arith, c .before .before .before .before .before .if2 .left, ranges1 (c .before .before .before .before .before .before .before .before .before .before .before .before) .legal)
 
-op-needs-requires : tie.Need-op-needs-requires
-op-needs-requires c κs =
-    let a = c .before .before .before .before .before .before .before .before .before .before .before .before .before .before .before .before .before .before .before .before .before .before .before .before .before .before .before .before .before .before .before .args in
-    (ranges1 (c .before .before .before .before .before .before .before .before .before .before .before .before .before .before .before .before .before .before) .legal, slotted-of (a .st .sizes) (a .st .table) _ (c .before .before .before .before .before .before .before .before .before .before .before .before .before .slot-to-free .result) (c .before .before .before .before .before .before .before .before .before .before .before .if2 .left) (sym (c .before .before .before .before .before .page-of .ensures)))
+stores-of-requires : tie.Need-stores-of-requires
+stores-of-requires c κs = omega (arith, c .before .before .before .before .before .before .before .before .if2 .left, ranges1 (c .before .before .before .before .before .before .before .before .before .before .before .before .before .before .before) .legal)
 
 returns-4 : tie.Need-returns-4
-unfolding storesNeeded
 returns-4 c =
-    let a = c .before .before .before .before .before .before .before .before .before .before .before .before .before .before .before .before .before .before .before .before .before .before .before .before .before .before .before .before .before .before .before .before .before .before .args in
-    asked-free (a .st) (a .image .now) (c .taken .result) (quiet1 (c .before .before .before .before .before .before .before .before .before .before .before .before .before .before .before .before .before .before .before .before .before)) _ (c .before .before .before .before .before .before .before .before .before .before .before .before .before .before .before .before .slot-to-free .ensures) (c .before .before .before .before .before .before .before .before .before .before .before .before .before .before .if2 .left) _ (c .before .before .before .before .before .before .before .before .before .before .before .before .before .live-count .ensures) _ _ _ (c .before .before .before .before .before .before .before .before .before .before .before .if3 .left) (c .before .before .before .before .before .before .before .before .page-of .ensures) (c .before .before .op-needs .ensures) (c .before .pending-from .ensures) (c .taken .ensures)
+    let a = c .before .before .before .before .before .before .before .before .before .before .before .before .before .before .before .before .before .before .before .before .before .before .before .before .before .before .before .before .before .before .before .args in
+    asked-free (a .st) (a .image .now) (c .taken .result) (quiet1 (c .before .before .before .before .before .before .before .before .before .before .before .before .before .before .before .before .before .before)) _ (c .before .before .before .before .before .before .before .before .before .before .before .before .before .slot-to-free .ensures) (c .before .before .before .before .before .before .before .before .before .before .before .if2 .left) _ (c .before .before .before .before .before .before .before .before .before .before .live-count .ensures) _ _ _ (c .before .before .before .before .before .before .before .before .if3 .left) (c .before .before .before .before .before .page-of .ensures) (c .before .before .stores-of .ensures) (c .before .pending-from .ensures) (c .taken .ensures)
 
 pub free-slot-spec : {M : Type 1} → statement M
 free-slot-spec =
@@ -74,7 +69,7 @@ free-slot-spec =
     (λ c κs. search needs)
     returns-3
     page-of-requires
-    op-needs-requires
+    stores-of-requires
     (λ c κs. search needs)
     (λ c κs. search needs)
     returns-4)
