@@ -50,13 +50,14 @@ fn a_held_slot_is_left_out_and_22_comes_before_19() {
     assert_eq!(store.free_slot(), Ok(46), "page 1");
     assert_eq!(store.free_slot(), Err(22), "page 0 is held");
     other.write(1, 1, 9, 1).unwrap();
-    while other.state.head != 2 * other.state.sizes.j - 1 {
+    loop {
         other.begin(2).unwrap();
-        if other.write(2, 1, 10, 1).and_then(|_| other.commit(2)).is_err() {
+        other.write(2, 1, 10, 1).unwrap();
+        if other.commit(2) == Err(19) {
             break;
         }
     }
-    other.abort(2).ok();
+    other.abort(2).unwrap();
     assert_eq!(other.free_slot(), Err(22), "both are held, and the journal is full");
     other.abort(1).unwrap();
     assert_eq!(other.free_slot(), Err(19));

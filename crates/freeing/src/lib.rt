@@ -1,6 +1,6 @@
 // The call that makes a slot free, by consolidating the page of the slot chosen. It relies on nothing that its caller checked; a refused call
 // changes no state and no byte.
-pub mod choosing;
+mod choosing;
 
 ghost use mathlib.Core.Path.{_≡_};
 ghost use Rattle.answers.specs.Answers.{outcomeOf};

@@ -12,7 +12,8 @@ fn main() {
     let st = situations::ties(&mut image, st);
     let st = situations::few_left(&mut image, st);
     let st = situations::none_copied(&mut image, st);
-    let st = situations::held_is_skipped(&mut image, st);
+    situations::held_is_skipped(&mut image, st);
+    let st = situations::cut(&mut image);
     let st = situations::held_or_full(&mut image, st);
     situations::turned_back(&image, st);
     walk::turns(&mut image, 6000);

@@ -24,15 +24,20 @@ pub fn one_line(image: &mut [u8; 41408], st: State) -> State {
     doing::freed(b"free again", image, st)
 }
 
-// Bitmaps with 33, 32, 63 and 1 ones: two of the slots need one line copied, and then the journal is full.
-pub fn ties(image: &mut [u8; 41408], st: State) -> State {
-    let st = doing::checkpointed(image, st);
+// Bitmaps with 33, 32, 63 and 1 ones, in one transaction.
+fn four_pages(image: &mut [u8; 41408], st: State) -> State {
     let st = writers::begin(st, 0).state;
     let st = doing::lines(image, st, 0, 0, 33);
     let st = doing::lines(image, st, 0, 1, 32);
     let st = doing::lines(image, st, 0, 2, 63);
     let st = doing::lines(image, st, 0, 3, 1);
-    let st = doing::committed(image, st, 0);
+    doing::committed(image, st, 0)
+}
+
+// Two of their slots need one line copied, and then the journal is full.
+pub fn ties(image: &mut [u8; 41408], st: State) -> State {
+    let st = doing::checkpointed(image, st);
+    let st = four_pages(image, st);
     let st = doing::freed(b"tie of one line", image, st);
     let st = doing::freed(b"the other one", image, st);
     doing::freed(b"journal full", image, st)
@@ -57,17 +62,26 @@ pub fn none_copied(image: &mut [u8; 41408], st: State) -> State {
     doing::freed(b"the other of them", image, st)
 }
 
-// The slot that needs the fewest lines is held; a cut before the first store, and it is not.
-pub fn held_is_skipped(image: &mut [u8; 41408], st: State) -> State {
-    let st = doing::checkpointed(image, st);
+// Two lines of one page and three of another, in one transaction.
+fn two_pages(image: &mut [u8; 41408], st: State) -> State {
     let st = writers::begin(st, 0).state;
     let st = doing::lines(image, st, 0, 0, 2);
     let st = doing::lines(image, st, 0, 1, 3);
-    let st = doing::committed(image, st, 0);
+    doing::committed(image, st, 0)
+}
+
+// The slot of the first one is held.
+pub fn held_is_skipped(image: &mut [u8; 41408], st: State) {
+    let st = doing::checkpointed(image, st);
+    let st = two_pages(image, st);
     let st = writers::begin(st, 2).state;
     let st = doing::lines(image, st, 2, 0, 1);
     let done = freeing::free_slot(st, image);
     out::line(b"held slot skipped", image, done);
+}
+
+// A cut before the first store, and it is not; then one before the last store but one.
+pub fn cut(image: &mut [u8; 41408]) -> State {
     let st = mounting::mount(image).state;
     let done = freeing::free_slot(st, image);
     out::line(b"after a cut", image, done);
@@ -79,12 +93,17 @@ pub fn held_is_skipped(image: &mut [u8; 41408], st: State) -> State {
     st
 }
 
+// Four commits of one line of page 0.
+fn four_rounds(image: &mut [u8; 41408], st: State) -> State {
+    let st = doing::round(image, st, 0, 1);
+    let st = doing::round(image, st, 0, 1);
+    let st = doing::round(image, st, 0, 1);
+    doing::round(image, st, 0, 1)
+}
+
 // All taken slots held and the journal full: 22 comes before 19.
 pub fn held_or_full(image: &mut [u8; 41408], st: State) -> State {
-    let st = doing::round(image, st, 0, 1);
-    let st = doing::round(image, st, 0, 1);
-    let st = doing::round(image, st, 0, 1);
-    let st = doing::round(image, st, 0, 1);
+    let st = four_rounds(image, st);
     let st = writers::begin(st, 3).state;
     let st = doing::lines(image, st, 3, 0, 1);
     let st = doing::lines(image, st, 3, 1, 1);
