@@ -5,7 +5,9 @@
 use crate::image::{line as line_at, word};
 use crate::plan::{complete, plan};
 use crate::refusal::{row, Answer, Refusal::*};
-use crate::rows::{abort_rows, begin_rows, commit_rows, consolidate_rows, frame_row, place_rows, write_rows};
+use crate::rows::{
+    abort_rows, begin_rows, commit_rows, consolidate_rows, frame_row, free_rows, place_rows, write_rows,
+};
 use crate::state::{Operation, Pending, State, Write};
 use crate::validity::is_broken;
 
@@ -58,6 +60,13 @@ pub fn commit(state: &mut State, image: &[u8], writer: u64) -> Answer<u64> {
 pub fn consolidate(state: &mut State, image: &[u8], page: u64) -> Answer<u64> {
     idle_rows(state, image)?;
     consolidate_rows(state, page)?;
+    Ok(ask(state, Operation::Consolidate { page }))
+}
+
+/// Consolidates the page of the slot that is quickest to free.
+pub fn free_slot(state: &mut State, image: &[u8]) -> Answer<u64> {
+    idle_rows(state, image)?;
+    let page = free_rows(state)?;
     Ok(ask(state, Operation::Consolidate { page }))
 }
 

@@ -22,6 +22,8 @@ pub enum Refusal {
     PageWithoutSlot = 17,
     PageHeld = 18,
     JournalFull = 19,
+    /// Document 02, "Make a slot free".
+    NoSlotToFree = 22,
 }
 
 impl Refusal {

@@ -4,7 +4,7 @@
 use crate::journal::live_count;
 use crate::layout::LINES;
 use crate::refusal::{row, Answer, Refusal::*};
-use crate::slots::frames_named;
+use crate::slots::{frames_named, FREE_PAGE};
 use crate::state::{State, WRITERS};
 
 fn writer_row(writer: u64) -> Answer<()> {
@@ -66,6 +66,24 @@ pub fn consolidate_rows(state: &State, page: u64) -> Answer<()> {
     let Some(slot) = state.slot_of(page) else { return Err(PageWithoutSlot) };
     row(PageHeld, state.writers.iter().any(|writer| writer.held[slot] != 0))?;
     room_row(state, 1)
+}
+
+/// Rows 22 and 19, and the page to consolidate: of the slots with a page of which nobody holds a line, sorted by the lines that
+/// leaving them would copy and then by their number, the first one's.
+pub fn free_rows(state: &State) -> Answer<u64> {
+    let mut freeable: Vec<(u32, usize, u64)> = state
+        .slots_used()
+        .iter()
+        .enumerate()
+        .filter(|(slot, owned)| {
+            owned.page != FREE_PAGE && state.writers.iter().all(|writer| writer.held[*slot] == 0)
+        })
+        .map(|(slot, owned)| (owned.bitmap.count_ones().min(owned.bitmap.count_zeros()), slot, owned.page))
+        .collect();
+    freeable.sort_unstable();
+    let (_, _, page) = *freeable.first().ok_or(NoSlotToFree)?;
+    room_row(state, 1)?;
+    Ok(page)
 }
 
 /// Row 19.

@@ -71,6 +71,7 @@ struct Both {
     book: Book,
     rng: Rng,
     taken: u64,
+    freed: u64,
 }
 
 const LINES: [u64; 4] = [0, 1, 31, 63];
@@ -80,7 +81,7 @@ impl Both {
         let mut rng = Rng::new(seed, 0);
         let (p, s) = (rng.between(1, 3), rng.between(1, 3));
         let j = rng.between(s, 4);
-        Both { store: Store::fresh(p, s, j), book: Book::default(), rng, taken: 0 }
+        Both { store: Store::fresh(p, s, j), book: Book::default(), rng, taken: 0, freed: 0 }
     }
 
     fn note(&mut self, call: Underway, answer: Result<u64, u8>) {
@@ -89,7 +90,10 @@ impl Both {
                 self.taken += 1;
                 self.book.taken(call, needs);
             }
-            Err(number) => assert!((9..=19).contains(&number) && number != 16, "{number} on such a list"),
+            Err(number) => assert!(
+                ((9..=19).contains(&number) && number != 16) || number == 22,
+                "{number} on such a list"
+            ),
         }
     }
 
@@ -121,6 +125,11 @@ impl Both {
             12 => {
                 let page = self.rng.below(self.store.state.sizes.p);
                 let answer = self.store.ask_consolidate(page);
+                self.note(Underway::Other, answer);
+            }
+            13 if self.rng.percent(50) => {
+                let answer = self.store.ask_free_slot();
+                self.freed += u64::from(answer.is_ok());
                 self.note(Underway::Other, answer);
             }
             13 => {
@@ -163,7 +172,7 @@ impl Both {
 
 #[test]
 fn the_model_keeps_the_book() {
-    let mut taken = 0;
+    let (mut taken, mut freed) = (0, 0);
     for seed in 0..120 {
         let mut both = Both::new(seed);
         for _ in 0..120 {
@@ -171,6 +180,8 @@ fn the_model_keeps_the_book() {
             both.agree();
         }
         taken += both.taken;
+        freed += both.freed;
     }
     assert!(taken > 1_000, "only {taken} operations were taken");
+    assert!(freed > 30, "only {freed} slots were freed");
 }

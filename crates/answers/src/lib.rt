@@ -27,6 +27,7 @@ pub enum Answer {
     PageWithoutSlot,
     PageHeld,
     JournalFull,
+    NoSlotToFree,
 }
 
 // A call's answer and the state after it.
@@ -59,6 +60,7 @@ pub fn answer_of(row: usize, stores: usize) -> Answer
         16 => Answer::BadFrame,
         17 => Answer::PageWithoutSlot,
         18 => Answer::PageHeld,
+        22 => Answer::NoSlotToFree,
         _ => Answer::JournalFull,
     }
 }
@@ -88,6 +90,7 @@ pub fn number_of(a: Answer) -> usize
         Answer::PageWithoutSlot => 17,
         Answer::PageHeld => 18,
         Answer::JournalFull => 19,
+        Answer::NoSlotToFree => 22,
     }
 }
 
@@ -98,6 +101,16 @@ pub fn refused(row: usize, st: State) -> Done
 {
     let answer = answer_of(row, 0);
     Done { answer, state: st }
+}
+
+// A refusal by row 22, with the state as it was.
+pub fn no_slot_to_free(st: State) -> Done
+    ensures { λ r. ⌜ outcomeOf r ≡ answered 22 st 0 st ⌝ }
+{
+    Done {
+        answer: Answer::NoSlotToFree,
+        state: st,
+    }
 }
 
 // A taken call, with the state after it.

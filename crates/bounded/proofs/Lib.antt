@@ -5,3 +5,4 @@ pub mod Nth
 pub mod Tab
 pub mod Rows
 pub mod Pigeonhole
+pub mod Least

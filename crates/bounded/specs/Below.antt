@@ -1,9 +1,9 @@
 -- What a loop over the numbers below a bound finds: whether all or some of them pass a test, the first that does, how
--- many do and which, and what the turns make of a value. Each is built from 0 upwards, as the loops go.
+-- many do and which, which of them has the least key, and what the turns make of a value. Each is built from 0 upwards, as the loops go.
 use Prim.Native.Nat.{ℕ, zero, suc, _+_}
-use mathlib.Core.Bool.{Bool, true, false, _&&_, not, cond}
+use mathlib.Core.Bool.{Bool, true, false, _&&_, _||_, not, cond}
 use mathlib.Core.List.{List, [], _∷_, _++_}
-use lib.Dec.{eqb}
+use lib.Dec.{eqb, ltb}
 
 -- whether f holds at each number below n
 unfoldable pub allBelow : ℕ → (ℕ → Bool) → Bool
@@ -38,3 +38,11 @@ those (suc n) f = those n f ++ cond (f n) (n ∷ []) []
 unfoldable pub upTo : {A : Type 0} → ℕ → (ℕ → A → A) → A → A
 upTo zero f x = x
 upTo (suc n) f x = f n (upTo n f x)
+
+-- the number below n at which f holds that has the least key, the lowest one on a tie, and n where there is none: turn i goes from
+-- the number found below i to the one below i + 1
+abbrev pub leastTurn : (ℕ → Bool) → (ℕ → ℕ) → ℕ → ℕ → ℕ
+leastTurn f key i m = cond (f i && (eqb m i || ltb (key i) (key m))) i (cond (eqb m i) (i + 1) m)
+
+unfoldable pub leastBelow : ℕ → (ℕ → Bool) → (ℕ → ℕ) → ℕ
+leastBelow n f key = upTo n (leastTurn f key) 0

@@ -21,15 +21,16 @@ use Rattle.mount.proofs.View.{View, slot-none}
 use Rattle.state.specs.declared.State.{State}
 use Rattle.state.specs.declared.Op.{Op}
 use Rattle.state.specs.declared.Op.the-variants.{Write, Commit, Consolidate, Checkpoint}
-use Rattle.operations.specs.Operations.{slotFor, slotted, frameBad, commitRows, consolidateRows}
+use Rattle.operations.specs.Operations.{slotFor, slotted, frameBad, journalFull, commitRows, consolidateRows}
 use Rattle.operations.proofs.Taken.{args-good}
 use Rattle.refinement.specs.Frames.{pageFrame}
+use Rattle.refinement.specs.Freeing.{freedSlot, freedPage}
 use Rattle.refinement.specs.Mount.{quietState}
 use Rattle.refinement.specs.Outcome.{Outcome, answered}
 use Rattle.refinement.specs.Stores.{World, stepped, steppedBy, left}
-use Rattle.refinement.specs.Calls.{rowState, rowPending, rowNotPending, worldOf, asked, beginOf, abortOf, writeCallRows, finishedLine, writeOf, commitOf, consolidateOf, checkpointOf, readRows, readRow, readBytes, stepRows, stepRow, stepOf, stepBytes, runOf, runBytes}
+use Rattle.refinement.specs.Calls.{rowState, rowPending, rowNotPending, worldOf, asked, beginOf, abortOf, writeCallRows, finishedLine, writeOf, commitOf, consolidateOf, freeOf, checkpointOf, readRows, readRow, readBytes, stepRows, stepRow, stepOf, stepBytes, runOf, runBytes}
 use Rattle.refinement.specs.Recall.{recallRow, recallBytes}
-use Rattle.refinement.specs.Run.{Call, Result, mount, checkpoint, step, begin, abort, commit, consolidate, run, write, read, recall, exec, result}
+use Rattle.refinement.specs.Run.{Call, Result, mount, checkpoint, free, step, begin, abort, commit, consolidate, run, write, read, recall, exec, result}
 use Rattle.refinement.specs.Reference.{Reference}
 use Rattle.refinement.proofs.Copies.{durable-legal, durable-fits}
 use Rattle.refinement.proofs.Invariant.{Durable, Never, Quiet, Busy, Related}
@@ -224,9 +225,10 @@ module _ {past past′ : List ℕ} (st : State) (x y : List ℕ) (b : Reference)
   -- ---- every call
 
   pub call-same : (c : Call) → Same (exec c v) (exec c u)
-  unfolding exec beginOf abortOf commitOf consolidateOf checkpointOf
+  unfolding exec beginOf abortOf commitOf consolidateOf freeOf checkpointOf
   call-same mount = mount-same
   call-same checkpoint = by-outcome (rest-same [] Checkpoint)
+  call-same free = by-outcome (rest-same ((leb (z .slots) (freedSlot st), 22) ∷ (journalFull st 1, 19) ∷ []) (Consolidate (freedPage st)))
   call-same step = by-outcome step-same
   call-same (begin w) = by-outcome refl
   call-same (abort w) = by-outcome refl
@@ -241,6 +243,7 @@ module _ {past past′ : List ℕ} (st : State) (x y : List ℕ) (b : Reference)
   unfolding exec
   call-alike mount = same
   call-alike checkpoint = same
+  call-alike free = same
   call-alike step = step-alike
   call-alike (begin w) = same
   call-alike (abort w) = same

@@ -9,7 +9,7 @@ use Rattle.words.proofs.WordLaws.{bytes-store}
 use Rattle.state.specs.declared.State.{State}
 use Rattle.refinement.specs.Stores.{World, storeAt, storeValue, stepped, steppedBy, left}
 use Rattle.refinement.specs.Calls.{stepRow, worldOf, stepBytes, runBytes}
-use Rattle.refinement.specs.Run.{Call, mount, checkpoint, step, begin, abort, commit, consolidate, run, write, read, recall, exec, after}
+use Rattle.refinement.specs.Run.{Call, mount, checkpoint, free, step, begin, abort, commit, consolidate, run, write, read, recall, exec, after}
 use Rattle.refinement.proofs.Called.{Good, call-good}
 
 step-image : (v : World) → Bytes (v .image) → Bytes (stepped v .image)
@@ -37,6 +37,7 @@ pub call-bytes : (c : Call) (v : World) → Bytes (v .image) → Bytes (exec c v
 unfolding exec
 call-bytes mount v b = b
 call-bytes checkpoint v b = b
+call-bytes free v b = b
 call-bytes step v b = step-bytes (v .st) (v .image) b
 call-bytes (begin w) v b = b
 call-bytes (abort w) v b = b

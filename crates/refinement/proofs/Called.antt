@@ -22,13 +22,15 @@ use Rattle.operations.specs.Operations.{isIdle, opRows, writeRows, commitRows, 
 use Rattle.validity.specs.Validity.{stateOk}
 use Rattle.refinement.specs.Commit.{closedWriter}
 use Rattle.refinement.specs.Frames.{pageFrame}
+use Rattle.refinement.specs.Freeing.{freedPage}
+use Rattle.refinement.proofs.Choice.{free-rows}
 use Rattle.refinement.specs.Stores.{World, steppedBy, stepped, left}
 use Rattle.refinement.proofs.Sized.{Sized}
 use Rattle.refinement.proofs.Steps.{run-valid, run-sized, step-valid, step-sized}
 use Rattle.refinement.specs.Outcome.{answered}
-use Rattle.refinement.specs.Calls.{quietRows, withWriters, beginRows, abortRows, beginOf, abortOf, asked, finishedLine, writeCallRows, commitCallRows, consolidateCallRows, checkpointCallRows, writeOf, commitOf, consolidateOf, checkpointOf, stepRow, stepRows, worldOf, runOf, stepOf}
+use Rattle.refinement.specs.Calls.{quietRows, withWriters, beginRows, abortRows, beginOf, abortOf, asked, finishedLine, writeCallRows, commitCallRows, consolidateCallRows, freeCallRows, checkpointCallRows, writeOf, commitOf, consolidateOf, freeOf, checkpointOf, stepRow, stepRows, worldOf, runOf, stepOf}
 use Rattle.refinement.specs.Mount.{mountedState, mountCall, noState, freshState, formatCall}
-use Rattle.refinement.specs.Run.{Call, mount, checkpoint, step, begin, abort, commit, consolidate, run, write, read, recall, exec}
+use Rattle.refinement.specs.Run.{Call, mount, checkpoint, free, step, begin, abort, commit, consolidate, run, write, read, recall, exec}
 use Rattle.refinement.proofs.Begun.{opening, begin-valid, begin-sized, abort-valid, abort-sized}
 use Rattle.refinement.proofs.CallAsked.{askedState, asked-valid, asked-sized}
 use Rattle.refinement.proofs.CallMounted.{mounted-valid, mounted-sized, fresh-valid, fresh-sized}
@@ -93,6 +95,10 @@ module _ (st : State) (img : List ℕ) (g : Good st) where
       asked-good st (refusal (consolidateCallRows st img p)) (Consolidate p) (replicate 8 0) 0 g
       (λ e. past-rows (quietRows st (length img)) (consolidateRows st p) (omega arith) e)
 
+  free-good : Good (freeOf st img .state)
+  unfolding freeOf
+  free-good = asked-good st (refusal (freeCallRows st img)) (Consolidate (freedPage st)) (replicate 8 0) 0 g (free-rows st img)
+
   checkpoint-good : Good (checkpointOf st img .state)
   unfolding checkpointOf
   checkpoint-good = asked-good st (refusal (checkpointCallRows st img)) Checkpoint (replicate 8 0) 0 g (λ e. refl)
@@ -147,6 +153,7 @@ pub call-good : (c : Call) (v : World) → Bytes (v .image) → Good (v .st) →
 unfolding exec
 call-good mount v b g = mount-good v b g
 call-good checkpoint v b g = checkpoint-good (v .st) (v .image) g
+call-good free v b g = free-good (v .st) (v .image) g
 call-good step v b g = step-good (v .st) (v .image) g
 call-good (begin w) v b g = begin-good (v .st) (v .image) g w
 call-good (abort w) v b g = abort-good (v .st) (v .image) g w

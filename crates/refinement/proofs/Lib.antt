@@ -22,6 +22,7 @@ pub mod NamesOnce
 pub mod Going
 pub mod Quiet
 pub mod Begun
+pub mod Choice
 pub mod CallAsked
 pub mod CallMounted
 pub mod Called
@@ -46,6 +47,7 @@ pub mod AskWrite
 pub mod AskCommit
 pub mod AskCheckpoint
 pub mod AskConsolidate
+pub mod AskFree
 pub mod Stepping
 pub mod StepLast
 pub mod HeaderStore
@@ -77,3 +79,4 @@ pub mod NeverRefused
 pub mod CommitWhole
 pub mod CheckpointRoom
 pub mod Demand
+pub mod FreedSlot

@@ -14,8 +14,8 @@ use Rattle.validity.specs.Validity.{stateOk}
 use Rattle.operations.proofs.Taken.{args-good}
 use Rattle.refinement.specs.Frames.{pageFrame}
 use Rattle.refinement.specs.Stores.{World}
-use Rattle.refinement.specs.Calls.{beginRows, beginOf, abortRows, abortOf, writeCallRows, writeOf, commitCallRows, commitOf, consolidateCallRows, consolidateOf, checkpointCallRows, checkpointOf, readRows, readRow, stepRows, stepOf, runOf}
-use Rattle.refinement.specs.Run.{Call, mount, checkpoint, step, begin, abort, commit, consolidate, run, write, read, recall, exec}
+use Rattle.refinement.specs.Calls.{beginRows, beginOf, abortRows, abortOf, writeCallRows, writeOf, commitCallRows, commitOf, consolidateCallRows, consolidateOf, freeCallRows, freeOf, checkpointCallRows, checkpointOf, readRows, readRow, stepRows, stepOf, runOf}
+use Rattle.refinement.specs.Run.{Call, mount, checkpoint, free, step, begin, abort, commit, consolidate, run, write, read, recall, exec}
 use Rattle.refinement.specs.Beside.{broken, NeverRefused}
 use Rattle.refinement.specs.Reference.{Reference}
 use Rattle.refinement.proofs.Copies.{durable-fits, names-once}
@@ -47,9 +47,10 @@ module _ {past : List ℕ} (v : World) (b : Reference) (h : Related past v b) wh
   frame = frame-good st img (related-valid st img b h) (names-once st img (related-valid st img b h) (related-durable st img b h))
 
   pub call-kept : (c : Call) → broken (exec c v .number) ≡ false
-  unfolding exec beginOf abortOf writeOf commitOf consolidateOf checkpointOf readRow stepOf runOf
+  unfolding exec beginOf abortOf writeOf commitOf consolidateOf freeOf checkpointOf readRow stepOf runOf
   call-kept mount = ap broken (mount-taken v b h)
   call-kept checkpoint = lacks broken (checkpointCallRows st img) (valid, λ a. (fits, λ c. (refl, λ d. refl)))
+  call-kept free = lacks broken (freeCallRows st img) (valid, λ a. (fits, λ c. (refl, λ d. (refl, λ e. (refl, λ f. refl)))))
   call-kept step = lacks broken (stepRows st img) (valid, λ a. (fits, λ c. (refl, λ d. refl)))
   call-kept (begin w) = lacks broken (beginRows st w) (valid, λ a. (refl, λ c. (refl, λ d. (refl, λ e. refl))))
   call-kept (abort w) = lacks broken (abortRows st w) (valid, λ a. (refl, λ c. (refl, λ d. (refl, λ e. refl))))

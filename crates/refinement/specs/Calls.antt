@@ -13,10 +13,11 @@ use Rattle.state.specs.declared.Writers.{Writers}
 use Rattle.state.specs.declared.Op.{Op}
 use Rattle.state.specs.declared.Op.the-variants.{Idle, Write, Commit, Consolidate, Checkpoint}
 use Rattle.state.specs.Held.{isOpen}
-use Rattle.operations.specs.Operations.{isIdle, slotFor, frameBad, writeRows, commitRows, consolidateRows, needs}
+use Rattle.operations.specs.Operations.{isIdle, slotFor, frameBad, journalFull, writeRows, commitRows, consolidateRows, needs}
 use Rattle.validity.specs.Validity.{stateOk}
 use Rattle.refinement.specs.Commit.{closedWriter}
 use Rattle.refinement.specs.Frames.{pageFrame, seenFrame}
+use Rattle.refinement.specs.Freeing.{freedSlot, freedPage}
 use Rattle.refinement.specs.Stores.{World, completed, stepped, steppedBy, left}
 use Rattle.refinement.specs.Outcome.{Outcome, answered}
 
@@ -95,6 +96,14 @@ consolidateCallRows st img p = rowState st ∷ rowShort st (length img) ∷ rowP
 
 unfoldable pub consolidateOf : State → List ℕ → ℕ → Outcome
 consolidateOf st img p = asked (refusal (consolidateCallRows st img p)) st (Consolidate p) (replicate 8 0) 0
+
+-- a slot freed: the consolidation of the slot chosen. 22: every taken slot has a held line, or none is taken
+abbrev pub freeCallRows : State → List ℕ → List Row
+freeCallRows st img =
+    rowState st ∷ rowShort st (length img) ∷ rowPending st ∷ (leb (st .sizes .slots) (freedSlot st), 22) ∷ (journalFull st 1, 19) ∷ []
+
+unfoldable pub freeOf : State → List ℕ → Outcome
+freeOf st img = asked (refusal (freeCallRows st img)) st (Consolidate (freedPage st)) (replicate 8 0) 0
 
 abbrev pub checkpointCallRows : State → List ℕ → List Row
 checkpointCallRows st img = rowState st ∷ rowShort st (length img) ∷ rowPending st ∷ []

@@ -6,6 +6,7 @@ pub mod Consolidate
 pub mod Checkpoint
 pub mod Stores
 pub mod Outcome
+pub mod Freeing
 pub mod Calls
 pub mod Mount
 pub mod Recall
@@ -14,3 +15,4 @@ pub mod Reference
 pub mod Statement
 pub mod Beside
 pub mod Demand
+pub mod Freed

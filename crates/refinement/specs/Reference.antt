@@ -7,7 +7,7 @@ use mathlib.Core.List.{List}
 use lib.Dec.{ltb, leb, eqb}
 use lib.ListN.{getD}
 use Rattle.bounded.specs.Tab.{tab}
-use Rattle.refinement.specs.Run.{Call, mount, checkpoint, step, begin, abort, commit, consolidate, run, write, read, recall}
+use Rattle.refinement.specs.Run.{Call, mount, checkpoint, free, step, begin, abort, commit, consolidate, run, write, read, recall}
 
 -- a byte of a set of unfinished writes, if there is one
 pub data Cell : Type 0 where
@@ -85,6 +85,7 @@ advances k (under t left) b = continues t (left - min k left) b
 abbrev pub taken : Call → ℕ → Reference → Reference
 taken mount n b = record { pages = b .pages; writes = λ w p l i. none; work = idle }
 taken checkpoint n b = starts nothing n b
+taken free n b = starts nothing n b
 taken step n b = advances 1 (b .work) b
 taken (begin w) n b = b
 taken (abort w) n b = emptied w b

@@ -8,13 +8,13 @@ use Rattle.fresh.specs.Fresh.{formatBytes}
 use Rattle.state.specs.declared.State.{State}
 use Rattle.refinement.specs.Stores.{World}
 use Rattle.refinement.specs.Outcome.{Outcome}
-use Rattle.refinement.specs.Calls.{beginOf, abortOf, writeOf, commitOf, consolidateOf, checkpointOf, readRow, readBytes, stepOf, stepBytes, runOf, runBytes}
+use Rattle.refinement.specs.Calls.{beginOf, abortOf, writeOf, commitOf, consolidateOf, freeOf, checkpointOf, readRow, readBytes, stepOf, stepBytes, runOf, runBytes}
 use Rattle.refinement.specs.Mount.{mountCall, formatCall}
 use Rattle.refinement.specs.Recall.{recallRow, recallBytes}
 
 -- the calls that may follow a taken format
 pub data Call : Type 0 where
-  mount checkpoint step : Call
+  mount checkpoint free step : Call
   begin abort commit consolidate run : ℕ → Call
   -- writer, page, line, offset, length, data
   write : ℕ → ℕ → ℕ → ℕ → ℕ → List ℕ → Call
@@ -41,6 +41,7 @@ replaces o v =
 unfoldable pub exec : Call → World → Result
 exec mount v = replaces (mountCall (v .image)) v
 exec checkpoint v = result (checkpointOf (v .st) (v .image)) (v .image)
+exec free v = result (freeOf (v .st) (v .image)) (v .image)
 exec step v = result (stepOf (v .st) (v .image)) (stepBytes (v .st) (v .image))
 exec (begin w) v = result (beginOf (v .st) w) (v .image)
 exec (abort w) v = result (abortOf (v .st) w) (v .image)

@@ -10,7 +10,7 @@ use Rattle.layout.specs.declared.Sizes.{Sizes}
 use Rattle.layout.specs.Layout.{sizesOk, imageLength}
 use Rattle.words.specs.Words.{Bytes, over}
 use Rattle.refinement.specs.Stores.{World}
-use Rattle.refinement.specs.Run.{Call, Result, mount, checkpoint, step, begin, abort, commit, consolidate, run, write, read, recall, exec, formattedWorld}
+use Rattle.refinement.specs.Run.{Call, Result, mount, checkpoint, free, step, begin, abort, commit, consolidate, run, write, read, recall, exec, formattedWorld}
 use Rattle.refinement.specs.Reference.{Reference, blank, turn, readLine, recallLine}
 
 -- what one call must answer, b being the reference machine before it:
@@ -23,6 +23,7 @@ Right (read w p l target) d b = d .number ≡ 0 → d .target ≡ over target 0 
 Right (recall p l target) d b =
     ((d .number ≡ 0) ⊎ (d .number ≡ 11)) × (d .number ≡ 0 → d .target ≡ over target 0 (recallLine b p l))
 Right checkpoint d b = Unit
+Right free d b = Unit
 Right step d b = Unit
 Right (begin w) d b = Unit
 Right (abort w) d b = Unit
@@ -36,6 +37,7 @@ abbrev pub Lent : Call → Type 0
 Lent (write w p l o n bytes) = Bytes bytes
 Lent mount = Unit
 Lent checkpoint = Unit
+Lent free = Unit
 Lent step = Unit
 Lent (begin w) = Unit
 Lent (abort w) = Unit

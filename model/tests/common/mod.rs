@@ -55,6 +55,10 @@ impl Store {
         numbered(calls::consolidate(&mut self.state, &self.image, page))
     }
 
+    pub fn ask_free_slot(&mut self) -> Answer {
+        numbered(calls::free_slot(&mut self.state, &self.image))
+    }
+
     pub fn ask_checkpoint(&mut self) -> Answer {
         numbered(calls::checkpoint(&mut self.state, &self.image))
     }
@@ -89,6 +93,11 @@ impl Store {
 
     pub fn consolidate(&mut self, page: u64) -> Answer {
         let asked = self.ask_consolidate(page);
+        self.finish(asked)
+    }
+
+    pub fn free_slot(&mut self) -> Answer {
+        let asked = self.ask_free_slot();
         self.finish(asked)
     }
 
