@@ -2,7 +2,9 @@
 use Prim.Native.Nat.{ℕ}
 use Prim.Native.Char.{code}
 use Prim.Native.String.{String, [] as endText, _∷_ as _then_}
+use mathlib.Core.Bool.{Bool, true, _&&_, not}
 use mathlib.Core.List.{List, [], _∷_}
+use lib.Dec.{leb}
 use lib.ListN.{getD, take}
 use Rattle.bytes.specs.Bytes.{indexOf}
 
@@ -61,3 +63,15 @@ textOf n = getD texts n []
 -- what stands before the first dot
 unfoldable pub upToDot : List ℕ → List ℕ
 upToDot l = take (indexOf 46 l) l
+
+-- whether a byte is a digit, and whether each byte of a text is printable, or printable and no digit
+abbrev pub isDigit : ℕ → Bool
+isDigit b = leb 48 b && leb b 57
+
+unfoldable pub printable : List ℕ → Bool
+printable [] = true
+printable (b ∷ bs) = (leb 32 b && leb b 126) && printable bs
+
+unfoldable pub plain : List ℕ → Bool
+plain [] = true
+plain (b ∷ bs) = ((leb 32 b && leb b 126) && not (isDigit b)) && plain bs
