@@ -4,8 +4,9 @@ use Prim.Native.Char.{code}
 use Prim.Native.String.{String, [] as endText, _∷_ as _then_}
 use mathlib.Core.Bool.{Bool, true, _&&_, not}
 use mathlib.Core.List.{List, [], _∷_}
-use lib.Dec.{leb}
+use lib.Dec.{leb, eqb}
 use lib.ListN.{getD, take}
+use Rattle.bounded.specs.Below.{firstBelow}
 use Rattle.bytes.specs.Bytes.{indexOf}
 
 -- the bytes of a text
@@ -59,6 +60,13 @@ nameOf c = getD names c []
 
 abbrev pub textOf : ℕ → List ℕ
 textOf n = getD texts n []
+
+-- the call whose name starts with three bytes, 12 where none does
+abbrev pub startsWith : ℕ → ℕ → ℕ → ℕ → Bool
+startsWith a b d c = eqb (getD (nameOf c) 0 0) a && eqb (getD (nameOf c) 1 0) b && eqb (getD (nameOf c) 2 0) d
+
+unfoldable pub callNamed : ℕ → ℕ → ℕ → ℕ
+callNamed a b d = firstBelow 12 (startsWith a b d)
 
 -- what stands before the first dot
 unfoldable pub upToDot : List ℕ → List ℕ

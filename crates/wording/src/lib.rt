@@ -4,7 +4,7 @@ ghost use Prim.Native.Nat.{_+_, _<_, _≤_};
 ghost use lib.ListN.{length};
 ghost use Rattle.number_text.specs.Text.{Put};
 ghost use Rattle.wording.specs.Calls.{canReturn, takesWriter, takesPage, takesLine, meetsWriter};
-ghost use Rattle.wording.specs.Words.{nameOf, textOf, upToDot};
+ghost use Rattle.wording.specs.Words.{nameOf, textOf, startsWith, callNamed, upToDot};
 
 // The calls, as the service screen numbers them.
 pub const FORMAT: usize = 0;
@@ -171,4 +171,26 @@ pub fn put_reason(out: &mut [u8], at: usize, number: usize) -> usize
 {
     let row = TEXTS[number];
     put_row(out, at, &row)
+}
+
+// Whether the name of call c starts with three bytes.
+fn starts_with(a: u8, b: u8, d: u8, c: usize) -> bool
+    requires { ⌜ c < 12 ⌝ }
+    ensures { λ r. ⌜ r ≡ startsWith a b d c ⌝ }
+{
+    (NAMES[c][0] == a) & (NAMES[c][1] == b) & (NAMES[c][2] == d)
+}
+
+// The call whose name starts with three bytes, 12 where none does.
+pub fn call_named(a: u8, b: u8, d: u8) -> usize
+    ensures { λ r. ⌜ r ≡ callNamed a b d ⌝ }
+{
+    let mut c = 0;
+    while c < 12 {
+        if starts_with(a, b, d, c) {
+            return c;
+        }
+        c += 1;
+    }
+    12
 }
