@@ -6,6 +6,7 @@ use Prim.Native.Nat.{ℕ, _+_, _<_, _≤_}
 use native.Mathlib.Omega.{arith}
 use lib.ListN.{length}
 use borrow.Author.Tests.{lt-ltb, le-ltb}
+use Rattle.words.specs.Words.{over}
 use Rattle.number_text.specs.Text.{Put}
 use Rattle.wording.specs.Calls.{canReturn}
 use Rattle.reasons.specs.declared.Reason.{Reason}
@@ -17,7 +18,7 @@ module _ (r : Reason) (target : List ℕ) where
   unfolding composeRow
   row-short h = rw (lt-ltb (length target) 200 h)
 
-  row-cannot : 200 ≤ length target → canReturn (r .call) (r .number) ≡ false → composeRow r (length target) ≡ 11
+  pub row-cannot : 200 ≤ length target → canReturn (r .call) (r .number) ≡ false → composeRow r (length target) ≡ 11
   unfolding composeRow
   row-cannot h e = rw (le-ltb (length target) 200 h, e)
 
@@ -43,3 +44,9 @@ module _ (r : Reason) (target : List ℕ) where
       let row = row-taken h e in
       let n : end ≡ length (sentence r) = omega (arith, p .place) in
       (rw row (ap (λ (k : ℕ). record { number = 0; length = k }) n), rw row (p .laid))
+
+  -- the same, said of what is composed
+  pub composed-taken : 200 ≤ length target → canReturn (r .call) (r .number) ≡ true
+      → (composed r (length target) ≡ record { number = 0; length = length (sentence r) }) × (composedIn r target ≡ over target 0 (sentence r))
+  unfolding composed composedIn
+  composed-taken h e = let row = row-taken h e in (rw row refl, rw row refl)

@@ -3,7 +3,7 @@ use mathlib.Core.Path.{_≡_, refl, sym, ap, _∙_}
 use mathlib.Core.List.{List, [], _∷_, _++_}
 use Prim.Native.Nat.{ℕ, zero, suc, _+_, _-_, _<_, _≤_}
 use native.Mathlib.Omega.{arith}
-use lib.ListN.{length, getD, replicate}
+use lib.ListN.{length, getD, replicate, getD-replicate}
 use Rattle.bytes.specs.Bytes.{indexOf}
 use Rattle.number_text.specs.Text.{Put}
 use Rattle.number_text.proofs.Puts.{put-as}
@@ -29,15 +29,10 @@ pub put-text-at : {l m : List ℕ} {a b : ℕ} (table want : List (List ℕ)) (n
     → mapped upToDot table ≡ want → Put l a (getD want n []) m b
 put-text-at table want n p e = put-as (text-at table want n e) p
 
-replicate-at : (k w n : ℕ) → n < k → getD (replicate k w) n 0 ≡ w
-replicate-at zero w n h = absurd (omega arith)
-replicate-at (suc k) w zero h = refl
-replicate-at (suc k) w (suc n) h = replicate-at k w n (omega arith)
-
 -- k rows of w bytes
 pub length-at : (table : List (List ℕ)) (k w n : ℕ) → n < k → mapped length table ≡ replicate k w → length (getD table n []) ≡ w
 length-at table k w n h e =
-    sym (mapped-at length table n) ∙ ap (λ (l : List ℕ). getD l n 0) e ∙ replicate-at k w n h
+    sym (mapped-at length table n) ∙ ap (λ (l : List ℕ). getD l n 0) e ∙ getD-replicate k n w 0 h
 
 pub room-at : (table : List (List ℕ)) (k w n a r : ℕ) → n < k → a + w ≤ r → mapped length table ≡ replicate k w → a + length (getD table n []) ≤ r
 room-at table k w n a r h l e = omega (arith, length-at table k w n h e)
