@@ -5,17 +5,19 @@ use mathlib.Core.List.{List, [], _∷_, _++_}
 use Prim.Native.Nat.{ℕ, zero, suc, _+_, _/_, _%_, _<_, _≤_}
 use native.Mathlib.Nat.{mod-lt}
 use native.Mathlib.Omega.{arith}
-use lib.Dec.{eqb, leb}
+use lib.Dec.{eqb, leb, ltb}
 use lib.ListN.{length, length-append}
-use borrow.Author.Tests.{le-leb}
+use borrow.Author.Tests.{le-leb, ltb-false}
 use Rattle.bounded.proofs.Tests.{caseOn}
+use Rattle.words.proofs.Parts.{length-over}
 use Rattle.decimals.specs.Decimal.{digitsOf, decimalOf}
 use Rattle.wording.specs.Calls.{canReturn, takesWriter, takesPage, takesLine, meetsWriter}
 use Rattle.wording.specs.Words.{codes, nameOf, textOf, printable}
 use Rattle.wording.proofs.Returns.{Known, known}
 use Rattle.wording.proofs.Wording.{Fits, name-fits, text-fits, plain-printable, printable-append}
 use Rattle.reasons.specs.declared.Reason.{Reason}
-use Rattle.reasons.specs.Sentence.{opening, field, pageLabel, closing, sentence}
+use Rattle.reasons.specs.declared.Composed.{Composed}
+use Rattle.reasons.specs.Sentence.{opening, field, pageLabel, closing, sentence, composeRow, composed, composedIn}
 use Rattle.reasons.proofs.Lengths.{opening-le, field-le, page-le}
 
 -- ---- how long
@@ -105,3 +107,21 @@ shown r e =
       short = omega (arith, length-append (opening (r .call) (r .number)) (closing r), opening-le (r .call) (r .number) (k .number), closing-le r);
       clear = printable-append (opening (r .call) (r .number)) (closing r) (opening-printable (r .call) (r .number)) (closing-printable r);
     }
+
+-- what is composed lies in the target, whose length stays
+pub record Inside (target : List ℕ) (d : Composed) (out : List ℕ) : Type 0 where
+  pub same : length out ≡ length target
+  pub fits : d .length ≤ length out
+
+pub inside : (r : Reason) (target : List ℕ) → Inside target (composed r (length target)) (composedIn r target)
+unfolding composed composedIn composeRow
+inside r target =
+    caseOn (ltb (length target) 200)
+    (λ t. rw t (record { same = refl; fits = omega arith }))
+    (λ t.
+    caseOn (canReturn (r .call) (r .number))
+    (λ e.
+    let h : 0 + length (sentence r) ≤ length target = omega (arith, ltb-false (length target) 200 t, shown r e .short) in
+    let n = length-over target 0 (sentence r) h in
+    rw (t, e) (record { same = n; fits = omega (arith, n) }))
+    (λ e. rw (t, e) (record { same = refl; fits = omega arith })))

@@ -1,0 +1,11 @@
+// Prints the sentence of each number that each call can return, for some arguments, and what it reads back as; how many
+// numbers of each call are turned back; and the sentences of refusals that a store really gives.
+mod met;
+mod samples;
+
+fn main() {
+    for call in 0..13 {
+        samples::show_call(call);
+    }
+    met::show_met();
+}
