@@ -8,8 +8,8 @@ use native.Mathlib.Omega.{arith}
 use lib.Dec.{ltb, leb, eqb}
 use lib.ListN.{length, getD, drop, drop-of-length-le}
 use lib.Seq.{drop-cons}
-use borrow.Author.Tests.{eq-eqb, ne-eqb, lt-ltb, le-ltb, le-leb, eqb-true, eqb-false, ltb-true, ltb-false, leb-true, leb-false}
-use Rattle.bounded.proofs.Tests.{caseOn, contradicts, and-left, and-right, every-held, held-every}
+use borrow.Author.Tests.{eq-eqb, ne-eqb, le-leb, eqb-true, ltb-true, ltb-false, leb-true}
+use Rattle.bounded.proofs.Tests.{caseOn, and-left, and-right, every-held, held-every}
 use Rattle.reason_reading.specs.Numbers.{goesOn, numbersFrom, numbersIn}
 
 -- ---- a digit

@@ -1,12 +1,11 @@
 -- The numbers that stand in a sentence are its number and its fields, in order.
-use mathlib.Core.Path.{_≡_, refl, sym, ap, subst, _∙_}
-use mathlib.Core.Bool.{Bool, true, false, not, cond, _&&_}
+use mathlib.Core.Path.{_≡_, refl, sym, ap, _∙_}
+use mathlib.Core.Bool.{Bool, true, false, not, _&&_}
 use mathlib.Core.List.{List, [], _∷_, _++_, append-assoc}
-use Prim.Native.Nat.{ℕ, zero, suc, _+_, _-_, _*_, _/_, _%_, _^_, _<_, _≤_}
+use Prim.Native.Nat.{ℕ, zero, suc, _+_, _-_, _*_, _/_, _%_, _^_, _<_}
 use native.Mathlib.Nat.{pow-suc, div-lt-iff-lt-mul, zero-lt-suc}
 use native.Mathlib.Omega.{arith}
 use lib.Dec.{eqb, leb}
-use lib.ListN.{length, getD}
 use borrow.Author.Tests.{eq-eqb, eqb-true, not-true}
 use Rattle.bounded.proofs.Tests.{caseOn, contradicts, and-left, and-right}
 use Rattle.decimals.specs.Decimal.{digitsOf, decimalOf}
@@ -16,7 +15,7 @@ use Rattle.wording.proofs.Wording.{Fits, name-fits, text-fits}
 use Rattle.reasons.specs.declared.Reason.{Reason}
 use Rattle.reasons.specs.Sentence.{opening, field, pageLabel, closing, sentence}
 use Rattle.reason_reading.specs.Numbers.{goesOn, numbersFrom, numbersIn}
-use Rattle.reason_reading.proofs.Scanning.{Digit, digit, is-digit, at-digit, at-gap, at-end}
+use Rattle.reason_reading.proofs.Scanning.{Digit, is-digit, at-digit, at-gap, at-end}
 use Rattle.reason_reading.proofs.Guessing.{given}
 
 -- ---- what is no digit

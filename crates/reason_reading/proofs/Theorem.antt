@@ -2,11 +2,10 @@
 use mathlib.Core.Path.{_≡_, refl, sym, ap, subst, _∙_}
 use mathlib.Core.Bool.{Bool, true, false, cond, _&&_}
 use mathlib.Core.List.{List, [], _∷_, _++_, append-assoc}
-use mathlib.Core.Logic.{_↔_}
-use Prim.Native.Nat.{ℕ, zero, suc, _+_, _-_, _*_, _^_, _<_, _≤_}
+use Prim.Native.Nat.{ℕ, zero, suc, _^_, _<_}
 use native.Mathlib.Omega.{arith}
-use lib.ListN.{length, getD}
-use Rattle.bounded.proofs.Tests.{caseOn, contradicts, and-left, and-right}
+use lib.ListN.{getD}
+use Rattle.bounded.proofs.Tests.{caseOn, and-left, and-right}
 use Rattle.decimals.specs.Decimal.{decimalOf}
 use Rattle.wording.specs.Calls.{canReturn, takesWriter, takesPage, takesLine, meetsWriter}
 use Rattle.wording.specs.Words.{codes, nameOf, textOf, callNamed}

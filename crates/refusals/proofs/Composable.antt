@@ -1,13 +1,11 @@
 -- What a refused call met can be composed, and so reads back as it is (`reads-back` of reason_reading).
-use mathlib.Core.Path.{_≡_, refl, sym, subst}
-use mathlib.Core.Bool.{Bool, true, false, cond, _||_, _&&_}
-use mathlib.Core.List.{List}
+use mathlib.Core.Path.{_≡_}
+use mathlib.Core.Bool.{Bool, true, false, cond, _&&_}
 use Prim.Native.Nat.{ℕ, _^_, _<_, _≤_}
 use native.Mathlib.Omega.{arith}
 use lib.Dec.{eqb, ltb, leb}
-use Rattle.bounded.specs.Below.{firstBelow}
 use Rattle.bounded.proofs.Below.{first-le}
-use Rattle.bounded.proofs.Tests.{caseOn, or-left, or-right, row-keeps}
+use Rattle.bounded.proofs.Tests.{or-left, or-right, row-keeps}
 use Rattle.state.specs.declared.State.{State}
 use Rattle.wording.specs.Calls.{canReturn, takesWriter, takesPage, takesLine, meetsWriter, oneOf, oneMore}
 use Rattle.reason_reading.specs.Reading.{Composable}

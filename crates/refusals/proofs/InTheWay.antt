@@ -1,11 +1,11 @@
 -- Where row 14 or 18 turns a call back, a writer stands in its way, and the one that is said is the lowest.
-use mathlib.Core.Path.{_≡_, refl, sym, ap, subst, _∙_}
-use mathlib.Core.Bool.{Bool, true, false, not, _&&_, _||_}
+use mathlib.Core.Path.{_≡_, refl, subst}
+use mathlib.Core.Bool.{Bool, true, false, not, _||_}
 use mathlib.Core.List.{List}
-use Prim.Native.Nat.{ℕ, _+_, _<_, _≤_}
+use Prim.Native.Nat.{ℕ, _+_, _<_}
 use native.Mathlib.Omega.{arith}
 use lib.Dec.{ltb, leb, eqb}
-use borrow.Author.Tests.{ltb-true, ltb-false, not-false, eq-eqb, eqb-true, eqb-false}
+use borrow.Author.Tests.{ltb-true, ltb-false, not-false, eqb-true, eqb-false}
 use Rattle.bounded.specs.Rows.{Row, refusal}
 use Rattle.bounded.specs.Below.{someBelow, firstBelow}
 use Rattle.bounded.proofs.Tests.{caseOn, contradicts, and-left, and-right, or-left, or-right}

@@ -3,13 +3,11 @@ use mathlib.Core.Path.{_≡_, refl, sym, subst}
 use mathlib.Core.Bool.{Bool, true, false, not, _&&_}
 use mathlib.Core.List.{List, [], _∷_}
 use Prim.Native.Nat.{ℕ, _<_}
-use native.Mathlib.Omega.{arith}
-use lib.Dec.{eqb}
 use lib.ListN.{length}
 use Rattle.bounded.specs.Below.{allBelow}
 use Rattle.bounded.specs.Rows.{Row, refusal}
 use Rattle.bounded.proofs.Below.{all-at}
-use Rattle.bounded.proofs.Tests.{caseOn, contradicts, and-left, and-right}
+use Rattle.bounded.proofs.Tests.{caseOn, and-left, and-right}
 use Rattle.layout.specs.declared.Sizes.{Sizes}
 use Rattle.words.specs.Words.{word}
 use Rattle.mount.specs.Mount.{mountRows}

@@ -40,19 +40,12 @@ step = 10
 abbrev pub run : ℕ
 run = 11
 
--- how many calls there are, and the number past the last row's
-abbrev pub calls : ℕ
-calls = 12
-
-abbrev pub numbers : ℕ
-numbers = 20
-
 -- ---- the places of the table
 
 abbrev pub readers : List ℕ
 readers = mount ∷ recall ∷ []
 
--- all but step and run, that take a state and the image
+-- the calls that take a state and the image, but step and run
 abbrev pub askers : List ℕ
 askers = write ∷ commit ∷ consolidate ∷ checkpoint ∷ read ∷ []
 

@@ -1,13 +1,13 @@
 -- At each turn the number looked for is among those that what is read and the text left give.
-use mathlib.Core.Path.{_≡_, refl, sym, ap, subst, _∙_}
-use mathlib.Core.Bool.{Bool, true, false, not, cond, _&&_}
-use Prim.Native.Nat.{ℕ, _+_, _-_, _^_, _<_, _≤_}
+use mathlib.Core.Path.{_≡_, refl, sym, _∙_}
+use mathlib.Core.Bool.{false, cond, _&&_}
+use Prim.Native.Nat.{_-_, _^_, _<_, _≤_}
 use native.Mathlib.Omega.{arith}
 use lib.Dec.{eqb}
 use lib.ListN.{length, getD}
 use borrow.Author.Needs.{needs}
 use borrow.Author.Tests.{not-true, not-false}
-use Rattle.reason_reading.specs.Numbers.{goesOn, numbersFrom, numbersIn}
+use Rattle.reason_reading.specs.Numbers.{goesOn, numbersIn}
 use Rattle.reason_reading.proofs.Scanning.{Digit, digit, Going, turn-digit, turn-gap, turn-found, turn-past, going-end}
 use Rattle.reason_reading.proofs.number_at.Statement.{statement}
 use Rattle.reason_reading.proofs.number_at.Tie as tie

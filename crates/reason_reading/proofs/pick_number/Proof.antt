@@ -1,4 +1,3 @@
-use mathlib.Core.Path.{_∙_}
 use borrow.Author.Needs.{needs}
 use Rattle.reason_reading.proofs.pick_number.Statement.{statement}
 use Rattle.reason_reading.proofs.pick_number.Tie as tie

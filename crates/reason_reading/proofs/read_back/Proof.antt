@@ -1,17 +1,10 @@
 -- The guess is composed again, and its sentence compared with the text.
-use mathlib.Core.Path.{_≡_, refl, sym, ap, ap₂, subst, _∙_}
-use mathlib.Core.Bool.{Bool, true, false}
-use mathlib.Core.List.{List}
-use Prim.Native.Nat.{ℕ, _≤_}
-use native.Mathlib.Omega.{arith}
-use lib.ListN.{length, take, replicate}
+use mathlib.Core.Path.{refl, sym}
+use lib.ListN.{replicate}
 use lib.Seq.{length-take-le}
 use borrow.Author.Needs.{needs}
 use borrow.Author.Tests.{not-true, not-false}
 use Rattle.bounded.proofs.Tests.{contradicts}
-use Rattle.wording.specs.Calls.{canReturn}
-use Rattle.reasons.specs.Sentence.{sentence, composed, composedIn}
-use Rattle.reason_reading.specs.Reading.{guess}
 use Rattle.reason_reading.proofs.Back.{again-cannot, again-low, again-other, again-these}
 use Rattle.reason_reading.proofs.read_back.Statement.{statement}
 use Rattle.reason_reading.proofs.read_back.Tie as tie

@@ -1,9 +1,6 @@
 -- The four fields and the dot; each ends where the longest would.
 use native.Mathlib.Omega.{arith}
 use Prim.Native.Nat.{_+_, _≤_}
-use mathlib.Core.Bool.{Bool}
-use mathlib.Core.List.{List, [], _∷_, _++_}
-use mathlib.Core.Path.{_≡_}
 use borrow.Author.Needs.{needs}
 use Rattle.number_text.proofs.Puts.{put-then}
 use Rattle.wording.specs.Words.{codes}

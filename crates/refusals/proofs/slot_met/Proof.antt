@@ -1,7 +1,7 @@
 use mathlib.Core.Path.{_≡_, sym, _∙_}
 use mathlib.Core.Bool.{true}
 use borrow.Author.Needs.{needs}
-use borrow.Author.Tests.{not-true, lt-ltb, le-ltb}
+use borrow.Author.Tests.{not-true}
 use Rattle.bounded.proofs.Tests.{held}
 use Rattle.layout.specs.Layout.{sizesOk}
 use Rattle.layout.proofs.LayoutLaws.{legal}

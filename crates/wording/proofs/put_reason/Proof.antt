@@ -1,9 +1,6 @@
 -- One test over the table of the numbers' texts.
-use mathlib.Core.Path.{_≡_, refl, sym}
-use mathlib.Core.List.{List, []}
-use Prim.Native.Nat.{ℕ, _+_}
+use mathlib.Core.Path.{refl, sym}
 use native.Mathlib.Omega.{arith}
-use lib.ListN.{length, getD}
 use borrow.Author.Needs.{needs}
 use Rattle.bytes.specs.Bytes.{indexOf, indexAfter}
 use Rattle.wording.specs.Words.{codes, texts, upToDot}
