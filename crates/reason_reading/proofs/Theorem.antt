@@ -146,3 +146,13 @@ forth text r e =
 
 pub reads-back : ReadsBack
 reads-back text r = (forth text r, λ h. back r (h .1) text (h .0))
+
+-- the second half, said of what is read: a text that is the sentence of no reason gives none
+pub reads-none : (text : List ℕ) → ((r : Reason) → Composable r → text ≡ sentence r → ⊥) → readBack text ≡ Nothing
+unfolding readBack
+reads-none text f =
+    let can = canReturn (guess text .call) (guess text .number) in
+    let same = sameText text (sentence (guess text)) in
+    caseOn (held text)
+    (λ t. absurd (f (guess text) (guess-composable text (and-left can same t)) (same-eq text (sentence (guess text)) (and-right can same t))))
+    (λ t. rw t)
