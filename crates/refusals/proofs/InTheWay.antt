@@ -1,0 +1,78 @@
+-- Where row 14 or 18 turns a call back, a writer stands in its way, and the one that is said is the lowest.
+use mathlib.Core.Path.{_≡_, refl, subst}
+use mathlib.Core.Bool.{Bool, true, false, not, _||_}
+use mathlib.Core.List.{List}
+use Prim.Native.Nat.{ℕ, _+_, _<_}
+use native.Mathlib.Omega.{arith}
+use lib.Dec.{ltb, leb, eqb}
+use borrow.Author.Tests.{ltb-true, ltb-false, not-false, eqb-true, eqb-false}
+use Rattle.bounded.specs.Rows.{Row, refusal}
+use Rattle.bounded.specs.Below.{someBelow, firstBelow}
+use Rattle.bounded.proofs.Tests.{caseOn, contradicts, and-left, and-right, or-left, or-right}
+use Rattle.bounded.proofs.Below.{first-le, first-holds, first-before, none-made}
+use Rattle.layout.specs.declared.Sizes.{Sizes}
+use Rattle.layout.specs.Layout.{sizesOk, Legal}
+use Rattle.layout.proofs.LayoutLaws.{legal}
+use Rattle.state.specs.declared.State.{State}
+use Rattle.state.specs.Held.{othersHold, someHold}
+use Rattle.operations.specs.Operations.{slotFor, slotted}
+use Rattle.validity.specs.Validity.{stateOk, slotsOk}
+use Rattle.validity.proofs.Ranged.{slots-good}
+use Rattle.refinement.specs.Calls.{writeCallRows, consolidateCallRows}
+use Rattle.refusals.specs.Met.{holdsLine, holdsSlot, slotMet, lineHolder, pageHolder, Lowest}
+use Rattle.refusals.proofs.Slots.{has-slot, line-first, page-first}
+use Rattle.refusals.proofs.OnlyRow.{Stopped, stopped}
+
+-- some of the four stand in the way, so the first is one of them
+lowest : (f : ℕ → Bool) → someBelow 4 f ≡ true → Lowest f (firstBelow 4 f)
+lowest f e = record { writer = low; stands = first-holds f 4 low; lowest = first-before f 4 }
+  where
+    low : firstBelow 4 f < 4
+    low =
+        caseOn (eqb (firstBelow 4 f) 4)
+        (λ t.
+        let z : firstBelow 4 f ≡ 4 = eqb-true (firstBelow 4 f) 4 t in
+        contradicts e (none-made f 4 (λ i h. first-before f 4 i (omega arith))))
+        (λ t. let n : firstBelow 4 f ≡ 4 → ⊥ = eqb-false (firstBelow 4 f) 4 t in omega (arith, first-le f 4))
+
+sizes-ok : (st : State) → stateOk st ≡ true → sizesOk (st .sizes) ≡ true
+unfolding stateOk
+sizes-ok st e =
+    slots-good (st .sizes) (st .head) (st .tail) (st .table) (and-left (slotsOk (st .sizes) (st .head) (st .tail) (st .table)) _ e) .sizes
+
+-- the slot that is met is the page's
+module _ (st : State) (p : ℕ) (ok : not (stateOk st) ≡ false) (has : slotted st p ≡ true) where
+  sizes : sizesOk (st .sizes) ≡ true
+  sizes = sizes-ok st (not-false (stateOk st) ok)
+
+  slot : slotFor st p ≡ slotMet (st .sizes) (st .table .page) p
+  slot = has-slot (st .sizes) (st .table .page) p (slotFor st p) sizes refl (ltb-true (slotFor st p) (st .sizes .slots) has)
+
+  slot-low : slotFor st p < 16
+  slot-low = let l = legal (st .sizes) sizes in omega (arith, ltb-true (slotFor st p) (st .sizes .slots) has)
+
+-- 14
+pub write-met : (st : State) (img : List ℕ) (w p l o n : ℕ) (bytes : List ℕ) → refusal (writeCallRows st img w p l o n bytes) ≡ 14
+    → Lowest (holdsLine (st .writers .held) w (slotFor st p) l) (lineHolder st w p l)
+unfolding othersHold
+write-met st img w p l o n bytes e =
+    let s = stopped (writeCallRows st img w p l o n bytes) 6 14 refl e in
+    let others = othersHold (st .writers .held) w (slotFor st p) l in
+    let has = and-left (slotted st p) others (s .applies) in
+    let args = s .past .1 .1 .1 .1 .0 in
+    let bad = ltb 3 w || leb (st .sizes .pages) p in
+    let high : ltb 63 l ≡ false = or-right bad (ltb 63 l) (or-left (bad || ltb 63 l) (eqb n 0) (or-left (bad || ltb 63 l || eqb n 0) (ltb 64 (o + n)) args)) in
+    subst (λ (v : ℕ). Lowest (holdsLine (st .writers .held) w (slotFor st p) l) v)
+    (line-first st p (slotFor st p) (slot st p (s .past .0) has) w l (slot-low st p (s .past .0) has) (ltb-false 63 l high))
+    (lowest (holdsLine (st .writers .held) w (slotFor st p) l) (and-right (slotted st p) others (s .applies)))
+
+-- 18
+pub consolidate-met : (st : State) (img : List ℕ) (p : ℕ) → refusal (consolidateCallRows st img p) ≡ 18
+    → Lowest (holdsSlot (st .writers .held) (slotFor st p)) (pageHolder st p)
+unfolding someHold
+consolidate-met st img p e =
+    let s = stopped (consolidateCallRows st img p) 5 18 refl e in
+    let has = not-false (slotted st p) (s .past .1 .1 .1 .1 .0) in
+    subst (λ (v : ℕ). Lowest (holdsSlot (st .writers .held) (slotFor st p)) v)
+    (page-first st p (slotFor st p) (slot st p (s .past .0) has) (slot-low st p (s .past .0) has))
+    (lowest (holdsSlot (st .writers .held) (slotFor st p)) (s .applies))

@@ -1,0 +1,108 @@
+-- The table of numbers that each call can return is that of its rows: a call answers with no other number, and each number stands in a row.
+use mathlib.Core.Path.{_≡_, refl, sym, subst}
+use mathlib.Core.Bool.{Bool, true, false, not, _&&_}
+use mathlib.Core.List.{List, [], _∷_}
+use Prim.Native.Nat.{ℕ, _<_}
+use lib.ListN.{length}
+use Rattle.bounded.specs.Below.{allBelow}
+use Rattle.bounded.specs.Rows.{Row, refusal}
+use Rattle.bounded.proofs.Below.{all-at}
+use Rattle.bounded.proofs.Tests.{caseOn, and-left, and-right}
+use Rattle.layout.specs.declared.Sizes.{Sizes}
+use Rattle.words.specs.Words.{word}
+use Rattle.mount.specs.Mount.{mountRows}
+use Rattle.fresh.specs.Fresh.{formatRows}
+use Rattle.state.specs.declared.State.{State}
+use Rattle.refinement.specs.Calls.{beginRows, abortRows, writeCallRows, commitCallRows, consolidateCallRows, checkpointCallRows, readRows, stepRows}
+use Rattle.refinement.specs.Recall.{recallRows}
+use Rattle.wording.specs.Calls.{format, mount, recall, begin, abort, write, commit, consolidate, checkpoint, read, step, run, places, oneMore, oneOf, standsIn, canReturn}
+
+abbrev numbersOf : List Row → List ℕ
+numbersOf [] = []
+numbersOf (r ∷ rs) = r .1 ∷ numbersOf rs
+
+-- each number of a table is one that call c can return
+abbrev listed : ℕ → List Row → Bool
+listed c [] = true
+listed c (r ∷ rs) = canReturn c (r .1) && listed c rs
+
+-- two tests come out the same
+abbrev agree : Bool → Bool → Bool
+agree true b = b
+agree false b = not b
+
+agreed : (a b : Bool) → agree a b ≡ true → a ≡ b
+agreed true b e = sym e
+agreed false true e = e
+agreed false false e = refl
+
+pub record Returns (c : ℕ) (rows : List Row) : Type 0 where
+  pub answers : (n : ℕ) → refusal rows ≡ n → (n ≡ 0 → ⊥) → canReturn c n ≡ true
+  pub stands : (n : ℕ) → n < 20 → canReturn c n ≡ oneOf (numbersOf rows) n
+
+answered : (c : ℕ) (rows : List Row) → listed c rows ≡ true → (n : ℕ) → refusal rows ≡ n → (n ≡ 0 → ⊥) → canReturn c n ≡ true
+answered c [] t n e z = absurd (z (sym e))
+answered c (r ∷ rs) t n e z =
+    caseOn (r .0)
+    (λ q. subst (λ (m : ℕ). canReturn c m ≡ true) (rw q at e) (and-left (canReturn c (r .1)) (listed c rs) t))
+    (λ q. answered c rs (and-right (canReturn c (r .1)) (listed c rs) t) n (rw q at e) z)
+
+returns : (c : ℕ) (rows : List Row) → listed c rows ≡ true → allBelow 20 (λ n. agree (canReturn c n) (oneOf (numbersOf rows) n)) ≡ true → Returns c rows
+returns c rows t u =
+    record {
+      answers = answered c rows t;
+      stands = λ n h. agreed (canReturn c n) (oneOf (numbersOf rows) n) (all-at (λ k. agree (canReturn c k) (oneOf (numbersOf rows) k)) 20 n h u);
+    }
+
+-- ---- call by call
+
+module _ (z : Sizes) (k : ℕ) where
+  pub format-returns : Returns format (formatRows z k)
+  unfolding canReturn standsIn places oneOf oneMore allBelow
+  format-returns = returns format (formatRows z k) refl refl
+
+module _ (img : List ℕ) where
+  pub mount-returns : Returns mount (mountRows (length img) (word img))
+  unfolding canReturn standsIn places oneOf oneMore allBelow
+  mount-returns = returns mount (mountRows (length img) (word img)) refl refl
+
+  pub recall-returns : (p l : ℕ) (target : List ℕ) → Returns recall (recallRows img p l target)
+  unfolding canReturn standsIn places oneOf oneMore allBelow
+  recall-returns p l target = returns recall (recallRows img p l target) refl refl
+
+module _ (st : State) (img : List ℕ) where
+  pub begin-returns : (w : ℕ) → Returns begin (beginRows st w)
+  unfolding canReturn standsIn places oneOf oneMore allBelow
+  begin-returns w = returns begin (beginRows st w) refl refl
+
+  pub abort-returns : (w : ℕ) → Returns abort (abortRows st w)
+  unfolding canReturn standsIn places oneOf oneMore allBelow
+  abort-returns w = returns abort (abortRows st w) refl refl
+
+  pub write-returns : (w p l o n : ℕ) (bytes : List ℕ) → Returns write (writeCallRows st img w p l o n bytes)
+  unfolding canReturn standsIn places oneOf oneMore allBelow
+  write-returns w p l o n bytes = returns write (writeCallRows st img w p l o n bytes) refl refl
+
+  pub commit-returns : (w : ℕ) → Returns commit (commitCallRows st img w)
+  unfolding canReturn standsIn places oneOf oneMore allBelow
+  commit-returns w = returns commit (commitCallRows st img w) refl refl
+
+  pub consolidate-returns : (p : ℕ) → Returns consolidate (consolidateCallRows st img p)
+  unfolding canReturn standsIn places oneOf oneMore allBelow
+  consolidate-returns p = returns consolidate (consolidateCallRows st img p) refl refl
+
+  pub checkpoint-returns : Returns checkpoint (checkpointCallRows st img)
+  unfolding canReturn standsIn places oneOf oneMore allBelow
+  checkpoint-returns = returns checkpoint (checkpointCallRows st img) refl refl
+
+  pub read-returns : (w p l : ℕ) (target : List ℕ) → Returns read (readRows st img w p l target)
+  unfolding canReturn standsIn places oneOf oneMore allBelow
+  read-returns w p l target = returns read (readRows st img w p l target) refl refl
+
+  pub step-returns : Returns step (stepRows st img)
+  unfolding canReturn standsIn places oneOf oneMore allBelow
+  step-returns = returns step (stepRows st img) refl refl
+
+  pub run-returns : Returns run (stepRows st img)
+  unfolding canReturn standsIn places oneOf oneMore allBelow
+  run-returns = returns run (stepRows st img) refl refl

@@ -1,0 +1,108 @@
+-- The calls, numbered, and the numbers that each can return: document 01's table "Turned back, by place".
+use Prim.Native.Nat.{ℕ}
+use mathlib.Core.Bool.{Bool, false, _&&_, _||_}
+use mathlib.Core.List.{List, [], _∷_}
+use lib.Dec.{eqb}
+
+abbrev pub format : ℕ
+format = 0
+
+abbrev pub mount : ℕ
+mount = 1
+
+abbrev pub recall : ℕ
+recall = 2
+
+abbrev pub begin : ℕ
+begin = 3
+
+abbrev pub abort : ℕ
+abort = 4
+
+abbrev pub write : ℕ
+write = 5
+
+abbrev pub commit : ℕ
+commit = 6
+
+abbrev pub consolidate : ℕ
+consolidate = 7
+
+abbrev pub checkpoint : ℕ
+checkpoint = 8
+
+abbrev pub read : ℕ
+read = 9
+
+abbrev pub step : ℕ
+step = 10
+
+abbrev pub run : ℕ
+run = 11
+
+-- ---- the places of the table
+
+abbrev pub readers : List ℕ
+readers = mount ∷ recall ∷ []
+
+-- the calls that take a state and the image, but step and run
+abbrev pub askers : List ℕ
+askers = write ∷ commit ∷ consolidate ∷ checkpoint ∷ read ∷ []
+
+-- the table, row by row: the number and the calls of its place
+unfoldable pub places : List (ℕ × List ℕ)
+places =
+    (1, readers)
+    ∷ (2, readers)
+    ∷ (3, format ∷ readers)
+    ∷ (4, format ∷ readers)
+    ∷ (5, readers)
+    ∷ (6, readers)
+    ∷ (7, readers)
+    ∷ (8, begin ∷ abort ∷ step ∷ run ∷ askers)
+    ∷ (4, step ∷ run ∷ askers)
+    ∷ (9, begin ∷ abort ∷ askers)
+    ∷ (10, step ∷ run ∷ [])
+    ∷ (11, recall ∷ begin ∷ abort ∷ write ∷ commit ∷ consolidate ∷ read ∷ [])
+    ∷ (12, begin ∷ [])
+    ∷ (13, write ∷ commit ∷ abort ∷ [])
+    ∷ (14, write ∷ [])
+    ∷ (15, write ∷ [])
+    ∷ (16, write ∷ read ∷ [])
+    ∷ (17, consolidate ∷ [])
+    ∷ (18, consolidate ∷ [])
+    ∷ (19, commit ∷ consolidate ∷ [])
+    ∷ []
+
+-- whether x is one of a list, which computes to `x == y | x == z | ..`
+unfoldable pub oneMore : Bool → List ℕ → ℕ → Bool
+oneMore b [] x = b
+oneMore b (y ∷ ys) x = oneMore (b || eqb x y) ys x
+
+unfoldable pub oneOf : List ℕ → ℕ → Bool
+oneOf [] x = false
+oneOf (y ∷ ys) x = oneMore (eqb x y) ys x
+
+-- whether call c stands in a row with number n
+unfoldable pub standsIn : List (ℕ × List ℕ) → ℕ → ℕ → Bool
+standsIn [] c n = false
+standsIn (row ∷ rows) c n = (eqb n (row .0) && oneOf (row .1) c) || standsIn rows c n
+
+-- whether call c can return the number n; 0, taken, turns nothing back
+unfoldable pub canReturn : ℕ → ℕ → Bool
+canReturn c n = standsIn places c n
+
+-- ---- what a call is given
+
+unfoldable pub takesWriter : ℕ → Bool
+takesWriter c = oneOf (begin ∷ abort ∷ write ∷ commit ∷ read ∷ []) c
+
+unfoldable pub takesPage : ℕ → Bool
+takesPage c = oneOf (recall ∷ write ∷ consolidate ∷ read ∷ []) c
+
+unfoldable pub takesLine : ℕ → Bool
+takesLine c = oneOf (recall ∷ write ∷ read ∷ []) c
+
+-- whether a writer stands in the way of what a number turns back
+unfoldable pub meetsWriter : ℕ → Bool
+meetsWriter n = oneOf (14 ∷ 18 ∷ []) n
