@@ -1,17 +1,23 @@
 -- The listing of request L9: for every sequence of n calls, rising, a line for each cut of its last call.
 use Prim.Native.Nat.{ℕ, _+_, _^_}
 use Prim.Native.Char.{code}
+use mathlib.Core.Bool.{cond}
 use mathlib.Core.List.{List, [], _∷_, _++_}
+use lib.Dec.{eqb}
+use lib.ListN.{length}
 use Rattle.decimals.specs.Decimal.{decimalOf}
 use Rattle.number_text.specs.Text.{each}
 use Rattle.sequences.specs.Sequences.{sequence}
 use Rattle.sequence_runs.specs.Runs.{Ran, start, ran, firstByte}
 
--- decimals parted by commas, and a newline
-abbrev pub parted : List ℕ → List ℕ
-parted [] = code "\n" ∷ []
-parted (x ∷ []) = decimalOf x ++ (code "\n" ∷ [])
-parted (x ∷ y ∷ xs) = decimalOf x ++ (code "," ∷ parted (y ∷ xs))
+-- a number in decimals and the mark after it
+abbrev pub marked : ℕ → ℕ → List ℕ
+marked x mark = decimalOf x ++ (mark ∷ [])
+
+-- decimals parted by commas, and a newline after the last
+unfoldable pub parted : List ℕ → List ℕ
+parted [] = []
+parted (x ∷ xs) = marked x (cond (eqb (length xs) 0) (code "\n") (code ",")) ++ parted xs
 
 -- a line's numbers: calls, answers, cut and the first bytes of both lines after a mount
 abbrev pub numbersOf : List ℕ → ℕ → Ran → List ℕ

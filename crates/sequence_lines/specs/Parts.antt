@@ -3,18 +3,13 @@ use Prim.Native.Nat.{ℕ}
 use Prim.Native.Char.{code}
 use mathlib.Core.List.{List, [], _∷_, _++_}
 use mathlib.Core.Path.{_≡_}
-use Rattle.decimals.specs.Decimal.{decimalOf}
 use Rattle.number_text.specs.Text.{Put}
 use Rattle.sequence_lines.specs.declared.Line.{Line}
-use Rattle.sequence_lines.specs.Listing.{lineOf, neededBy}
-
--- a number and a comma
-abbrev pub comma : ℕ → List ℕ
-comma v = decimalOf v ++ (code "," ∷ [])
+use Rattle.sequence_lines.specs.Listing.{marked, lineOf, neededBy}
 
 unfoldable pub followed : List ℕ → List ℕ
 followed [] = []
-followed (v ∷ vs) = comma v ++ followed vs
+followed (v ∷ vs) = marked v (code ",") ++ followed vs
 
 -- the line of a sequence, put, and the stores that its last call needs
 pub record PutLine (out : List ℕ) (at : ℕ) (calls : List ℕ) (k : ℕ) (out′ : List ℕ) (r : Line) : Type 0 where
