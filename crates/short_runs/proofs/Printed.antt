@@ -20,7 +20,7 @@ use Rattle.sequence_lines.specs.Listing.{neededBy, lineOf, linesOf, listing}
 use Rattle.sequence_lines.specs.Parts.{PutLine}
 use Rattle.short_runs.specs.declared.Output.{Output}
 use Rattle.short_runs.specs.declared.Cut.{Cut}
-use Rattle.short_runs.specs.Program.{roomed, wantedOf, response, Prints, PutCut, Responds}
+use Rattle.short_runs.specs.Program.{roomed, wantedOf, mark, response, Prints, PutCut, Responds}
 
 -- ---- room for a line
 
@@ -80,11 +80,10 @@ responds-list input n s r out out′ e h z p =
     let t = le-leb n 3 h in
     record { ends = rw (← e, t) (p .ends [] (rw z (ends-none out []))) }
 
-mark-ends : (out : List ℕ) → 2 ≤ length out → Ends (set (set out 0 (code "?")) 1 (code "\n")) 2 (code "?" ∷ code "\n" ∷ [])
+pub mark-ends : (out : List ℕ) → 2 ≤ length out → Ends (set (set out 0 (code "?")) 1 (code "\n")) 2 mark
 mark-ends [] h = absurd (omega arith)
 mark-ends (a ∷ []) h = absurd (omega arith)
 mark-ends (a ∷ b ∷ l) h = record { within = omega arith; bytes = refl }
 
-pub responds-mark : (input : List ℕ) (n : ℕ) (ok : Bool) (out : List ℕ) → n ≡ wantedOf input → 3 < n → 2 ≤ length out
-    → Responds input (record { at = 2; ok = ok }) (set (set out 0 (code "?")) 1 (code "\n"))
-responds-mark input n ok out e h two = let t = lt-leb n 3 h in record { ends = rw (← e, t) (mark-ends out two) }
+pub responds-mark : (input : List ℕ) (n : ℕ) (ok : Bool) (out : List ℕ) → n ≡ wantedOf input → 3 < n → Ends out 2 mark → Responds input (record { at = 2; ok = ok }) out
+responds-mark input n ok out e h p = let t = lt-leb n 3 h in record { ends = rw (← e, t) p }

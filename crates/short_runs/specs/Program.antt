@@ -20,8 +20,12 @@ abbrev pub wantedOf : List ℕ → ℕ
 wantedOf input =
     cond (eqb (length input) 1 || (eqb (length input) 2 && eqb (getD input 1 0) 10)) (digitOf (getD input 0 0)) 4
 
+-- the answer to any other input
+abbrev pub mark : List ℕ
+mark = code "?" ∷ code "\n" ∷ []
+
 abbrev pub response : List ℕ → List ℕ
-response input = cond (leb (wantedOf input) 3) (listing (wantedOf input)) (code "?" ∷ code "\n" ∷ [])
+response input = cond (leb (wantedOf input) 3) (listing (wantedOf input)) mark
 
 -- before a line all that waits is written where there may be too little room for it
 abbrev pub roomed : ℕ → ℕ

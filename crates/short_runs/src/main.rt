@@ -2,9 +2,11 @@
 // bytes that a mount then shows (request L9). A line is sequence_lines'; here the input is read and the output is collected.
 ghost use mathlib.Core.Path.{_≡_};
 ghost use Prim.Native.Nat.{_^_, _≤_};
+ghost use lib.ListN.{length};
+ghost use Rattle.cutting.specs.Buffers.{Ends};
 ghost use Rattle.sequences.specs.Sequences.{sequence};
-ghost use Rattle.sequence_lines.specs.Listing.{neededBy, lineOf, linesOf, listing};
-ghost use Rattle.short_runs.specs.Program.{roomed, digitOf, wantedOf, response, Prints, PutCut, Responds};
+ghost use Rattle.sequence_lines.specs.Listing.{linesOf, listing};
+ghost use Rattle.short_runs.specs.Program.{roomed, digitOf, wantedOf, mark, Prints, PutCut, Responds};
 use libc::STDIN_FILENO;
 use libc::STDOUT_FILENO;
 
@@ -127,6 +129,15 @@ fn wanted(input: &[u8]) -> usize
     digit_of(input[0])
 }
 
+// The answer to any other input.
+fn put_mark(out: &mut [u8])
+    requires { ⌜ 2 ≤ length (now out) ⌝ }
+    ensures { λ _. ⌜ Ends (now (out .exit)) 2 mark ⌝ }
+{
+    out[0] = b'?';
+    out[1] = b'\n';
+}
+
 // What the program prints. What of it is not written yet is left to the caller.
 fn respond(input: &[u8], out: &mut [u8; 65536]) -> Output
     ensures { λ r. ⌜ Responds (now (input .entry)) r (now (out .exit)) ⌝ }
@@ -136,8 +147,7 @@ fn respond(input: &[u8], out: &mut [u8; 65536]) -> Output
     if n <= 3 {
         return put_all(s, out, n);
     }
-    out[0] = b'?';
-    out[1] = b'\n';
+    put_mark(out);
     Output { at: 2, ok: true }
 }
 
