@@ -40,10 +40,10 @@ cut-put s out room calls k out′ r ok made size same put =
     let n = rw (p .laid) at same in
     record {
       line = record {
-            ends = λ printed e.
-                let h : Ends out room printed = rw made (ends-room e) in
-                rw (p .laid, p .place) (ends-more (lineOf calls k) h (omega arith) n);
-          };
+        ends = λ printed e.
+            let h : Ends out room printed = rw made (ends-room e) in
+            rw (p .laid, p .place) (ends-more (lineOf calls k) h (omega arith) n);
+      };
       needed = put .needed;
     }
 

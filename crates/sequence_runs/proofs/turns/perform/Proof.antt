@@ -26,9 +26,12 @@ loop-again c =
     let t = c .before .before .before .turn in
     let h = c .before .before .before .before .before .before .before .loop in
     let s = c .before .before .before .before .before .before .before .before .before .before .before in
-    let some = c .before .before .before .before .before .before .loop-test .taken in
-    (omega (arith, some), t .kept .1 .0 ∙ h .inv .1, length-set (h .answers) (h .i) (t .result .number) ∙ h .inv .2,
-    reached-more (s .args .k) (s .args .numbers .now) (h .i) (h .answers) (h .needed) (h .st) (h .image) _ (t .result) _ some (omega (arith, some, h .inv .2, s .pre)) (t .ensures) (h .inv .3))
+    let some = c .before .before .before .before .before .before .loop-test .taken in (
+      omega (arith, some),
+      t .kept .1 .0 ∙ h .inv .1,
+      length-set (h .answers) (h .i) (t .result .number) ∙ h .inv .2,
+      reached-more (s .args .k) (s .args .numbers .now) (h .i) (h .answers) (h .needed) (h .st) (h .image) _ (t .result) _ some (omega (arith, some, h .inv .2, s .pre)) (t .ensures) (h .inv .3),
+    )
 
 returns : tie.Need-returns Inv-loop μ-loop
 returns c =
