@@ -1,5 +1,5 @@
 -- A line in its parts.
-use Prim.Native.Nat.{ℕ, suc, _+_, _*_, _<_, _≤_}
+use Prim.Native.Nat.{ℕ, _+_, _*_, _<_, _≤_}
 use Prim.Native.Char.{code}
 use mathlib.Core.List.{List, [], _∷_, _++_, append-assoc, append-nil}
 use mathlib.Core.Path.{_≡_, refl, sym, ap, _∙_}
@@ -17,9 +17,8 @@ use Rattle.number_text.proofs.Puts.{put-none, put-then, put-as}
 use Rattle.sequence_runs.specs.declared.Played.{Played}
 use Rattle.sequence_runs.specs.Calls.{callOf}
 use Rattle.sequence_runs.specs.Runs.{Ran, start, oneMore, ran, firstByte, playedOf}
-use Rattle.sequence_lines.specs.Listing.{marked, parted, numbersOf, lineOf, neededBy}
+use Rattle.sequence_lines.specs.Listing.{marked, parted, numbersOf, lineOf}
 use Rattle.sequence_lines.specs.Parts.{followed, PutLine}
-use Rattle.sequence_lines.specs.declared.Line.{Line}
 
 -- ---- numbers, each followed by a comma
 

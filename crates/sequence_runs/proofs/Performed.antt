@@ -1,8 +1,7 @@
 -- Calls one after the other.
 use Prim.Native.Nat.{ℕ, suc, _+_, _-_, _<_, _≤_}
-use mathlib.Core.Bool.{Bool, true, false}
-use mathlib.Core.List.{List, [], _∷_, _++_}
-use mathlib.Core.Path.{_≡_, refl, sym, ap, _∙_}
+use mathlib.Core.List.{List}
+use mathlib.Core.Path.{_≡_, sym, ap, _∙_}
 use native.Mathlib.Numerals.{add-one}
 use native.Mathlib.Omega.{arith}
 use lib.Dec.{eqb}
@@ -18,8 +17,7 @@ use Rattle.refinement.specs.Mount.{formatCall}
 use Rattle.fresh.specs.Fresh.{formatBytes}
 use Rattle.answers.specs.declared.Done.{Done}
 use Rattle.answers.specs.Answers.{outcomeOf}
-use Rattle.sequence_runs.specs.Calls.{callOf}
-use Rattle.sequence_runs.specs.Runs.{small, freshWorld, Ran, start, oneMore, ran, firstByte, playedOf}
+use Rattle.sequence_runs.specs.Runs.{small, freshWorld, Ran, start, ran, firstByte, playedOf}
 use Rattle.sequence_runs.specs.declared.turns.Made.{Made}
 use Rattle.sequence_runs.specs.Turns.{begun, Turned}
 

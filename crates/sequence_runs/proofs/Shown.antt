@@ -1,15 +1,14 @@
 -- The bytes that a line prints are the reference machine's: demand 3 on the list of calls that was made.
 use Prim.Native.Nat.{ℕ, zero, suc, _<_, _≤_}
-use mathlib.Core.Bool.{Bool, true, false, cond}
+use mathlib.Core.Bool.{false}
 use mathlib.Core.List.{List, [], _∷_}
-use mathlib.Core.Path.{_≡_, refl, sym, ap, _∙_, subst}
+use mathlib.Core.Path.{_≡_, refl, ap, _∙_}
 use native.Mathlib.Omega.{arith}
 use lib.Dec.{eqb, ltb}
 use lib.ListN.{length, getD, drop, replicate, length-replicate}
 use borrow.Author.Tests.{le-ltb}
-use Rattle.bounded.specs.Tab.{tab}
 use Rattle.bounded.proofs.Tab.{length-tab, getD-tab}
-use Rattle.words.specs.Words.{Bytes, word, over}
+use Rattle.words.specs.Words.{Bytes, word}
 use Rattle.words.proofs.Parts.{getD-over}
 use Rattle.layout.specs.declared.Sizes.{Sizes}
 use Rattle.layout.specs.Layout.{imageLength}
@@ -18,8 +17,7 @@ use Rattle.mount.proofs.View.{View}
 use Rattle.refinement.specs.Stores.{World}
 use Rattle.refinement.specs.Run.{Call, checkpoint, recall, exec, after}
 use Rattle.refinement.specs.Reference.{Reference, blank, recallLine}
-use Rattle.refinement.specs.Beside.{follows}
-use Rattle.refinement.specs.Recall.{recallRow, recallBytes}
+use Rattle.refinement.specs.Recall.{recallRow}
 use Rattle.refinement.specs.Statement.{Lent, AllLent}
 use Rattle.refinement.proofs.CallSound.{call-sound}
 use Rattle.refinement.proofs.Reached.{Reached, reached, reached-first}

@@ -1,11 +1,7 @@
 // Calls one after the other, each with its stores.
 ghost use mathlib.Core.Path.{_≡_};
-ghost use mathlib.Core.List.{List, []};
-ghost use Prim.Native.Nat.{ℕ};
 ghost use lib.ListN.{length};
-ghost use Rattle.refinement.specs.Calls.{worldOf};
-ghost use Rattle.sequence_runs.specs.Calls.{callOf};
-ghost use Rattle.sequence_runs.specs.Runs.{budget, Ran, oneMore, ran};
+ghost use Rattle.sequence_runs.specs.Runs.{budget, ran};
 ghost use Rattle.sequence_runs.specs.Turns.{Turned, begun};
 use crate::calls;
 use state::State;

@@ -9,7 +9,7 @@ use lib.Dec.{ltb}
 use lib.ListN.{length, length-append}
 use borrow.Author.Tests.{ltb-true, ltb-false}
 use Rattle.bounded.proofs.Tests.{caseOn}
-use Rattle.sequences.specs.Sequences.{sequence, Before, Numbers, Place, Rising, Sound, Complete}
+use Rattle.sequences.specs.Sequences.{sequence, Before, Numbers, Rising, Sound, Complete}
 
 -- ---- how long they are, and of what
 

@@ -1,16 +1,15 @@
 -- The output, text by text.
-use Prim.Native.Nat.{ℕ, suc, _+_, _^_, _<_, _≤_}
+use Prim.Native.Nat.{ℕ, _+_, _^_, _<_, _≤_}
 use Prim.Native.Char.{code}
 use mathlib.Core.Bool.{Bool}
 use mathlib.Core.List.{List, [], _∷_, _++_, append-assoc, append-nil}
-use mathlib.Core.Path.{_≡_, refl, sym, ap, _∙_, subst}
+use mathlib.Core.Path.{_≡_, refl, subst}
 use native.Mathlib.Numerals.{add-one}
 use native.Mathlib.Omega.{arith}
 use lib.Dec.{leb}
-use lib.ListN.{length, take, set}
+use lib.ListN.{length, set}
 use borrow.Author.Tests.{le-leb, lt-leb, leb-true}
 use Rattle.bounded.proofs.Tests.{caseOn}
-use Rattle.words.specs.Words.{over}
 use Rattle.cutting.specs.Buffers.{Ends}
 use Rattle.cutting.proofs.Buffers.{ends-none, ends-more}
 use Rattle.number_text.specs.Text.{each}
@@ -19,8 +18,7 @@ use Rattle.sequence_lines.specs.declared.Line.{Line}
 use Rattle.sequence_lines.specs.Listing.{neededBy, lineOf, linesOf, listing}
 use Rattle.sequence_lines.specs.Parts.{PutLine}
 use Rattle.short_runs.specs.declared.Output.{Output}
-use Rattle.short_runs.specs.declared.Cut.{Cut}
-use Rattle.short_runs.specs.Program.{roomed, wantedOf, mark, response, Prints, PutCut, Responds}
+use Rattle.short_runs.specs.Program.{roomed, wantedOf, mark, Prints, PutCut, Responds}
 
 -- ---- room for a line
 

@@ -1,8 +1,8 @@
 -- At each turn the first k numbers are still to set, to the digits of what is left of i.
-use Prim.Native.Nat.{ℕ, _-_, _+_, _/_, _%_, _≤_}
-use mathlib.Core.Path.{_≡_, refl, sym, _∙_}
+use Prim.Native.Nat.{_-_, _+_, _%_, _≤_}
+use mathlib.Core.Path.{_≡_, refl, _∙_}
 use native.Mathlib.Omega.{arith}
-use lib.ListN.{length, length-set, drop}
+use lib.ListN.{length, length-set}
 use borrow.Author.Needs.{needs}
 use Rattle.sequences.specs.Sequences.{sequence}
 use Rattle.sequences.proofs.Filled.{Left, left-all, left-turn, left-none}
