@@ -1,16 +1,10 @@
 // Refusals that a store gives: what the call met, as a sentence.
-use answers::Done;
 use layout::Sizes;
 use state::State;
 
-// Calls with their writer, page and line. Writers 3 and 1 hold lines 5 and 6 of page 1; then 0 and 3 want line 6, and 0 line 5 and another page,
-// and pages 1 and 0 are to be consolidated and a slot freed.
-const CALLS: [[usize; 4]; 14] = [
-    [wording::BEGIN, 3, 0, 0],
-    [wording::BEGIN, 1, 0, 0],
-    [wording::BEGIN, 0, 0, 0],
-    [wording::WRITE, 3, 1, 5],
-    [wording::WRITE, 1, 1, 6],
+// Calls with their writer, page and line: 0 and 3 want line 6, 0 line 5 and another page, 2 is not open, an argument is out of range, pages 1 and 0 are
+// to be consolidated, and a slot is to be freed.
+const CALLS: [[usize; 4]; 9] = [
     [wording::WRITE, 0, 1, 6],
     [wording::WRITE, 3, 1, 6],
     [wording::WRITE, 0, 1, 5],
@@ -22,43 +16,53 @@ const CALLS: [[usize; 4]; 14] = [
     [wording::FREE_SLOT, 0, 0, 0],
 ];
 
-// Makes a call.
-fn make(st: State, image: &[u8], row: &[usize; 4]) -> Done {
-    match row[0] {
-        wording::BEGIN => writers::begin(st, row[1]),
-        wording::WRITE => transactions::write(st, image, row[1], row[2], row[3], 0, 1, b"x"),
-        wording::CONSOLIDATE => transactions::consolidate(st, image, row[2]),
-        _ => freeing::free_slot(st, image),
-    }
-}
-
-// Writes the sentence of a call that was refused.
-fn tell(done: Done, row: &[usize; 4]) {
-    let mut target = [0; 200];
-    let answer = done.answer;
-    let number = answers::number_of(answer);
-    let reason = refusals::reason_met(done.state, row[0], number, row[1], row[2], row[3]);
-    let composed = reasons::compose(reason, &mut target);
-    if composed.number != 0 {
-        return;
-    }
-    let n = composed.length;
-    crate::samples::write_both(&target[..n], b"\n");
-}
-
-// The calls one after the other, each run to its end.
-pub fn show_met() {
-    let mut image = [0u8; 12480];
+// A store whose writers 3 and 1 hold lines 5 and 6 of page 1. The state is what the calls would make of it; that is left to the tests of these.
+fn held(image: &mut [u8]) -> State {
     let z = Sizes {
         pages: 2,
         slots: 1,
         places: 2,
     };
-    let mut st = mounting::format(&mut image, z).state;
-    for k in 0..14 {
+    let mut st = mounting::format(image, z).state;
+    let mut table = st.table;
+    table.page[0] = 1;
+    table.original[0] = 1;
+    let mut writers = st.writers;
+    writers.opened = [true, true, false, true];
+    writers.held[16] = 64;
+    writers.held[48] = 32;
+    st.table = table;
+    st.writers = writers;
+    st
+}
+
+// The number of a call's answer.
+fn number(st: State, image: &[u8], row: &[usize; 4]) -> usize {
+    if row[0] == wording::WRITE {
+        let answer = transactions::write(st, image, row[1], row[2], row[3], 0, 1, b"x").answer;
+        return answers::number_of(answer);
+    }
+    if row[0] == wording::CONSOLIDATE {
+        let answer = transactions::consolidate(st, image, row[2]).answer;
+        return answers::number_of(answer);
+    }
+    let answer = freeing::free_slot(st, image).answer;
+    answers::number_of(answer)
+}
+
+// Writes the sentence of a refused call.
+fn tell(st: State, number: usize, row: &[usize; 4]) {
+    let mut target = [0; 200];
+    let reason = refusals::reason_met(st, row[0], number, row[1], row[2], row[3]);
+    let n = reasons::compose(reason, &mut target).length;
+    crate::samples::write_both(&target[..n], b"\n");
+}
+
+pub fn show_met() {
+    let mut image = [0u8; 12480];
+    let st = held(&mut image);
+    for k in 0..9 {
         let row = CALLS[k];
-        let done = make(st, &image, &row);
-        tell(done, &row);
-        st = stepping::run(done.state, &mut image, 8).state;
+        tell(st, number(st, &image, &row), &row);
     }
 }
