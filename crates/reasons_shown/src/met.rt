@@ -50,19 +50,12 @@ fn number(st: State, image: &[u8], row: &[usize; 4]) -> usize {
     answers::number_of(answer)
 }
 
-// Writes the sentence of a refused call.
-fn tell(st: State, number: usize, row: &[usize; 4]) {
-    let mut target = [0; 200];
-    let reason = refusals::reason_met(st, row[0], number, row[1], row[2], row[3]);
-    let n = reasons::compose(reason, &mut target).length;
-    crate::samples::write_both(&target[..n], b"\n");
-}
-
 pub fn show_met() {
     let mut image = [0u8; 12480];
     let st = held(&mut image);
     for k in 0..9 {
         let row = CALLS[k];
-        tell(st, number(st, &image, &row), &row);
+        let n = number(st, &image, &row);
+        crate::samples::show(refusals::reason_met(st, row[0], n, row[1], row[2], row[3]));
     }
 }

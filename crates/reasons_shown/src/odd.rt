@@ -3,9 +3,8 @@ fn show(text: &[u8]) {
     crate::samples::write_both(text, b"\n");
 }
 
-// A sentence; then texts that are none: a leading zero, a number that fits no word, another label, a field too many, one too few, a number
-// that the call cannot return, the wrong text for a number, a number that has no text, a byte too many, one too few, no byte.
-pub fn show_odd() {
+// A sentence; then texts that are none: a leading zero, a number that fits no word, another label, a field too many, one too few.
+fn show_fields() {
     show(
         b"Write refused (14): another writer holds the line. Writer 0, page 3, line 5, held by writer 2.",
     );
@@ -20,6 +19,11 @@ pub fn show_odd() {
     );
     show(b"Commit refused (13): the writer is not open. Writer 0, page 3.");
     show(b"Write refused (14): another writer holds the line. Writer 0, page 3, line 5.");
+}
+
+// A number that the call cannot return, the wrong text for a number, a number that has no text, a byte too many, one too few, no byte.
+pub fn show_odd() {
+    show_fields();
     show(b"Begin refused (14): another writer holds the line. Writer 0, held by writer 2.");
     show(b"Write refused (13): another writer holds the line. Writer 0, page 3, line 5.");
     show(b"Free slot refused (20): .");

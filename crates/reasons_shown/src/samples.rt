@@ -11,18 +11,22 @@ fn write_number(mark: &[u8], v: usize) {
     io::print_decimal(1, v as u64);
 }
 
+fn write_reason(r: Reason) {
+    write_number(b"\n  call ", r.call);
+    write_number(b", number ", r.number);
+    write_number(b", writer ", r.writer);
+    write_number(b", page ", r.page);
+    write_number(b", line ", r.line);
+    write_number(b", holder ", r.holder);
+}
+
 // Writes a text, in the next line what it reads back as, and an end.
 pub fn write_both(text: &[u8], end: &[u8]) {
     io::write_all(1, text);
     let back = reason_reading::read_back(text);
     match back {
         ReadBack::These(r) => {
-            write_number(b"\n  call ", r.call);
-            write_number(b", number ", r.number);
-            write_number(b", writer ", r.writer);
-            write_number(b", page ", r.page);
-            write_number(b", line ", r.line);
-            write_number(b", holder ", r.holder);
+            write_reason(r);
         }
         ReadBack::Nothing => {
             io::write_all(1, b"\n  nothing");
@@ -58,7 +62,7 @@ fn count_nothing(text: &mut [u8]) -> usize {
 
 // Shows a sentence, with the number of its damaged copies and of those that read back as nothing. Gives 1 where composing is turned back; a target
 // that is a byte too short turns it back too, or nothing is shown.
-fn show(reason: Reason) -> usize
+pub fn show(reason: Reason) -> usize
     ensures { λ r. ⌜ r ≤ 1 ⌝ }
 {
     let mut short = [b'~'; 199];

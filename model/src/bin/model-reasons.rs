@@ -230,7 +230,7 @@ impl Store {
     fn tell(&self, place: usize, refusal: Refusal, met: Met) {
         let number = u64::from(refusal.number());
         let sentence = compose(place, number, met).expect("a number of the call");
-        println!("{sentence}\n{}", back(&sentence));
+        println!("{sentence}\n{}; damaged {}, nothing {}", back(&sentence), sentence.len(), damaged(&sentence));
     }
 
     fn write(&mut self, writer: u64, page: u64, line: u64) {
