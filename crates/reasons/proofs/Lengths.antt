@@ -13,6 +13,7 @@ use Rattle.words.specs.Words.{over}
 use Rattle.decimals.specs.Decimal.{digitsOf, decimalOf}
 use Rattle.decimals.proofs.Printing.{decimal-le}
 use Rattle.number_text.specs.Text.{Put}
+use Rattle.wording.specs.Calls.{numberCount}
 use Rattle.wording.specs.Words.{codes, nameOf, textOf}
 use Rattle.wording.proofs.Wording.{Fits, name-fits, text-fits}
 use Rattle.reasons.specs.declared.Reason.{Reason}
@@ -22,11 +23,11 @@ pub as-put : {l xs m : List ℕ} {a b : ℕ} → (m ≡ over l a xs) × (b ≡ a
 as-put h = record { laid = h .0; place = h .1 }
 
 -- a number of the table has at most two digits
-pub two-digits : (n : ℕ) → n < 20 → length (decimalOf n) ≤ 2
+pub two-digits : (n : ℕ) → n < numberCount → length (decimalOf n) ≤ 2
 unfolding allBelow digitsOf
-two-digits n h = leb-true (length (decimalOf n)) 2 (all-at (λ k. leb (length (decimalOf k)) 2) 20 n h refl)
+two-digits n h = leb-true (length (decimalOf n)) 2 (all-at (λ k. leb (length (decimalOf k)) 2) numberCount n h refl)
 
-pub opening-le : (c n : ℕ) → n < 20 → length (opening c n) ≤ 74
+pub opening-le : (c n : ℕ) → n < numberCount → length (opening c n) ≤ 74
 unfolding opening codes
 opening-le c n h =
     let text = textOf n in

@@ -3,6 +3,7 @@ ghost use mathlib.Core.Path.{_≡_};
 ghost use Prim.Native.Nat.{_+_, _<_, _≤_};
 ghost use lib.ListN.{length};
 ghost use Rattle.number_text.specs.Text.{Put};
+ghost use Rattle.wording.specs.Calls.{callCount, numberCount};
 ghost use Rattle.reasons.specs.Sentence.{opening, field, pageLabel, closing, composed, composedIn};
 
 // A refused call, the number of the row that turned it back, and what it met: the writer, page and line that it was given
@@ -24,7 +25,7 @@ pub struct Composed {
 
 // The call, the number and the number's text, at the start of the buffer.
 fn put_opening(out: &mut [u8], call: usize, number: usize) -> usize
-    requires { ⌜ (call < 12) × (number < 20) × (200 ≤ length (now out)) ⌝ }
+    requires { ⌜ (call < callCount) × (number < numberCount) × (200 ≤ length (now out)) ⌝ }
     ensures { λ r. ⌜ Put (now (out .entry)) 0 (opening call number) (now (out .exit)) r ⌝ }
 {
     let next = wording::put_name(out, 0, call);

@@ -1,67 +1,64 @@
 // Refusals that a store gives: what the call met, as a sentence.
+use answers::Done;
 use layout::Sizes;
 use state::State;
 
-// Writes the sentence of a refusal.
-fn tell(st: State, call: usize, number: usize, writer: usize, page: usize, line: usize) {
-    let mut target = [0; 200];
-    let composed = reasons::compose(
-        refusals::reason_met(st, call, number, writer, page, line),
-        &mut target,
-    );
-    let n = composed.length;
-    crate::samples::write_both(&target[..n]);
-    io::write_all(1, b"\n");
-}
+// Calls with their writer, page and line. Writers 3 and 1 hold lines 5 and 6 of page 1; then 0 and 3 want line 6, and 0 line 5 and another page,
+// and pages 1 and 0 are to be consolidated and a slot freed.
+const CALLS: [[usize; 4]; 14] = [
+    [wording::BEGIN, 3, 0, 0],
+    [wording::BEGIN, 1, 0, 0],
+    [wording::BEGIN, 0, 0, 0],
+    [wording::WRITE, 3, 1, 5],
+    [wording::WRITE, 1, 1, 6],
+    [wording::WRITE, 0, 1, 6],
+    [wording::WRITE, 3, 1, 6],
+    [wording::WRITE, 0, 1, 5],
+    [wording::WRITE, 0, 0, 5],
+    [wording::WRITE, 2, 1, 7],
+    [wording::WRITE, 0, 2, 64],
+    [wording::CONSOLIDATE, 0, 1, 0],
+    [wording::CONSOLIDATE, 0, 0, 0],
+    [wording::FREE_SLOT, 0, 0, 0],
+];
 
-// A write of one byte, made whole where it is taken and told where it is not.
-fn write(st: State, image: &mut [u8], writer: usize, page: usize, line: usize) -> State {
-    let done = transactions::write(st, image, writer, page, line, 0, 1, b"x");
-    let after = done.state;
-    let answer = done.answer;
-    let number = answers::number_of(answer);
-    if number != 0 {
-        tell(after, wording::WRITE, number, writer, page, line);
-        return after;
+// Makes a call.
+fn make(st: State, image: &[u8], row: &[usize; 4]) -> Done {
+    match row[0] {
+        wording::BEGIN => writers::begin(st, row[1]),
+        wording::WRITE => transactions::write(st, image, row[1], row[2], row[3], 0, 1, b"x"),
+        wording::CONSOLIDATE => transactions::consolidate(st, image, row[2]),
+        _ => freeing::free_slot(st, image),
     }
-    let ended = stepping::run(after, image, 8);
-    ended.state
 }
 
-fn consolidate(st: State, image: &[u8], page: usize) {
-    let done = transactions::consolidate(st, image, page);
-    let after = done.state;
+// Writes the sentence of a call that was refused.
+fn tell(done: Done, row: &[usize; 4]) {
+    let mut target = [0; 200];
     let answer = done.answer;
     let number = answers::number_of(answer);
-    tell(after, wording::CONSOLIDATE, number, 0, page, 0);
+    let reason = refusals::reason_met(done.state, row[0], number, row[1], row[2], row[3]);
+    let composed = reasons::compose(reason, &mut target);
+    if composed.number != 0 {
+        return;
+    }
+    let n = composed.length;
+    crate::samples::write_both(&target[..n], b"\n");
 }
 
-fn begin(st: State, writer: usize) -> State {
-    let done = writers::begin(st, writer);
-    done.state
-}
-
-// Writers 3 and 1 hold lines 5 and 6 of page 1; then 0 and 3 want line 6, and 0 line 5 and another page, and page 1 is to be consolidated.
+// The calls one after the other, each run to its end.
 pub fn show_met() {
     let mut image = [0u8; 12480];
-    let done = mounting::format(
-        &mut image,
-        Sizes {
-            pages: 2,
-            slots: 1,
-            places: 2,
-        },
-    );
-    let st = done.state;
-    let st = begin(begin(begin(st, 3), 1), 0);
-    let st = write(st, &mut image, 3, 1, 5);
-    let st = write(st, &mut image, 1, 1, 6);
-    let st = write(st, &mut image, 0, 1, 6);
-    let st = write(st, &mut image, 3, 1, 6);
-    let st = write(st, &mut image, 0, 1, 5);
-    let st = write(st, &mut image, 0, 0, 5);
-    let st = write(st, &mut image, 2, 1, 7);
-    let st = write(st, &mut image, 0, 2, 64);
-    consolidate(st, &image, 1);
-    consolidate(st, &image, 0);
+    let z = Sizes {
+        pages: 2,
+        slots: 1,
+        places: 2,
+    };
+    let mut st = mounting::format(&mut image, z).state;
+    for k in 0..14 {
+        let row = CALLS[k];
+        let done = make(st, &image, &row);
+        tell(done, &row);
+        st = stepping::run(done.state, &mut image, 8).state;
+    }
 }

@@ -1,11 +1,10 @@
 // Texts near to sentences.
 fn show(text: &[u8]) {
-    crate::samples::write_both(text);
-    io::write_all(1, b"\n");
+    crate::samples::write_both(text, b"\n");
 }
 
 // A sentence; then texts that are none: a leading zero, a number that fits no word, another label, a field too many, one too few, a number
-// that the call cannot return, the wrong text for a number, a byte too many, one too few, no byte.
+// that the call cannot return, the wrong text for a number, a number that has no text, a byte too many, one too few, no byte.
 pub fn show_odd() {
     show(
         b"Write refused (14): another writer holds the line. Writer 0, page 3, line 5, held by writer 2.",
@@ -23,6 +22,7 @@ pub fn show_odd() {
     show(b"Write refused (14): another writer holds the line. Writer 0, page 3, line 5.");
     show(b"Begin refused (14): another writer holds the line. Writer 0, held by writer 2.");
     show(b"Write refused (13): another writer holds the line. Writer 0, page 3, line 5.");
+    show(b"Free slot refused (20): .");
     show(b"Mount refused (2): the layout of the image is unknown. ");
     show(b"Mount refused (2): the layout of the image is unknown");
     show(b"");

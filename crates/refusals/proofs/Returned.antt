@@ -13,9 +13,9 @@ use Rattle.words.specs.Words.{word}
 use Rattle.mount.specs.Mount.{mountRows}
 use Rattle.fresh.specs.Fresh.{formatRows}
 use Rattle.state.specs.declared.State.{State}
-use Rattle.refinement.specs.Calls.{beginRows, abortRows, writeCallRows, commitCallRows, consolidateCallRows, checkpointCallRows, readRows, stepRows}
+use Rattle.refinement.specs.Calls.{beginRows, abortRows, writeCallRows, commitCallRows, consolidateCallRows, freeCallRows, checkpointCallRows, readRows, stepRows}
 use Rattle.refinement.specs.Recall.{recallRows}
-use Rattle.wording.specs.Calls.{format, mount, recall, begin, abort, write, commit, consolidate, checkpoint, read, step, run, places, oneMore, oneOf, standsIn, canReturn}
+use Rattle.wording.specs.Calls.{format, mount, recall, begin, abort, write, commit, consolidate, checkpoint, read, step, run, freeSlot, numberCount, places, oneMore, oneOf, standsIn, canReturn}
 
 abbrev numbersOf : List Row → List ℕ
 numbersOf [] = []
@@ -38,7 +38,7 @@ agreed false false e = refl
 
 pub record Returns (c : ℕ) (rows : List Row) : Type 0 where
   pub answers : (n : ℕ) → refusal rows ≡ n → (n ≡ 0 → ⊥) → canReturn c n ≡ true
-  pub stands : (n : ℕ) → n < 20 → canReturn c n ≡ oneOf (numbersOf rows) n
+  pub stands : (n : ℕ) → n < numberCount → canReturn c n ≡ oneOf (numbersOf rows) n
 
 answered : (c : ℕ) (rows : List Row) → listed c rows ≡ true → (n : ℕ) → refusal rows ≡ n → (n ≡ 0 → ⊥) → canReturn c n ≡ true
 answered c [] t n e z = absurd (z (sym e))
@@ -47,11 +47,11 @@ answered c (r ∷ rs) t n e z =
     (λ q. subst (λ (m : ℕ). canReturn c m ≡ true) (rw q at e) (and-left (canReturn c (r .1)) (listed c rs) t))
     (λ q. answered c rs (and-right (canReturn c (r .1)) (listed c rs) t) n (rw q at e) z)
 
-returns : (c : ℕ) (rows : List Row) → listed c rows ≡ true → allBelow 20 (λ n. agree (canReturn c n) (oneOf (numbersOf rows) n)) ≡ true → Returns c rows
+returns : (c : ℕ) (rows : List Row) → listed c rows ≡ true → allBelow numberCount (λ n. agree (canReturn c n) (oneOf (numbersOf rows) n)) ≡ true → Returns c rows
 returns c rows t u =
     record {
       answers = answered c rows t;
-      stands = λ n h. agreed (canReturn c n) (oneOf (numbersOf rows) n) (all-at (λ k. agree (canReturn c k) (oneOf (numbersOf rows) k)) 20 n h u);
+      stands = λ n h. agreed (canReturn c n) (oneOf (numbersOf rows) n) (all-at (λ k. agree (canReturn c k) (oneOf (numbersOf rows) k)) numberCount n h u);
     }
 
 -- ---- call by call
@@ -106,3 +106,7 @@ module _ (st : State) (img : List ℕ) where
   pub run-returns : Returns run (stepRows st img)
   unfolding canReturn standsIn places oneOf oneMore allBelow
   run-returns = returns run (stepRows st img) refl refl
+
+  pub free-returns : Returns freeSlot (freeCallRows st img)
+  unfolding canReturn standsIn places oneOf oneMore allBelow
+  free-returns = returns freeSlot (freeCallRows st img) refl refl

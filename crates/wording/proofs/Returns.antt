@@ -7,7 +7,7 @@ use native.Mathlib.Omega.{arith}
 use lib.Dec.{eqb, ltb}
 use borrow.Author.Tests.{eqb-true, ltb-true}
 use Rattle.bounded.proofs.Tests.{caseOn, contradicts, and-left, and-right}
-use Rattle.wording.specs.Calls.{oneMore, oneOf, standsIn, canReturn, places}
+use Rattle.wording.specs.Calls.{callCount, numberCount, oneMore, oneOf, standsIn, canReturn, places}
 
 -- each number of a list is below k
 abbrev under : ℕ → List ℕ → Bool
@@ -59,12 +59,12 @@ stands-under k m (row ∷ rows) c n u e =
     (λ t. stands-under k m rows c n (and-right here (rowsUnder k m rows) u) t)
 
 -- one test over the table
-pub known : (c n : ℕ) → canReturn c n ≡ true → Known 12 20 c n
+pub known : (c n : ℕ) → canReturn c n ≡ true → Known callCount numberCount c n
 unfolding canReturn places rowsUnder
-known c n e = stands-under 12 20 places c n refl e
+known c n e = stands-under callCount numberCount places c n refl e
 
-pub unknown-call : (c n : ℕ) → 12 ≤ c → canReturn c n ≡ false
+pub unknown-call : (c n : ℕ) → callCount ≤ c → canReturn c n ≡ false
 unknown-call c n h = caseOn (canReturn c n) (λ t. absurd (omega (arith, known c n t .call))) (λ t. t)
 
-pub unknown-number : (c n : ℕ) → 20 ≤ n → canReturn c n ≡ false
+pub unknown-number : (c n : ℕ) → numberCount ≤ n → canReturn c n ≡ false
 unknown-number c n h = caseOn (canReturn c n) (λ t. absurd (omega (arith, known c n t .number))) (λ t. t)

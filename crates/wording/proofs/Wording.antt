@@ -10,6 +10,7 @@ use borrow.Author.Tests.{leb-true, eqb-true}
 use Rattle.bounded.specs.Below.{allBelow, firstBelow}
 use Rattle.bounded.proofs.Below.{all-at}
 use Rattle.bounded.proofs.Tests.{and-left, and-right}
+use Rattle.wording.specs.Calls.{callCount}
 use Rattle.wording.specs.Words.{codes, names, texts, nameOf, textOf, callNamed, isDigit, printable, plain}
 
 -- each text of a table has at most m bytes and is plain
@@ -54,17 +55,17 @@ printable-append (b ∷ bs) t e f =
 
 -- ---- a name tells its call by its first three bytes
 
-own-name : (c : ℕ) → c < 12 → callNamed (getD (nameOf c) 0 0) (getD (nameOf c) 1 0) (getD (nameOf c) 2 0) ≡ c
+own-name : (c : ℕ) → c < callCount → callNamed (getD (nameOf c) 0 0) (getD (nameOf c) 1 0) (getD (nameOf c) 2 0) ≡ c
 unfolding names codes callNamed firstBelow allBelow
 own-name c h =
-    eqb-true _ c (all-at (λ k. eqb (callNamed (getD (nameOf k) 0 0) (getD (nameOf k) 1 0) (getD (nameOf k) 2 0)) k) 12 c h refl)
+    eqb-true _ c (all-at (λ k. eqb (callNamed (getD (nameOf k) 0 0) (getD (nameOf k) 1 0) (getD (nameOf k) 2 0)) k) callCount c h refl)
 
-three-bytes : (c : ℕ) → c < 12 → 3 ≤ length (nameOf c)
+three-bytes : (c : ℕ) → c < callCount → 3 ≤ length (nameOf c)
 unfolding names codes allBelow
-three-bytes c h = leb-true 3 (length (nameOf c)) (all-at (λ k. leb 3 (length (nameOf k))) 12 c h refl)
+three-bytes c h = leb-true 3 (length (nameOf c)) (all-at (λ k. leb 3 (length (nameOf k))) callCount c h refl)
 
 -- and so does a text that starts with it
-pub named : (c : ℕ) (rest : List ℕ) → c < 12 → (let t = nameOf c ++ rest in callNamed (getD t 0 0) (getD t 1 0) (getD t 2 0) ≡ c)
+pub named : (c : ℕ) (rest : List ℕ) → c < callCount → (let t = nameOf c ++ rest in callNamed (getD t 0 0) (getD t 1 0) (getD t 2 0) ≡ c)
 named c rest h =
     let n = three-bytes c h in
     rw (List·getD-append (nameOf c) rest 0 0 (omega arith), List·getD-append (nameOf c) rest 0 1 (omega arith), List·getD-append (nameOf c) rest 0 2 (omega arith))

@@ -1,4 +1,4 @@
--- The calls, numbered, and the numbers that each can return: document 01's table "Turned back, by place".
+-- The calls, numbered, and the numbers that each can return: document 01's table "Turned back, by place", and document 02's numbers.
 use Prim.Native.Nat.{ℕ}
 use mathlib.Core.Bool.{Bool, false, _&&_, _||_}
 use mathlib.Core.List.{List, [], _∷_}
@@ -40,6 +40,16 @@ step = 10
 abbrev pub run : ℕ
 run = 11
 
+abbrev pub freeSlot : ℕ
+freeSlot = 12
+
+-- how many calls and numbers the tables have; a request that adds one raises these, and CALLS and NUMBERS in the code
+abbrev pub callCount : ℕ
+callCount = 13
+
+abbrev pub numberCount : ℕ
+numberCount = 23
+
 -- ---- the places of the table
 
 abbrev pub readers : List ℕ
@@ -47,9 +57,9 @@ readers = mount ∷ recall ∷ []
 
 -- the calls that take a state and the image, but step and run
 abbrev pub askers : List ℕ
-askers = write ∷ commit ∷ consolidate ∷ checkpoint ∷ read ∷ []
+askers = write ∷ commit ∷ consolidate ∷ checkpoint ∷ read ∷ freeSlot ∷ []
 
--- the table, row by row: the number and the calls of its place
+-- the table, row by row: the number and the calls of its place; then the rows of document 02 (20 and 21, of request L2, are not here yet)
 unfoldable pub places : List (ℕ × List ℕ)
 places =
     (1, readers)
@@ -71,7 +81,8 @@ places =
     ∷ (16, write ∷ read ∷ [])
     ∷ (17, consolidate ∷ [])
     ∷ (18, consolidate ∷ [])
-    ∷ (19, commit ∷ consolidate ∷ [])
+    ∷ (19, commit ∷ consolidate ∷ freeSlot ∷ [])
+    ∷ (22, freeSlot ∷ [])
     ∷ []
 
 -- whether x is one of a list, which computes to `x == y | x == z | ..`

@@ -8,6 +8,7 @@ use lib.Dec.{leb, eqb}
 use lib.ListN.{getD, take}
 use Rattle.bounded.specs.Below.{firstBelow}
 use Rattle.bytes.specs.Bytes.{indexOf}
+use Rattle.wording.specs.Calls.{callCount}
 
 -- the bytes of a text
 unfoldable pub codes : String → List ℕ
@@ -28,9 +29,10 @@ names =
     ∷ codes "Read"
     ∷ codes "Step"
     ∷ codes "Run"
+    ∷ codes "Free slot"
     ∷ []
 
--- by document 01's numbers, from 0 on; 0 turns nothing back and has none
+-- by number, from 0 on; 0 turns nothing back and has none, nor have 20 and 21, which no call returns yet
 unfoldable pub texts : List (List ℕ)
 texts =
     []
@@ -54,6 +56,9 @@ texts =
     ∷ codes "a writer holds a line of the page"
     ∷ codes "the journal has no room for the records"
     ∷ []
+    ∷ []
+    ∷ codes "there is no taken slot without a held line"
+    ∷ []
 
 abbrev pub nameOf : ℕ → List ℕ
 nameOf c = getD names c []
@@ -61,12 +66,12 @@ nameOf c = getD names c []
 abbrev pub textOf : ℕ → List ℕ
 textOf n = getD texts n []
 
--- the call whose name starts with three bytes, 12 where none does
+-- the call whose name starts with three bytes, the number of calls where none does
 abbrev pub startsWith : ℕ → ℕ → ℕ → ℕ → Bool
 startsWith a b d c = eqb (getD (nameOf c) 0 0) a && eqb (getD (nameOf c) 1 0) b && eqb (getD (nameOf c) 2 0) d
 
 unfoldable pub callNamed : ℕ → ℕ → ℕ → ℕ
-callNamed a b d = firstBelow 12 (startsWith a b d)
+callNamed a b d = firstBelow callCount (startsWith a b d)
 
 -- what stands before the first dot
 unfoldable pub upToDot : List ℕ → List ℕ

@@ -3,7 +3,7 @@ ghost use mathlib.Core.Path.{_≡_};
 ghost use Prim.Native.Nat.{_+_, _<_, _≤_};
 ghost use lib.ListN.{length};
 ghost use Rattle.number_text.specs.Text.{Put};
-ghost use Rattle.wording.specs.Calls.{canReturn, takesWriter, takesPage, takesLine, meetsWriter};
+ghost use Rattle.wording.specs.Calls.{callCount, numberCount, canReturn, takesWriter, takesPage, takesLine, meetsWriter};
 ghost use Rattle.wording.specs.Words.{nameOf, textOf, startsWith, callNamed, upToDot};
 
 // The calls, as the service screen numbers them.
@@ -31,32 +31,42 @@ pub const STEP: usize = 10;
 
 pub const RUN: usize = 11;
 
+pub const FREE_SLOT: usize = 12;
+
+// How many calls and numbers the tables have.
+const CALLS: usize = 13;
+
+const NUMBERS: usize = 23;
+
 // A row for each number from 0 on, a column for each call: `x` where the call can return the number.
-const RETURNS: [[u8; 12]; 20] = [
-    *b"            ",
-    *b" xx         ",
-    *b" xx         ",
-    *b"xxx         ",
-    *b"xxx  xxxxxxx",
-    *b" xx         ",
-    *b" xx         ",
-    *b" xx         ",
-    *b"   xxxxxxxxx",
-    *b"   xxxxxxx  ",
-    *b"          xx",
-    *b"  xxxxxx x  ",
-    *b"   x        ",
-    *b"    xxx     ",
-    *b"     x      ",
-    *b"     x      ",
-    *b"     x   x  ",
-    *b"       x    ",
-    *b"       x    ",
-    *b"      xx    ",
+const RETURNS: [[u8; CALLS]; NUMBERS] = [
+    *b"             ",
+    *b" xx          ",
+    *b" xx          ",
+    *b"xxx          ",
+    *b"xxx  xxxxxxxx",
+    *b" xx          ",
+    *b" xx          ",
+    *b" xx          ",
+    *b"   xxxxxxxxxx",
+    *b"   xxxxxxx  x",
+    *b"          xx ",
+    *b"  xxxxxx x   ",
+    *b"   x         ",
+    *b"    xxx      ",
+    *b"     x       ",
+    *b"     x       ",
+    *b"     x   x   ",
+    *b"       x     ",
+    *b"       x     ",
+    *b"      xx    x",
+    *b"             ",
+    *b"             ",
+    *b"            x",
 ];
 
 // The calls' names, each up to its dot.
-const NAMES: [[u8; 12]; 12] = [
+const NAMES: [[u8; 12]; CALLS] = [
     *b"Format.     ",
     *b"Mount.      ",
     *b"Recall.     ",
@@ -69,10 +79,11 @@ const NAMES: [[u8; 12]; 12] = [
     *b"Read.       ",
     *b"Step.       ",
     *b"Run.        ",
+    *b"Free slot.  ",
 ];
 
 // The numbers' texts, each up to its dot.
-const TEXTS: [[u8; 49]; 20] = [
+const TEXTS: [[u8; 49]; NUMBERS] = [
     *b".                                                ",
     *b"the image is shorter than its header.            ",
     *b"the layout of the image is unknown.              ",
@@ -93,16 +104,19 @@ const TEXTS: [[u8; 49]; 20] = [
     *b"the page has no slot.                            ",
     *b"a writer holds a line of the page.               ",
     *b"the journal has no room for the records.         ",
+    *b".                                                ",
+    *b".                                                ",
+    *b"there is no taken slot without a held line.      ",
 ];
 
 // Whether a call can return a number.
 pub fn can_return(call: usize, number: usize) -> bool
     ensures { λ r. ⌜ r ≡ canReturn call number ⌝ }
 {
-    if call >= 12 {
+    if call >= CALLS {
         return false;
     }
-    if number >= 20 {
+    if number >= NUMBERS {
         return false;
     }
     RETURNS[number][call] == b'x'
@@ -157,7 +171,7 @@ fn put_row(out: &mut [u8], at: usize, row: &[u8]) -> usize
 
 // Puts the name of a call.
 pub fn put_name(out: &mut [u8], at: usize, call: usize) -> usize
-    requires { ⌜ (call < 12) × (at + 12 ≤ length (now out)) ⌝ }
+    requires { ⌜ (call < callCount) × (at + 12 ≤ length (now out)) ⌝ }
     ensures { λ r. ⌜ Put (now (out .entry)) at (nameOf call) (now (out .exit)) r ⌝ }
 {
     let row = NAMES[call];
@@ -166,7 +180,7 @@ pub fn put_name(out: &mut [u8], at: usize, call: usize) -> usize
 
 // Puts the text of a number.
 pub fn put_reason(out: &mut [u8], at: usize, number: usize) -> usize
-    requires { ⌜ (number < 20) × (at + 49 ≤ length (now out)) ⌝ }
+    requires { ⌜ (number < numberCount) × (at + 49 ≤ length (now out)) ⌝ }
     ensures { λ r. ⌜ Put (now (out .entry)) at (textOf number) (now (out .exit)) r ⌝ }
 {
     let row = TEXTS[number];
@@ -175,22 +189,22 @@ pub fn put_reason(out: &mut [u8], at: usize, number: usize) -> usize
 
 // Whether the name of call c starts with three bytes.
 fn starts_with(a: u8, b: u8, d: u8, c: usize) -> bool
-    requires { ⌜ c < 12 ⌝ }
+    requires { ⌜ c < callCount ⌝ }
     ensures { λ r. ⌜ r ≡ startsWith a b d c ⌝ }
 {
     (NAMES[c][0] == a) & (NAMES[c][1] == b) & (NAMES[c][2] == d)
 }
 
-// The call whose name starts with three bytes, 12 where none does.
+// The call whose name starts with three bytes, CALLS where none does.
 pub fn call_named(a: u8, b: u8, d: u8) -> usize
     ensures { λ r. ⌜ r ≡ callNamed a b d ⌝ }
 {
     let mut c = 0;
-    while c < 12 {
+    while c < CALLS {
         if starts_with(a, b, d, c) {
             return c;
         }
         c += 1;
     }
-    12
+    CALLS
 }

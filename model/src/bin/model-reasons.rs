@@ -2,7 +2,7 @@
 //!
 //! Its tables stand by call, where document 01's table stands by number, and its reader goes from left to right.
 
-use model::calls::{begin, consolidate, run, write, Patch};
+use model::calls::{begin, consolidate, free_slot, run, write, Patch};
 use model::layout::Sizes;
 use model::mount::format;
 use model::refusal::Refusal;
@@ -30,7 +30,7 @@ const fn call(name: &'static str, given: &str, numbers: &'static [u64]) -> Call 
     Call { name, writer, page, line, numbers }
 }
 
-const CALLS: [Call; 12] = [
+const CALLS: [Call; 13] = [
     call("Format", "", &[3, 4]),
     call("Mount", "", &[1, 2, 3, 4, 5, 6, 7]),
     call("Recall", "pl", &[1, 2, 3, 4, 5, 6, 7, 11]),
@@ -43,9 +43,11 @@ const CALLS: [Call; 12] = [
     call("Read", "wpl", &[4, 8, 9, 11, 16]),
     call("Step", "", &[4, 8, 10]),
     call("Run", "", &[4, 8, 10]),
+    call("Free slot", "", &[4, 8, 9, 19, 22]),
 ];
 const WRITE: usize = 5;
 const CONSOLIDATE: usize = 7;
+const FREE_SLOT: usize = 12;
 
 fn text(number: u64) -> &'static str {
     match number {
@@ -68,6 +70,7 @@ fn text(number: u64) -> &'static str {
         17 => "the page has no slot",
         18 => "a writer holds a line of the page",
         19 => "the journal has no room for the records",
+        22 => "there is no taken slot without a held line",
         _ => unreachable!("no number of the table"),
     }
 }
@@ -201,6 +204,7 @@ fn show_odd() {
         sentence.replace(", held by writer 2", ""),
         sentence.replace("Write ", "Begin ").replace(", page 3, line 5", ""),
         sentence.replace("(14)", "(13)").replace(", held by writer 2", ""),
+        "Free slot refused (20): .".to_string(),
         format!("{mount} "),
         mount.trim_end_matches('.').to_string(),
         String::new(),
@@ -247,6 +251,11 @@ impl Store {
         let holder = self.holder(page, None, |lines| lines != 0);
         self.tell(CONSOLIDATE, refusal, Met { writer: 0, page, line: 0, holder });
     }
+
+    fn free_slot(&mut self) {
+        let refusal = free_slot(&mut self.state, &self.image).expect_err("a refusal");
+        self.tell(FREE_SLOT, refusal, Met { writer: 0, page: 0, line: 0, holder: 0 });
+    }
 }
 
 fn show_met() {
@@ -261,10 +270,11 @@ fn show_met() {
     }
     store.consolidate(1);
     store.consolidate(0);
+    store.free_slot();
 }
 
 fn main() {
-    (0..13).for_each(show_call);
+    (0..14).for_each(show_call);
     show_odd();
     show_met();
 }

@@ -1,4 +1,4 @@
--- The code's table is document 01's: one test over its 240 places.
+-- The code's table is document 01's and 02's: one test over its places.
 use mathlib.Core.Path.{_≡_, refl, sym, ap, _∙_}
 use Prim.Native.Nat.{ℕ, _<_}
 use mathlib.Core.List.{List, []}
@@ -9,7 +9,7 @@ use borrow.Author.Needs.{needs}
 use native.Mathlib.Omega.{arith}
 use Rattle.bounded.specs.Tab.{tab}
 use Rattle.bounded.proofs.Tab.{getD-tab}
-use Rattle.wording.specs.Calls.{canReturn, standsIn, places, oneOf, oneMore}
+use Rattle.wording.specs.Calls.{callCount, numberCount, canReturn, standsIn, places, oneOf, oneMore}
 use Rattle.wording.proofs.Returns.{unknown-call, unknown-number}
 use Rattle.wording.proofs.can_return.Statement.{statement}
 use Rattle.wording.proofs.can_return.Tie as tie
@@ -22,16 +22,16 @@ returns-2 c = sym (unknown-number _ _ (c .if2 .taken))
 
 -- a row for each number, with an x for each call that can return it
 abbrev table : List (List ℕ)
-table = tab 20 (λ n. tab 12 (λ c. cond (canReturn c n) 120 32))
+table = tab numberCount (λ n. tab callCount (λ c. cond (canReturn c n) 120 32))
 
 marked : (b : Bool) → eqb (cond b 120 32) 120 ≡ b
 marked true = refl
 marked false = refl
 
-entry : (c n : ℕ) → c < 12 → n < 20 → eqb (getD (getD table n []) c 0) 120 ≡ canReturn c n
+entry : (c n : ℕ) → c < callCount → n < numberCount → eqb (getD (getD table n []) c 0) 120 ≡ canReturn c n
 entry c n h l =
-    ap (λ (r : List ℕ). eqb (getD r c 0) 120) (getD-tab 20 (λ n. tab 12 (λ c. cond (canReturn c n) 120 32)) n [] l)
-    ∙ ap (λ (b : ℕ). eqb b 120) (getD-tab 12 (λ c. cond (canReturn c n) 120 32) c 0 h)
+    ap (λ (r : List ℕ). eqb (getD r c 0) 120) (getD-tab numberCount (λ n. tab callCount (λ c. cond (canReturn c n) 120 32)) n [] l)
+    ∙ ap (λ (b : ℕ). eqb b 120) (getD-tab callCount (λ c. cond (canReturn c n) 120 32) c 0 h)
     ∙ marked (canReturn c n)
 
 returns-3 : tie.Need-returns-3

@@ -3,6 +3,7 @@ use mathlib.Core.Path.{refl, sym}
 use native.Mathlib.Omega.{arith}
 use borrow.Author.Needs.{needs}
 use Rattle.bytes.specs.Bytes.{indexOf, indexAfter}
+use Rattle.wording.specs.Calls.{callCount}
 use Rattle.wording.specs.Words.{codes, names, upToDot}
 use Rattle.wording.proofs.Tables.{mapped, rowsOf, put-text-at, length-at, room-at}
 use Rattle.wording.proofs.put_name.Statement.{statement}
@@ -10,11 +11,11 @@ use Rattle.wording.proofs.put_name.Tie as tie
 
 slice-aggregate-put-row : tie.Need-slice-aggregate-put-row
 unfolding mapped rowsOf codes names
-slice-aggregate-put-row c = sym (length-at (rowsOf 12 names) 12 12 (c .before .before .before .before .args .call) (omega arith) refl)
+slice-aggregate-put-row c = sym (length-at (rowsOf 12 names) callCount 12 (c .before .before .before .before .args .call) (omega arith) refl)
 
 put-row-requires : tie.Need-put-row-requires
 unfolding mapped rowsOf codes names
-put-row-requires c κs = let x = c .before .before .before .before .args in room-at (rowsOf 12 names) 12 12 (x .call) (x .at) _ (omega arith) (omega arith) refl
+put-row-requires c κs = let x = c .before .before .before .before .args in room-at (rowsOf 12 names) callCount 12 (x .call) (x .at) _ (omega arith) (omega arith) refl
 
 returns : tie.Need-returns
 unfolding mapped rowsOf upToDot indexOf indexAfter codes names

@@ -3,6 +3,7 @@ use mathlib.Core.Path.{refl, sym}
 use native.Mathlib.Omega.{arith}
 use borrow.Author.Needs.{needs}
 use Rattle.bytes.specs.Bytes.{indexOf, indexAfter}
+use Rattle.wording.specs.Calls.{numberCount}
 use Rattle.wording.specs.Words.{codes, texts, upToDot}
 use Rattle.wording.proofs.Tables.{mapped, rowsOf, put-text-at, length-at, room-at}
 use Rattle.wording.proofs.put_reason.Statement.{statement}
@@ -10,11 +11,11 @@ use Rattle.wording.proofs.put_reason.Tie as tie
 
 slice-aggregate-put-row : tie.Need-slice-aggregate-put-row
 unfolding mapped rowsOf codes texts
-slice-aggregate-put-row c = sym (length-at (rowsOf 49 texts) 20 49 (c .before .before .before .before .args .number) (omega arith) refl)
+slice-aggregate-put-row c = sym (length-at (rowsOf 49 texts) numberCount 49 (c .before .before .before .before .args .number) (omega arith) refl)
 
 put-row-requires : tie.Need-put-row-requires
 unfolding mapped rowsOf codes texts
-put-row-requires c κs = let x = c .before .before .before .before .args in room-at (rowsOf 49 texts) 20 49 (x .number) (x .at) _ (omega arith) (omega arith) refl
+put-row-requires c κs = let x = c .before .before .before .before .args in room-at (rowsOf 49 texts) numberCount 49 (x .number) (x .at) _ (omega arith) (omega arith) refl
 
 returns : tie.Need-returns
 unfolding mapped rowsOf upToDot indexOf indexAfter codes texts

@@ -9,6 +9,7 @@ use borrow.Author.Needs.{needs}
 use borrow.Author.Tests.{eqb-true}
 use Rattle.bounded.specs.Below.{allBelow}
 use Rattle.bounded.proofs.Below.{all-at}
+use Rattle.wording.specs.Calls.{callCount}
 use Rattle.wording.specs.Words.{codes, names}
 use Rattle.wording.proofs.Tables.{mapped, rowsOf}
 use Rattle.wording.proofs.starts_with.Statement.{statement}
@@ -17,12 +18,12 @@ use Rattle.wording.proofs.starts_with.Tie as tie
 abbrev entry : ℕ → ℕ → ℕ
 entry c i = getD (getD (rowsOf 12 names) c []) i 0
 
-same : (c i : ℕ) → c < 12 → i < 3 → entry c i ≡ getD (getD names c []) i 0
+same : (c i : ℕ) → c < callCount → i < 3 → entry c i ≡ getD (getD names c []) i 0
 unfolding allBelow mapped rowsOf codes names
 same c i h l =
     eqb-true (entry c i) (getD (getD names c []) i 0)
     (all-at (λ j. eqb (entry c j) (getD (getD names c []) j 0)) 3 i l
-    (all-at (λ k. allBelow 3 (λ j. eqb (entry k j) (getD (getD names k []) j 0))) 12 c h refl))
+    (all-at (λ k. allBelow 3 (λ j. eqb (entry k j) (getD (getD names k []) j 0))) callCount c h refl))
 
 returns : tie.Need-returns
 unfolding mapped rowsOf codes names

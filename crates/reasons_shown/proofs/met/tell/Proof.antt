@@ -11,7 +11,7 @@ use Rattle.reasons_shown.proofs.met.tell.Tie as tie
 
 array-share-prefix-target : tie.Need-array-share-prefix-target
 array-share-prefix-target c =
-    let k = c .before in
+    let k = c .before .before .before in
     let i = inside (k .before .before .reason-met .result) (replicate 200 0) in
     omega (arith, i .same, i .fits, ap (λ (d : Composed). d .length) (k .compose .ensures .0), ap length (k .compose .ensures .1))
 
@@ -24,10 +24,15 @@ tell-spec =
     (tie.spec
     (λ c κs. search needs)
     (λ c. search needs)
+    (λ c. search needs)
+    (λ c. search needs)
+    (λ c. search needs)
     (λ c κs. search needs)
+    (λ c. search needs)
+    (λ c κs. search needs)
+    (λ c. search needs)
     array-share-prefix-target
     slice-aggregate-write-both
-    (λ c κs. search needs)
     (λ c. search needs)
     (λ c κs. search needs)
     (λ c. search needs))

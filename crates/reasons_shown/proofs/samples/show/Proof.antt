@@ -12,11 +12,11 @@ use Rattle.reasons_shown.proofs.samples.show.Tie as tie
 array-borrow-prefix-target : tie.Need-array-borrow-prefix-target
 array-borrow-prefix-target c =
     let k = c .before .before .before in
-    let i = inside (k .before .before .args .reason) (replicate 200 126) in
-    omega (arith, i .same, i .fits, ap (λ (d : Composed). d .length) (k .compose .ensures .0), ap length (k .compose .ensures .1))
+    let i = inside (k .before .before .before .before .before .before .before .args .reason) (replicate 200 126) in
+    omega (arith, i .same, i .fits, ap (λ (d : Composed). d .length) (k .compose2 .ensures .0), ap length (k .compose2 .ensures .1))
 
-slice-aggregate-write-all-of : tie.Need-slice-aggregate-write-all-of
-slice-aggregate-write-all-of c = sym (length-take-le _ _ (array-borrow-prefix-target (c .before)))
+slice-aggregate-text : tie.Need-slice-aggregate-text
+slice-aggregate-text c = sym (length-take-le _ _ (array-borrow-prefix-target (c .before)))
 
 pub show-spec : {M : Type 1} → statement M
 show-spec =
@@ -25,7 +25,18 @@ show-spec =
     (λ c. search needs)
     (λ c κs. search needs)
     (λ c. search needs)
+    (λ c. search needs)
+    (λ c κs. search needs)
+    (λ c. search needs)
     array-borrow-prefix-target
-    slice-aggregate-write-all-of
+    slice-aggregate-text
+    (λ c. search needs)
+    (λ c κs. search needs)
+    (λ c. search needs)
+    (λ c κs. search needs)
+    (λ c. search needs)
+    (λ c κs. search needs)
+    (λ c κs. search needs)
+    (λ c. search needs)
     (λ c κs. search needs)
     (λ c. search needs))
