@@ -28,7 +28,7 @@ fn sixteen(a: &[usize; 16]) -> [usize; 16]
     *a
 }
 
-// Makes all stores of an operation, which are so many, and completes it.
+// Makes all stores that are left of an operation, and completes it.
 pub fn make_all(
     image: &mut [u8],
     z: Sizes,
@@ -43,7 +43,7 @@ pub fn make_all(
     pending: Pending,
     needed: usize,
 ) -> Places
-    requires { ⌜ (stateOk (stateOf z (at .head) (at .tail) (at .next) (now page) (now original) (now spare) (now bitmap) (now last) (now opened) (now held) pending) ≡ true) × (isIdle (pending .op) ≡ false) × (needed ≤ left (stateOf z (at .head) (at .tail) (at .next) (now page) (now original) (now spare) (now bitmap) (now last) (now opened) (now held) pending)) × (imageLength z ≤ length (now image)) ⌝ }
+    requires { ⌜ (stateOk (stateOf z (at .head) (at .tail) (at .next) (now page) (now original) (now spare) (now bitmap) (now last) (now opened) (now held) pending) ≡ true) × (isIdle (pending .op) ≡ false) × (needed ≡ left (stateOf z (at .head) (at .tail) (at .next) (now page) (now original) (now spare) (now bitmap) (now last) (now opened) (now held) pending)) × (imageLength z ≤ length (now image)) ⌝ }
     ensures state { λ r. ⌜ stateOf z (r .head) (r .tail) (r .next) (now (page .exit)) (now (original .exit)) (now (spare .exit)) (now (bitmap .exit)) (now (last .exit)) (now (opened .exit)) (now (held .exit)) noPending ≡ completed (stateOf z (at .head) (at .tail) (at .next) (now (page .entry)) (now (original .entry)) (now (spare .entry)) (now (bitmap .entry)) (now (last .entry)) (now (opened .entry)) (now (held .entry)) pending) (pending .op) ⌝ }
     ensures bytes { λ _. ⌜ now (image .exit) ≡ storesMade (stateOf z (at .head) (at .tail) (at .next) (now (page .entry)) (now (original .entry)) (now (spare .entry)) (now (bitmap .entry)) (now (last .entry)) (now (opened .entry)) (now (held .entry)) pending) needed (now (image .entry)) ⌝ }
 {

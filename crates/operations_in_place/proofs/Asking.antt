@@ -63,7 +63,7 @@ module _ (st : State) (img : List ℕ) (op : Op) (row : ℕ) (e : row ≡ refusa
         ready : Ready st img op 0
         ready = record { ok = none .0; long = ask-long st (length img) op (sym e ∙ z); rows = none .1; busy = i; some = omega (arith, k, some) }
 
-        pub ask-pends : (stateOk (pendingWith st q) ≡ true) × (isIdle (q .op) ≡ false) × (n ≤ left (pendingWith st q)) × (imageLength (st .sizes) ≤ length img)
+        pub ask-pends : (stateOk (pendingWith st q) ≡ true) × (isIdle (q .op) ≡ false) × (n ≡ left (pendingWith st q)) × (imageLength (st .sizes) ≤ length img)
         ask-pends = rw m (ready-valid st img op zeros 0 ready, i, omega (arith, k, all-left st img op zeros 0 ready), ready .long)
 
         pub ask-through : (done : Outcome) (after : State) (bs : List ℕ) → after ≡ completed (pendingWith st q) (q .op) → bs ≡ storesMade (pendingWith st q) n img

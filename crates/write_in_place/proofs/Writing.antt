@@ -44,7 +44,7 @@ module _ (st : State) (img : List ℕ) (w p l o n : ℕ) (bytes : List ℕ) (fou
       finished : q ≡ pendingFrom (Write w p l o n) (finishedLine st img w p l o n bytes) (pageFrame st img p)
       finished = let g = f .1 z in rw (m, g .1, g .0) at e
 
-      pub write-pends : (stateOk (pendingWith st q) ≡ true) × (isIdle (q .op) ≡ false) × (8 ≤ left (pendingWith st q)) × (imageLength (st .sizes) ≤ length img)
+      pub write-pends : (stateOk (pendingWith st q) ≡ true) × (isIdle (q .op) ≡ false) × (8 ≡ left (pendingWith st q)) × (imageLength (st .sizes) ≤ length img)
       unfolding needs
       write-pends =
           let line = finishedLine st img w p l o n bytes in

@@ -1,6 +1,7 @@
 use Rattle.state.specs.declared.State.{State}
 use Rattle.state.specs.Parts.{stateOf}
 use Rattle.refinement.proofs.Going.{going}
+use native.Mathlib.Omega.{arith}
 use lib.ListN.{length}
 use mathlib.Core.Path.{_≡_, ap, sym, _∙_}
 use borrow.Author.Needs.{needs}
@@ -16,7 +17,7 @@ make-stores-requires : tie.Need-make-stores-requires
 make-stores-requires c κs = let s = c .before .before .before .before .before .before .before .before .before .before .before in
     let f = c .before .before .before .before .before .before .before .before .sixteen in
     let k : length (f .result) ≡ 16 = search needs in
-    (s .pre .0, s .pre .1, s .pre .2, s .pre .3, sym (ap length (f .ensures)) ∙ k)
+    (s .pre .0, s .pre .1, omega (arith, s .pre .2), s .pre .3, sym (ap length (f .ensures)) ∙ k)
 
 complete-requires : tie.Need-complete-requires
 complete-requires c κs = let s = c .before .before .before .before .before .before .before .before .before .before .before .before .before .before .before .before .before .before .before .before .before in
