@@ -1,10 +1,10 @@
--- What a call answers: document 01's number and value for each case of the enum.
+-- What a call answers: the number of document 01 or 02 and the value for each case of the enum.
 use Prim.Native.Nat.{ℕ}
 use mathlib.Core.Bool.{Bool, cond}
 use lib.Dec.{eqb}
 use Rattle.refinement.specs.Outcome.{Outcome}
 use Rattle.answers.specs.declared.Answer.{Answer}
-use Rattle.answers.specs.declared.Answer.the-variants.{Taken, ImageTooShort, UnknownLayout, SizesOutOfRange, BufferTooShort, BadPositions, BadRecord, BadSlots, BadState, OperationPending, NothingPending, BadArgument, WriterOpen, WriterNotOpen, LineHeld, NoFreeSlot, BadFrame, PageWithoutSlot, PageHeld, JournalFull, NoSlotToFree}
+use Rattle.answers.specs.declared.Answer.the-variants.{Taken, ImageTooShort, UnknownLayout, SizesOutOfRange, BufferTooShort, BadPositions, BadRecord, BadSlots, BadState, OperationPending, NothingPending, BadArgument, WriterOpen, WriterNotOpen, LineHeld, NoFreeSlot, BadFrame, PageWithoutSlot, PageHeld, JournalFull, UnknownEvent, AmountOutOfRange, NoSlotToFree}
 use Rattle.answers.specs.declared.Done.{Done}
 
 -- 0 where the call is taken, else the number of the row that turns it back
@@ -29,6 +29,8 @@ numberOf BadFrame = 16
 numberOf PageWithoutSlot = 17
 numberOf PageHeld = 18
 numberOf JournalFull = 19
+numberOf UnknownEvent = 20
+numberOf AmountOutOfRange = 21
 numberOf NoSlotToFree = 22
 
 -- the stores that a taken call needs or made
@@ -53,6 +55,8 @@ storesOf BadFrame = 0
 storesOf PageWithoutSlot = 0
 storesOf PageHeld = 0
 storesOf JournalFull = 0
+storesOf UnknownEvent = 0
+storesOf AmountOutOfRange = 0
 storesOf NoSlotToFree = 0
 
 -- what comes of a call
@@ -62,4 +66,4 @@ outcomeOf d = record { number = numberOf (d .answer); stores = storesOf (d .answ
 -- the answer with a number
 abbrev pub asAnswer : ℕ → ℕ → Answer
 asAnswer row n =
-    cond (eqb row 0) (Taken n) (cond (eqb row 1) ImageTooShort (cond (eqb row 2) UnknownLayout (cond (eqb row 3) SizesOutOfRange (cond (eqb row 4) BufferTooShort (cond (eqb row 5) BadPositions (cond (eqb row 6) BadRecord (cond (eqb row 7) BadSlots (cond (eqb row 8) BadState (cond (eqb row 9) OperationPending (cond (eqb row 10) NothingPending (cond (eqb row 11) BadArgument (cond (eqb row 12) WriterOpen (cond (eqb row 13) WriterNotOpen (cond (eqb row 14) LineHeld (cond (eqb row 15) NoFreeSlot (cond (eqb row 16) BadFrame (cond (eqb row 17) PageWithoutSlot (cond (eqb row 18) PageHeld (cond (eqb row 22) NoSlotToFree (JournalFull))))))))))))))))))))
+    cond (eqb row 0) (Taken n) (cond (eqb row 1) ImageTooShort (cond (eqb row 2) UnknownLayout (cond (eqb row 3) SizesOutOfRange (cond (eqb row 4) BufferTooShort (cond (eqb row 5) BadPositions (cond (eqb row 6) BadRecord (cond (eqb row 7) BadSlots (cond (eqb row 8) BadState (cond (eqb row 9) OperationPending (cond (eqb row 10) NothingPending (cond (eqb row 11) BadArgument (cond (eqb row 12) WriterOpen (cond (eqb row 13) WriterNotOpen (cond (eqb row 14) LineHeld (cond (eqb row 15) NoFreeSlot (cond (eqb row 16) BadFrame (cond (eqb row 17) PageWithoutSlot (cond (eqb row 18) PageHeld (cond (eqb row 19) JournalFull (cond (eqb row 20) UnknownEvent (cond (eqb row 21) AmountOutOfRange (NoSlotToFree))))))))))))))))))))))

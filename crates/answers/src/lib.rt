@@ -1,4 +1,4 @@
-// Answers by document 01's numbers.
+// Answers by the numbers of documents 01 and 02.
 ghost use mathlib.Core.Path.{_≡_};
 ghost use Prim.Native.Nat.{_≤_};
 ghost use Rattle.refinement.specs.Outcome.{answered};
@@ -27,6 +27,8 @@ pub enum Answer {
     PageWithoutSlot,
     PageHeld,
     JournalFull,
+    UnknownEvent,
+    AmountOutOfRange,
     NoSlotToFree,
 }
 
@@ -60,8 +62,10 @@ pub fn answer_of(row: usize, stores: usize) -> Answer
         16 => Answer::BadFrame,
         17 => Answer::PageWithoutSlot,
         18 => Answer::PageHeld,
-        22 => Answer::NoSlotToFree,
-        _ => Answer::JournalFull,
+        19 => Answer::JournalFull,
+        20 => Answer::UnknownEvent,
+        21 => Answer::AmountOutOfRange,
+        _ => Answer::NoSlotToFree,
     }
 }
 
@@ -90,13 +94,15 @@ pub fn number_of(a: Answer) -> usize
         Answer::PageWithoutSlot => 17,
         Answer::PageHeld => 18,
         Answer::JournalFull => 19,
+        Answer::UnknownEvent => 20,
+        Answer::AmountOutOfRange => 21,
         Answer::NoSlotToFree => 22,
     }
 }
 
 // A refusal by a row, with the state as it was.
 pub fn refused(row: usize, st: State) -> Done
-    requires { ⌜ row ≤ 19 ⌝ }
+    requires { ⌜ row ≤ 22 ⌝ }
     ensures { λ r. ⌜ outcomeOf r ≡ answered row st 0 st ⌝ }
 {
     let answer = answer_of(row, 0);

@@ -5,7 +5,7 @@ use mathlib.Core.List.{List, [], _++_}
 use mathlib.Core.Path.{_≡_, refl, sym, ap₂, _∙_}
 use native.Mathlib.Omega.{arith}
 use lib.Dec.{eqb, ltb}
-use lib.ListN.{set}
+use lib.ListN.{set, replicate}
 use borrow.Author.Tests.{ne-eqb, eqb-true, ltb-false, not-false}
 use Rattle.bounded.specs.Rows.{Row, refusal}
 use Rattle.bounded.specs.Tab.{filled}
@@ -18,7 +18,7 @@ use Rattle.layout.specs.Layout.{imageLength}
 use Rattle.state.specs.declared.State.{State}
 use Rattle.state.specs.declared.Pending.{Pending}
 use Rattle.state.specs.declared.Op.{Op}
-use Rattle.state.specs.declared.Op.the-variants.{Idle, Write, Commit, Consolidate, Checkpoint}
+use Rattle.state.specs.declared.Op.the-variants.{Idle, Write, Commit, Consolidate, Checkpoint, Event}
 use Rattle.operations.specs.Operations.{Ranged, isIdle, writeRows, commitRows, consolidateRows, opRows, commitNeeds, needs}
 use Rattle.validity.specs.Validity.{stateOk}
 use Rattle.refinement.specs.Settled.{noPending}
@@ -29,26 +29,28 @@ use Rattle.answers.specs.Answers.{outcomeOf}
 use Rattle.answers.specs.declared.Done.{Done}
 use Rattle.answers.proofs.Answered.{row-known, refused-by}
 use Rattle.refinement.specs.Calls.{quietRows, withPending, asked}
+use Rattle.refinement.proofs.EventRows.{event-some}
 
-op-known : (st : State) (op : Op) (f : ℕ) → refusal (opRows st op f) ≤ 19
+op-known : (st : State) (op : Op) (f : ℕ) → refusal (opRows st op f) ≤ 22
 op-known st Idle f = row-known [] tt
 op-known st (Write w p l o n) f = row-known (writeRows st w p l o n f) (omega arith)
 op-known st (Commit w) f = row-known (commitRows st w) (omega arith)
 op-known st (Consolidate p) f = row-known (consolidateRows st p) (omega arith)
 op-known st Checkpoint f = row-known [] tt
+op-known st (Event k m a) f = row-known (opRows st (Event k m a) f) (omega arith)
 
 -- an operation with none of its stores made, and the state with it pending
 abbrev pub pendingFrom : Op → List ℕ → ℕ → Pending
-pendingFrom op line frame = record { op = op; made = 0; line = line; frame = frame }
+pendingFrom op line frame = record { op = op; made = 0; line = line; second = replicate 8 0; frame = frame }
 
 abbrev pub pendingWith : State → Pending → State
 pendingWith st p =
     record { sizes = st .sizes; head = st .head; tail = st .tail; next = st .next; table = st .table; writers = st .writers; pending = p }
 
 -- each number of the rows of a commit, a consolidation or a checkpoint is an answer's
-pub ask-known : (st : State) (n : ℕ) (op : Op) → refusal (quietRows st n ++ opRows st op 0) ≤ 19
+pub ask-known : (st : State) (n : ℕ) (op : Op) → refusal (quietRows st n ++ opRows st op 0) ≤ 22
 ask-known st n op =
-    let low : ℕ → Type 0 = λ (x : ℕ). x ≤ 19 in
+    let low : ℕ → Type 0 = λ (x : ℕ). x ≤ 22 in
     row-keeps low (not (stateOk st)) 8 _ (omega arith)
     (row-keeps low (ltb n (imageLength (st .sizes))) 4 _ (omega arith)
     (row-keeps low (not (isIdle (st .pending .op))) 9 _ (omega arith) (op-known st op 0)))
@@ -117,3 +119,8 @@ write-needs st w p l o n e = omega arith
 pub consolidate-needs : (st : State) (p : ℕ) → needs st (Consolidate p) ≡ 0 → ⊥
 unfolding needs
 consolidate-needs st p e = omega arith
+
+-- and an event
+pub event-needs : (st : State) (k m a : ℕ) → needs st (Event k m a) ≡ 0 → ⊥
+unfolding needs
+event-needs st k m a e = omega (arith, e, event-some k)

@@ -15,14 +15,15 @@ use state::Op;
 use state::Pending;
 use state::State;
 
-// An operation with none of its stores made, and for a write the finished line and the page's frame.
-pub fn pending_from(op: Op, line: [u64; 8], frame: usize) -> Pending
-    ensures { λ r. ⌜ r ≡ record { op = op; made = 0; line = line; frame = frame } ⌝ }
+// An operation with none of its stores made, for a write the finished line and the page's frame, and for an event both lines.
+pub fn pending_from(op: Op, line: [u64; 8], second: [u64; 8], frame: usize) -> Pending
+    ensures { λ r. ⌜ r ≡ record { op = op; made = 0; line = line; second = second; frame = frame } ⌝ }
 {
     Pending {
         op,
         made: 0,
         line,
+        second,
         frame,
     }
 }
@@ -109,6 +110,11 @@ fn completed_at_once(st: State, op: Op) -> State
             next.tail = next.head;
             next
         }
+        Op::Event {
+            kind: _,
+            meter: _,
+            amount: _,
+        } => next,
     }
 }
 
@@ -150,7 +156,7 @@ pub fn ask(st: State, n: usize, op: Op) -> Done
     if needed == 0 {
         return answers::taken(0, completed_at_once(next, op));
     }
-    let pending = pending_from(op, [0; 8], 0);
+    let pending = pending_from(op, [0; 8], [0; 8], 0);
     next.pending = pending;
     answers::taken(needed, next)
 }

@@ -43,7 +43,7 @@ pub fn free_slot(st: State, image: &[u8]) -> Done
     }
     let page = choosing::page_of(&next.table.page, s);
     let needed = choosing::stores_of(&next.table.bitmap, s);
-    let pending = asking::pending_from(Op::Consolidate { page }, [0; 8], 0);
+    let pending = asking::pending_from(Op::Consolidate { page }, [0; 8], [0; 8], 0);
     next.pending = pending;
     answers::taken(needed, next)
 }

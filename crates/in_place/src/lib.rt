@@ -28,6 +28,25 @@ fn sixteen(a: &[usize; 16]) -> [usize; 16]
     *a
 }
 
+// The same of the bitmaps, the open writers and the lines held.
+fn sixteen_masks(a: &[u64; 16]) -> [u64; 16]
+    ensures { λ r. ⌜ r ≡ now (a .entry) ⌝ }
+{
+    *a
+}
+
+fn four(a: &[bool; 4]) -> [bool; 4]
+    ensures { λ r. ⌜ r ≡ now (a .entry) ⌝ }
+{
+    *a
+}
+
+fn sixty_four(a: &[u64; 64]) -> [u64; 64]
+    ensures { λ r. ⌜ r ≡ now (a .entry) ⌝ }
+{
+    *a
+}
+
 // Makes all stores that are left of an operation, and completes it.
 pub fn make_all(
     image: &mut [u8],
@@ -47,7 +66,13 @@ pub fn make_all(
     ensures state { λ r. ⌜ stateOf z (r .head) (r .tail) (r .next) (now (page .exit)) (now (original .exit)) (now (spare .exit)) (now (bitmap .exit)) (now (last .exit)) (now (opened .exit)) (now (held .exit)) noPending ≡ completed (stateOf z (at .head) (at .tail) (at .next) (now (page .entry)) (now (original .entry)) (now (spare .entry)) (now (bitmap .entry)) (now (last .entry)) (now (opened .entry)) (now (held .entry)) pending) (pending .op) ⌝ }
     ensures bytes { λ _. ⌜ now (image .exit) ≡ storesMade (stateOf z (at .head) (at .tail) (at .next) (now (page .entry)) (now (original .entry)) (now (spare .entry)) (now (bitmap .entry)) (now (last .entry)) (now (opened .entry)) (now (held .entry)) pending) needed (now (image .entry)) ⌝ }
 {
+    let _pages = sixteen(page);
+    let _originals = sixteen(original);
+    let _spares = sixteen(spare);
     let _lasts = sixteen(last);
+    let _bitmaps = sixteen_masks(bitmap);
+    let _opened = four(opened);
+    let _held = sixty_four(held);
     stores::making::make_stores(
         image,
         z,

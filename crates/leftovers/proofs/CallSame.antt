@@ -1,49 +1,54 @@
 -- Every call in two images that are alike, of the same state and the same reference machine: the same answer, and images alike again.
 use Prim.Native.Nat.{ℕ, _<_, min}
-use mathlib.Core.Bool.{Bool, true, false, cond, _||_}
+use mathlib.Core.Bool.{Bool, true, false, cond, not, _||_}
 use mathlib.Core.List.{List, [], _∷_}
 use mathlib.Core.Path.{_≡_, refl, sym, ap, ap₂, _∙_}
 use native.Mathlib.Omega.{arith}
 use lib.Dec.{ltb, leb, eqb}
 use lib.ListN.{length, replicate}
-use borrow.Author.Tests.{eqb-true, le-ltb}
+use borrow.Author.Tests.{eqb-true, le-ltb, not-false}
 use Rattle.bounded.specs.Rows.{Row, refusal}
 use Rattle.bounded.proofs.Rows.{none-apply}
 use Rattle.bounded.proofs.Tests.{caseOn}
 use Rattle.layout.specs.declared.Sizes.{Sizes}
 use Rattle.layout.specs.Layout.{imageLength}
-use Rattle.image.specs.Lines.{merged, lineWords}
-use Rattle.words.specs.Words.{word}
+use Rattle.image.specs.Lines.{lineBytes, merged, lineWords}
+use Rattle.words.specs.Words.{word, wordAt, bytesOf}
 use Rattle.replay.specs.declared.Table.{Table}
 use Rattle.replay.specs.Table.{slotOf}
 use Rattle.mount.specs.Mount.{sizesFrom}
 use Rattle.mount.proofs.View.{View, slot-none}
 use Rattle.state.specs.declared.State.{State}
 use Rattle.state.specs.declared.Op.{Op}
-use Rattle.state.specs.declared.Op.the-variants.{Write, Commit, Consolidate, Checkpoint}
-use Rattle.operations.specs.Operations.{slotFor, slotted, frameBad, journalFull, commitRows, consolidateRows}
+use Rattle.state.specs.declared.Op.the-variants.{Write, Commit, Consolidate, Checkpoint, Event}
+use Rattle.operations.specs.Operations.{isIdle, slotFor, slotted, frameBad, journalFull, commitRows, consolidateRows}
 use Rattle.operations.proofs.Taken.{args-good}
-use Rattle.refinement.specs.Frames.{pageFrame}
+use Rattle.meters.specs.Meters.{eventKnown, movesCredit, firstMeter, ownMeter, eventNeeds, rolled, firstNumber, amountBad}
+use Rattle.meters.proofs.MeterLaws.{first-low, own-range}
+use Rattle.refinement.specs.Frames.{pageFrame, seenFrame}
 use Rattle.refinement.specs.Freeing.{freedSlot, freedPage}
 use Rattle.refinement.specs.Mount.{quietState}
 use Rattle.refinement.specs.Outcome.{Outcome, answered}
+use Rattle.refinement.specs.Settled.{withLines}
 use Rattle.refinement.specs.Stores.{World, stepped, steppedBy, left}
-use Rattle.refinement.specs.Calls.{rowState, rowPending, rowNotPending, worldOf, asked, beginOf, abortOf, writeCallRows, finishedLine, writeOf, commitOf, consolidateOf, freeOf, checkpointOf, readRows, readRow, readBytes, stepRows, stepRow, stepOf, stepBytes, runOf, runBytes}
+use Rattle.refinement.specs.Calls.{rowState, rowPending, rowNotPending, worldOf, asked, beginOf, abortOf, writeCallRows, finishedLine, writeOf, commitOf, consolidateOf, freeOf, checkpointOf, eventLine, eventSecond, eventCallRows, eventOf, readRows, readRow, readBytes, stepRows, stepRow, stepOf, stepBytes, runOf, runBytes}
 use Rattle.refinement.specs.Recall.{recallRow, recallBytes}
-use Rattle.refinement.specs.Run.{Call, Result, mount, checkpoint, free, step, begin, abort, commit, consolidate, run, write, read, recall, exec, result}
+use Rattle.refinement.specs.Run.{Call, Result, mount, checkpoint, free, step, begin, abort, commit, consolidate, run, write, read, recall, event, exec, result}
 use Rattle.refinement.specs.Reference.{Reference}
 use Rattle.refinement.proofs.Copies.{durable-legal, durable-fits}
-use Rattle.refinement.proofs.Invariant.{Durable, Never, Quiet, Busy, Related}
+use Rattle.refinement.proofs.Between.{Between, between-valid, between-durable, between-quiet}
+use Rattle.refinement.proofs.CallSound.{call-sound}
+use Rattle.refinement.proofs.Invariant.{Durable, Never, Quiet}
 use Rattle.refinement.proofs.MountCall.{mount-found}
 use Rattle.refinement.proofs.Mounted.{stateOf}
-use Rattle.refinement.proofs.ReadCall.{read-args, read-sound}
-use Rattle.refinement.proofs.RecallCall.{row-is, recall-sound}
+use Rattle.refinement.proofs.ReadCall.{read-args}
+use Rattle.refinement.proofs.RecallCall.{row-is}
 use Rattle.refinement.proofs.Seen.{seen-line}
-use Rattle.refinement.proofs.Sound.{is-quiet, is-busy, related-valid, related-durable}
 use Rattle.refinement.proofs.Stepping.{unslotted-durable}
 use Rattle.leftovers.specs.Leftovers.{Same}
 use Rattle.leftovers.proofs.Alike.{Alike}
-use Rattle.leftovers.proofs.OneStore.{shown-slots, one-store}
+use Rattle.leftovers.proofs.OneStore.{shown-slots}
+use Rattle.leftovers.proofs.OneEvent.{any-store}
 use Rattle.leftovers.proofs.Runs.{run-state, run-alike}
 use Rattle.leftovers.proofs.SameRows.{same-refusal}
 
@@ -59,6 +64,11 @@ asked-same st row op line line′ frame frame′ f =
     (λ t. let q = f (eqb-true row 0 t) in ap₂ (λ (l : List ℕ) (g : ℕ). asked row st op l g) (q .0) (q .1))
     (λ t. rw t)
 
+-- a call answered: the state after it matters where it is taken
+answered-same : (st : State) (row row′ n : ℕ) (after after′ : State) → row ≡ row′ → (row ≡ 0 → after ≡ after′) → answered row st n after ≡ answered row′ st n after′
+answered-same st row row′ n after after′ e f =
+    caseOn (eqb row 0) (λ t. ap (answered row st n) (f (eqb-true row 0 t))) (λ t. rw t) ∙ ap (λ (r : ℕ). answered r st n after′) e
+
 -- images or targets that a taken call changes
 when-taken : {A : Type 0} (P : A → A → Type 0) (row row′ : ℕ) (a b c d : A) → row ≡ row′ → (row ≡ 0 → P a c) → P b d → P (cond (eqb row 0) a b) (cond (eqb row′ 0) c d)
 when-taken P row row′ a b c d e f g =
@@ -66,7 +76,7 @@ when-taken P row row′ a b c d e f g =
     (λ t. let u : eqb row′ 0 ≡ true = ap (λ (n : ℕ). eqb n 0) (sym e) ∙ t in rw (t, u) (f (eqb-true row 0 t)))
     (λ t. let u : eqb row′ 0 ≡ false = ap (λ (n : ℕ). eqb n 0) (sym e) ∙ t in rw (t, u) g)
 
-module _ {past past′ : List ℕ} (st : State) (x y : List ℕ) (b : Reference) (h : Related past (worldOf st x) b) (k : Related past′ (worldOf st y) b) (same : Alike (st .sizes) x y) where
+module _ {past past′ : List ℕ} (st : State) (x y : List ℕ) (b : Reference) (h : Between past (worldOf st x) b) (k : Between past′ (worldOf st y) b) (same : Alike (st .sizes) x y) where
   abbrev z : Sizes
   z = st .sizes
 
@@ -77,10 +87,10 @@ module _ {past past′ : List ℕ} (st : State) (x y : List ℕ) (b : Reference)
   u = worldOf st y
 
   abbrev D : Durable past st x b
-  D = related-durable st x b h
+  D = between-durable v b h
 
   abbrev E : Durable past′ st y b
-  E = related-durable st y b k
+  E = between-durable u b k
 
   -- row 4
   short : ltb (length x) (imageLength z) ≡ ltb (length y) (imageLength z)
@@ -113,8 +123,8 @@ module _ {past past′ : List ℕ} (st : State) (x y : List ℕ) (b : Reference)
   mount-same : Same (exec mount v) (exec mount u)
   unfolding exec
   mount-same =
-      let m = mount-found v b h in
-      let n = mount-found u b k in
+      let m = mount-found v b D in
+      let n = mount-found u b E in
       record {
         number = ap (λ (d : Result). d .number) m ∙ sym (ap (λ (d : Result). d .number) n);
         stores = ap (λ (d : Result). d .stores) m ∙ sym (ap (λ (d : Result). d .stores) n);
@@ -136,8 +146,8 @@ module _ {past past′ : List ℕ} (st : State) (x y : List ℕ) (b : Reference)
       (λ q.
       let rows = none-apply (writeCallRows st x w p l o n bytes) (omega arith) q in
       let a = args-good z w p l o n (rows .1 .1 .1 .1 .0) in
-      let X : Quiet past st x b = is-quiet st x b h (rows .1 .1 .0) in
-      let Y : Quiet past′ st y b = is-quiet st y b k (rows .1 .1 .0) in (
+      let X : Quiet past st x b = between-quiet v b h (rows .1 .1 .0) in
+      let Y : Quiet past′ st y b = between-quiet u b k (rows .1 .1 .0) in (
         ap (λ (line : List ℕ). lineWords (merged line o n bytes))
             (seen-line st x b Never (X .durable) (X .writers) w p l (a .writer-low) (a .page-low) (a .line-low) (λ c. c)
             ∙ sym (seen-line st y b Never (Y .durable) (Y .writers) w p l (a .writer-low) (a .page-low) (a .line-low) (λ c. c))),
@@ -150,6 +160,75 @@ module _ {past past′ : List ℕ} (st : State) (x y : List ℕ) (b : Reference)
       → asked (refusal (rowState st ∷ (ltb (length x) (imageLength z), 4) ∷ rowPending st ∷ rows)) st op (replicate 8 0) 0
       ≡ asked (refusal (rowState st ∷ (ltb (length y) (imageLength z), 4) ∷ rowPending st ∷ rows)) st op (replicate 8 0) 0
   rest-same rows op = ap (λ (s : Bool). asked (refusal (rowState st ∷ (s, 4) ∷ rowPending st ∷ rows)) st op (replicate 8 0) 0) short
+
+  -- ---- an event asked for
+
+  page : 0 < z .pages
+  page = omega (arith, durable-legal past st x b D .pages-low)
+
+  -- a line of page 0 as writer 1 reads it
+  abbrev seen : List ℕ → ℕ → List ℕ
+  seen img l = lineBytes img z (seenFrame st 1 0 l (pageFrame st img 0)) l
+
+  seen-same : not (isIdle (st .pending .op)) ≡ false → (l : ℕ) → l < 64 → seen x l ≡ seen y l
+  seen-same q l low =
+      let X : Quiet past st x b = between-quiet v b h q in
+      let Y : Quiet past′ st y b = between-quiet u b k q in
+      seen-line st x b Never (X .durable) (X .writers) 1 0 l (omega arith) page low (λ c. c)
+      ∙ sym (seen-line st y b Never (Y .durable) (Y .writers) 1 0 l (omega arith) page low (λ c. c))
+
+  event-same : (i m a : ℕ) → eventOf st x i m a ≡ eventOf st y i m a
+  unfolding eventOf
+  event-same i m a =
+      let row : ℕ = refusal (eventCallRows st x i m a) in
+      let first : ℕ = firstMeter i m in
+      let own : ℕ = ownMeter i m in
+      let e : row ≡ refusal (eventCallRows st y i m a) =
+      same-refusal (eventCallRows st x i m a) (eventCallRows st y i m a) (
+        refl,
+        refl,
+        λ _. (
+          short,
+          refl,
+          λ _. (
+            refl,
+            refl,
+            λ q. (
+              refl,
+              refl,
+              λ g. (
+                refl,
+                refl,
+                λ _. (
+                  refl,
+                  refl,
+                  λ _. (
+                    refl,
+                    refl,
+                    λ _. (
+                      bad-same 0 page,
+                      refl,
+                      λ _.
+                          (ap (λ (line : List ℕ). amountBad i m (wordAt line 0) a) (seen-same q first (omega (arith, first-low i m (not-false (eventKnown i m) g)))), refl, λ _. (refl, refl, λ _. tt)),
+                    ),
+                  ),
+                ),
+              ),
+            ),
+          ),
+        ),
+      ) in
+      answered-same st row (refusal (eventCallRows st y i m a)) (eventNeeds i) (withLines st (Event i m a) (eventLine st x i m a) (eventSecond st x i m a) (pageFrame st x 0)) _ e
+      (λ t.
+      let rows = none-apply (eventCallRows st x i m a) (omega arith) t in
+      let q = rows .1 .1 .0 in
+      let known : eventKnown i m ≡ true = not-false (eventKnown i m) (rows .1 .1 .1 .0) in
+      let line : eventLine st x i m a ≡ eventLine st y i m a =
+      ap (λ (l : List ℕ). lineWords (merged l 0 8 (bytesOf 8 (firstNumber i m (wordAt l 0) a)))) (seen-same q first (omega (arith, first-low i m known))) in
+      let second : eventSecond st x i m a ≡ eventSecond st y i m a =
+      ap (λ (l : List ℕ). cond (movesCredit i) (lineWords (merged l 0 8 (bytesOf 8 (rolled own (wordAt l 0) a)))) (replicate 8 0)) (seen-same q own (omega (arith, own-range i m known .1))) in
+      let f = frame 0 page in
+      λ j. withLines st (Event i m a) (line j) (second j) (f j))
 
   -- ---- read, recall
 
@@ -166,7 +245,7 @@ module _ {past past′ : List ℕ} (st : State) (x y : List ℕ) (b : Reference)
             caseOn (eqb (readRow st x w p l target) 0)
             (λ t.
             let q : readRow st x w p l target ≡ 0 = eqb-true (readRow st x w p l target) 0 t in
-            read-sound w p l target v b h .right q ∙ sym (read-sound w p l target u b k .right (sym e ∙ q)))
+            call-sound (read w p l target) tt v b h .right q ∙ sym (call-sound (read w p l target) tt u b k .right (sym e ∙ q)))
             (λ t. let s : eqb (readRow st y w p l target) 0 ≡ false = ap (λ (n : ℕ). eqb n 0) (sym e) ∙ t in rw (t, s));
         state = refl;
       }
@@ -176,9 +255,9 @@ module _ {past past′ : List ℕ} (st : State) (x y : List ℕ) (b : Reference)
   recall-same p l target =
       let sizes : sizesFrom (word x) ≡ sizesFrom (word y) = ap (λ (w : View). w .sizes) (D .shows) ∙ D .sizes-same ∙ sym (ap (λ (w : View). w .sizes) (E .shows) ∙ E .sizes-same) in
       let e : recallRow x p l target ≡ recallRow y p l target =
-      row-is st x b (related-valid st x b h) D p l target
+      row-is st x b (between-valid v b h) D p l target
       ∙ ap (λ (s : Sizes). cond (leb (s .pages) p || ltb 63 l || ltb (length target) 64) 11 0) sizes
-      ∙ sym (row-is st y b (related-valid st y b k) E p l target) in
+      ∙ sym (row-is st y b (between-valid u b k) E p l target) in
       record {
         number = e;
         stores = refl;
@@ -186,7 +265,7 @@ module _ {past past′ : List ℕ} (st : State) (x y : List ℕ) (b : Reference)
             caseOn (eqb (recallRow x p l target) 0)
             (λ t.
             let q : recallRow x p l target ≡ 0 = eqb-true (recallRow x p l target) 0 t in
-            recall-sound p l target v b h .right .1 q ∙ sym (recall-sound p l target u b k .right .1 (sym e ∙ q)))
+            call-sound (recall p l target) tt v b h .right .1 q ∙ sym (call-sound (recall p l target) tt u b k .right .1 (sym e ∙ q)))
             (λ t. let s : eqb (recallRow y p l target) 0 ≡ false = ap (λ (n : ℕ). eqb n 0) (sym e) ∙ t in rw (t, s));
         state = refl;
       }
@@ -196,8 +275,8 @@ module _ {past past′ : List ℕ} (st : State) (x y : List ℕ) (b : Reference)
   row-same : stepRow st x ≡ stepRow st y
   row-same = ap (λ (s : Bool). refusal (rowState st ∷ (s, 4) ∷ rowNotPending st ∷ [])) short
 
-  both-busy : stepRow st x ≡ 0 → Busy past st x b × Busy past′ st y b
-  both-busy e = let rows = none-apply (stepRows st x) (omega arith) e in (is-busy st x b h (rows .1 .1 .0), is-busy st y b k (rows .1 .1 .0))
+  some-pending : stepRow st x ≡ 0 → isIdle (st .pending .op) ≡ false
+  some-pending e = none-apply (stepRows st x) (omega arith) e .1 .1 .0
 
   step-same : stepOf st x ≡ stepOf st y
   unfolding stepOf stepped
@@ -207,7 +286,7 @@ module _ {past past′ : List ℕ} (st : State) (x y : List ℕ) (b : Reference)
   unfolding stepBytes
   step-alike =
       when-taken (Alike z) (stepRow st x) (stepRow st y) (stepped v .image) x (stepped u .image) y row-same
-      (λ e. let q = both-busy e in one-store past past′ st x y b (q .0) (q .1) same) same
+      (λ e. any-store past past′ st x y b same h k (some-pending e)) same
 
   run-same : (n : ℕ) → runOf st x n ≡ runOf st y n
   unfolding runOf
@@ -220,7 +299,7 @@ module _ {past past′ : List ℕ} (st : State) (x y : List ℕ) (b : Reference)
   runs-alike n =
       let m : ℕ = min n (left st) in
       when-taken (Alike z) (stepRow st x) (stepRow st y) (steppedBy m v .image) x (steppedBy m u .image) y row-same
-      (λ e. let q = both-busy e in run-alike past past′ st x y b (q .0) (q .1) same m (omega arith)) same
+      (λ e. run-alike past past′ st x y b h k (some-pending e) same m (omega arith)) same
 
   -- ---- every call
 
@@ -238,6 +317,7 @@ module _ {past past′ : List ℕ} (st : State) (x y : List ℕ) (b : Reference)
   call-same (write w p l o n bytes) = by-outcome (write-same w p l o n bytes)
   call-same (read w p l target) = read-same w p l target
   call-same (recall p l target) = recall-same p l target
+  call-same (event i m a) = by-outcome (event-same i m a)
 
   pub call-alike : (c : Call) → Alike z (exec c v .world .image) (exec c u .world .image)
   unfolding exec
@@ -253,3 +333,4 @@ module _ {past past′ : List ℕ} (st : State) (x y : List ℕ) (b : Reference)
   call-alike (write w p l o n bytes) = same
   call-alike (read w p l target) = same
   call-alike (recall p l target) = same
+  call-alike (event i m a) = same

@@ -22,9 +22,9 @@ use Rattle.mount.proofs.View.{slot-none}
 use Rattle.refinement.specs.Stores.{World}
 use Rattle.refinement.specs.Calls.{worldOf}
 use Rattle.refinement.specs.Recall.{frameOf}
+use Rattle.refinement.proofs.Between.{between-durable}
 use Rattle.refinement.proofs.Mounted.{stateOf}
 use Rattle.refinement.proofs.Reached.{always}
-use Rattle.refinement.proofs.Sound.{related-durable}
 use Rattle.leftovers.proofs.AfterMount.{after-mount}
 use Rattle.leftovers.specs.Leftovers.{Leftover, journal-place, under-record, slotted-page, padding, other-copy, Needed, header, live-record, slot-table, page-table, committed-copy, EveryWord, Scribbled, AnyWord}
 
@@ -125,12 +125,12 @@ module _ (v : World) (g : Legal (v .st .sizes)) where
 pub every-word : EveryWord
 every-word =
     always _ (λ z buffer w b h.
-    let D = related-durable (w .st) (w .image) b (h .related) in
+    let D = between-durable w b (h .related) in
     after-mount (λ v. (a : ℕ) → a < imageWords (v .st .sizes) → Leftover v a ⊎ Needed v a) w b (h .related)
     (told (worldOf (stateOf (D .view)) (w .image)) (D .mounts .legal)))
 
 pub any-word : AnyWord
 any-word =
     always _ (λ z buffer w b h.
-    let D = related-durable (w .st) (w .image) b (h .related) in
+    let D = between-durable w b (h .related) in
     after-mount Scribbled w b (h .related) (scribbled (worldOf (stateOf (D .view)) (w .image)) (D .mounts .legal) (D .bytes) (D .mounts .fits)))

@@ -1,5 +1,6 @@
 pub mod Alike
 pub mod OneStore
+pub mod OneEvent
 pub mod Runs
 pub mod SameRows
 pub mod CallSame

@@ -25,7 +25,7 @@ use Rattle.mount.proofs.Dead.{dead-view}
 use Rattle.mount.proofs.Emptied.{unrecorded}
 use Rattle.state.specs.declared.State.{State}
 use Rattle.state.specs.declared.Op.{Op}
-use Rattle.state.specs.declared.Op.the-variants.{Idle, Write, Commit, Consolidate, Checkpoint}
+use Rattle.state.specs.declared.Op.the-variants.{Idle, Write, Commit, Consolidate, Checkpoint, Event}
 use Rattle.operations.specs.Operations.{needs}
 use Rattle.refinement.specs.Frames.{pageSlot}
 use Rattle.refinement.specs.Commit.{commitRecord}
@@ -57,7 +57,7 @@ shown-slots img v shows = ap (λ (u : View). u .table) shows
 
 -- ---- a store that is not the last, or the last of a write
 
-mid-stays : (past : List ℕ) (st : State) (img : List ℕ) (b : Reference) (D : Durable past st img b) (op : Op) (m : ℕ) → Mid past st img b D op m
+pub mid-stays : (past : List ℕ) (st : State) (img : List ℕ) (b : Reference) (D : Durable past st img b) (op : Op) (m : ℕ) → Mid past st img b D op m
     → Stays (st .sizes) img (storeMade st img op m)
 mid-stays past st img b D op m M =
     let z : Sizes = st .sizes in
@@ -99,10 +99,10 @@ unslotted-before r z head n e d t g full h names p low none =
     (λ f. still (ap (λ (v : Slot). v .page) (replay-kept z head e d full s n f .slot) ∙ q))
     (latest n e s))
 
-abbrev Committed : State → ℕ → List ℕ → List ℕ → Type 0
+abbrev pub Committed : State → ℕ → List ℕ → List ℕ → Type 0
 Committed st w x y = Leaves (st .sizes) x y (replay (st .sizes) (st .head) (count st w) (commitRecord st w)) (λ p. false) 0
 
-commit-leaves : (past : List ℕ) (st : State) (img : List ℕ) (b : Reference) (B : Busy past st img b) (w : ℕ) → st .pending .op ≡ Commit w → st .pending .made ≡ 4 * count st w
+pub commit-leaves : (past : List ℕ) (st : State) (img : List ℕ) (b : Reference) (B : Busy past st img b) (w : ℕ) → st .pending .op ≡ Commit w → st .pending .made ≡ 4 * count st w
     → Committed st w img (storeMade st img (Commit w) (st .pending .made))
 commit-leaves past st img b B w e last =
     let z : Sizes = st .sizes in
@@ -215,6 +215,7 @@ module _ (past past′ : List ℕ) (st : State) (x y : List ℕ) (b : Reference)
       (λ t.
       let last : m ≡ c = omega (arith, some-left past st x b B p e, ltb-false m c t) in
       alike-after (consolidate-leaves past st x b B p e last) (consolidate-leaves past′ st y b C p e last) same)
+  next-of (Event k i a) e = absurd (subst (Doing st x b) e (B .doing))
   next-of Checkpoint e =
       caseOn (ltb m (3 * recorded st))
       (λ t. let low = ltb-true m (3 * recorded st) t in between Checkpoint (checkpoint-mid past st x b (B .durable) m low) (checkpoint-mid past′ st y b (C .durable) m low))

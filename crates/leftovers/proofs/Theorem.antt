@@ -14,12 +14,12 @@ use Rattle.refinement.specs.Calls.{worldOf}
 use Rattle.refinement.specs.Run.{Call, Result, exec}
 use Rattle.refinement.specs.Reference.{Reference, none, idle, turn}
 use Rattle.refinement.specs.Statement.{AllLent}
+use Rattle.refinement.proofs.Between.{Between, between-valid, between-durable}
 use Rattle.refinement.proofs.CallSound.{call-sound}
-use Rattle.refinement.proofs.Invariant.{Durable, Quiet, Related}
+use Rattle.refinement.proofs.Invariant.{Durable, Quiet}
 use Rattle.refinement.proofs.MountCall.{mounted-committed, mount-found}
 use Rattle.refinement.proofs.Mounted.{stateOf, Committed, mounted-quiet}
 use Rattle.refinement.proofs.Reached.{always}
-use Rattle.refinement.proofs.Sound.{related-valid, related-durable}
 use Rattle.leftovers.specs.Leftovers.{Replaced, SameFrom, Unseen, LeftoversNeverShow}
 use Rattle.leftovers.proofs.AfterMount.{after-mount}
 use Rattle.leftovers.proofs.Alike.{Alike}
@@ -27,7 +27,7 @@ use Rattle.leftovers.proofs.CallSame.{call-same, call-alike}
 use Rattle.leftovers.proofs.Replaced.{still-shows, still-quiet, still-alike}
 
 same-from : {past past′ : List ℕ} (calls : List Call) → AllLent calls → (st : State) (x y : List ℕ) (b : Reference)
-    → Related past (worldOf st x) b → Related past′ (worldOf st y) b → Alike (st .sizes) x y → SameFrom calls (worldOf st x) (worldOf st y)
+    → Between past (worldOf st x) b → Between past′ (worldOf st y) b → Alike (st .sizes) x y → SameFrom calls (worldOf st x) (worldOf st y)
 same-from [] lent st x y b h k a = tt
 same-from {past = past} {past′ = past′} (c ∷ cs) lent st x y b h k a =
     let d : Result = exec c (worldOf st x) in
@@ -35,18 +35,18 @@ same-from {past = past} {past′ = past′} (c ∷ cs) lent st x y b h k a =
     let s = call-same st x y b h k a c in
     let m = call-sound c (lent .0) (worldOf st x) b h in
     let next : Reference = turn c (d .number) (d .stores) b in
-    let other : Related past′ (worldOf (d .world .st) (e .world .image)) next =
-    subst (λ (t : State). Related past′ (worldOf t (e .world .image)) next) (sym (s .state))
-    (subst (λ (n : ℕ). Related past′ (e .world) (turn c n (d .stores) b)) (sym (s .number))
-    (subst (λ (n : ℕ). Related past′ (e .world) (turn c (e .number) n b)) (sym (s .stores)) (call-sound c (lent .0) (worldOf st y) b k .related))) in
+    let other : Between past′ (worldOf (d .world .st) (e .world .image)) next =
+    subst (λ (t : State). Between past′ (worldOf t (e .world .image)) next) (sym (s .state))
+    (subst (λ (n : ℕ). Between past′ (e .world) (turn c n (d .stores) b)) (sym (s .number))
+    (subst (λ (n : ℕ). Between past′ (e .world) (turn c (e .number) n b)) (sym (s .stores)) (call-sound c (lent .0) (worldOf st y) b k .between))) in
     let rest =
-    same-from cs (lent .1) (d .world .st) (d .world .image) (e .world .image) next (m .related) other
+    same-from cs (lent .1) (d .world .st) (d .world .image) (e .world .image) next (m .between) other
     (subst (λ (z : Sizes). Alike z (d .world .image) (e .world .image)) (sym (m .sizes)) (call-alike st x y b h k a c)) in
     (s, subst (λ (t : State). SameFrom cs (d .world) (worldOf t (e .world .image))) (s .state) rest)
 
-module _ {past : List ℕ} (w : World) (b : Reference) (h : Related past w b) where
+module _ {past : List ℕ} (w : World) (b : Reference) (h : Between past w b) where
   abbrev D : Durable past (w .st) (w .image) b
-  D = related-durable (w .st) (w .image) b h
+  D = between-durable w b h
 
   abbrev view : View
   view = D .view
@@ -56,7 +56,7 @@ module _ {past : List ℕ} (w : World) (b : Reference) (h : Related past w b) wh
   fresh = record { pages = b .pages; writes = λ w p l i. none; work = idle }
 
   copies : Committed (w .image) view fresh
-  copies = mounted-committed (w .st) (w .image) b (related-valid (w .st) (w .image) b h) D
+  copies = mounted-committed (w .st) (w .image) b (between-valid w b h) D
 
   quiet : Quiet (drop (imageLength (view .sizes)) (w .image)) (stateOf view) (w .image) fresh
   quiet = mounted-quiet (w .image) view fresh (D .bytes) refl (D .shows) (D .mounts) copies (λ w p l i. refl) refl
@@ -65,12 +65,12 @@ module _ {past : List ℕ} (w : World) (b : Reference) (h : Related past w b) wh
   unseen-of image R =
       let u : World = worldOf (stateOf view) image in
       let q = still-quiet (w .image) view (D .shows) (D .mounts) image R fresh (D .bytes) copies (λ w p l i. refl) refl in
-      let found = mount-found u fresh (inl q) in
+      let found = mount-found u fresh (q .durable) in
       let shown = still-shows (w .image) view (D .shows) (D .mounts) image R in
       record {
         taken = ap (λ (d : Result). d .number) found;
-        remounted = ap (λ (d : Result). d .world .st) found ∙ ap stateOf (sym (related-durable (stateOf view) image fresh (inl q) .shows) ∙ shown);
-        later = λ calls lent. same-from calls lent (stateOf view) (w .image) image fresh (inl quiet) (inl q) (still-alike (w .image) view (D .shows) (D .mounts) image R);
+        remounted = ap (λ (d : Result). d .world .st) found ∙ ap stateOf (sym (q .durable .shows) ∙ shown);
+        later = λ calls lent. same-from calls lent (stateOf view) (w .image) image fresh (inl (inl quiet)) (inl (inl q)) (still-alike (w .image) view (D .shows) (D .mounts) image R);
       }
 
 pub leftovers-never-show : LeftoversNeverShow

@@ -84,5 +84,10 @@ pub fn op_needs<'a>(
             consolidate_needs(bitmap[s])
         }
         Op::Checkpoint => checkpoint_needs(z, head, tail, last),
+        Op::Event {
+            kind,
+            meter: _,
+            amount: _,
+        } => meters::event_needs(kind),
     }
 }

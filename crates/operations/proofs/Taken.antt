@@ -10,11 +10,12 @@ use Rattle.bounded.specs.Rows.{refusal}
 use Rattle.bounded.proofs.Rows.{none-apply}
 use Rattle.bounded.proofs.Tests.{or-left, or-right}
 use Rattle.layout.specs.declared.Sizes.{Sizes}
+use Rattle.meters.specs.Meters.{eventKnown, firstMeter, ownMeter}
 use Rattle.state.specs.declared.State.{State}
 use Rattle.state.specs.declared.Op.{Op}
-use Rattle.state.specs.declared.Op.the-variants.{Idle, Write, Commit, Consolidate, Checkpoint}
+use Rattle.state.specs.declared.Op.the-variants.{Idle, Write, Commit, Consolidate, Checkpoint, Event}
 use Rattle.state.specs.Held.{isOpen, someHold, heldSlots}
-use Rattle.operations.specs.Operations.{live, slotFor, slotted, writeArgsBad, lineTaken, noneFree, frameBad, writeRows, commitRows, consolidateRows, opRows, Asked}
+use Rattle.operations.specs.Operations.{live, slotFor, slotted, writeArgsBad, lineTaken, noneFree, frameBad, writeRows, commitRows, consolidateRows, eventFirstRows, opRows, Asked}
 
 -- row 11 of a write
 pub record ArgsGood (z : Sizes) (w p l o n : ℕ) : Type 0 where
@@ -86,6 +87,30 @@ consolidate-taken st p e =
       fits = ltb-false (st .sizes .places) (live st + 1) (h .1 .1 .1 .0);
     }
 
+pub record EventTaken (st : State) (k m f : ℕ) : Type 0 where
+  pub known : eventKnown k m ≡ true
+  pub closed : isOpen (st .writers .opened) 1 ≡ false
+  pub first-free : lineTaken (st .sizes) (st .writers .held) 1 (slotFor st 0) (firstMeter k m) ≡ false
+  pub own-free : lineTaken (st .sizes) (st .writers .held) 1 (slotFor st 0) (ownMeter k m) ≡ false
+  pub some-free : noneFree (st .sizes) (st .table .page) (st .next) (slotFor st 0) ≡ false
+  pub frame-good : frameBad (st .sizes) (st .table .page) (st .table .original) (st .table .spare) (slotFor st 0) f ≡ false
+  pub fits : live st + 1 ≤ st .sizes .places
+
+pub event-taken : (st : State) (k m a f : ℕ) → refusal (opRows st (Event k m a) f) ≡ 0 → EventTaken st k m f
+event-taken st k m a f e =
+    let h = none-apply (opRows st (Event k m a) f) (omega arith) e in
+    let first = lineTaken (st .sizes) (st .writers .held) 1 (slotFor st 0) (firstMeter k m) in
+    let own = lineTaken (st .sizes) (st .writers .held) 1 (slotFor st 0) (ownMeter k m) in
+    record {
+      known = not-false (eventKnown k m) (h .0);
+      closed = h .1 .0;
+      first-free = or-left first own (h .1 .1 .0);
+      own-free = or-right first own (h .1 .1 .0);
+      some-free = h .1 .1 .1 .0;
+      frame-good = h .1 .1 .1 .1 .0;
+      fits = ltb-false (st .sizes .places) (live st + 1) (h .1 .1 .1 .1 .1 .0);
+    }
+
 -- what the count of an operation's stores leans on
 pub op-asked : (st : State) (op : Op) (f : ℕ) → refusal (opRows st op f) ≡ 0 → Asked (st .sizes) (st .table .page) op
 op-asked st Idle f e = tt
@@ -93,6 +118,7 @@ op-asked st (Write w p l o n) f e = tt
 op-asked st (Commit w) f e = commit-taken st w e .writer-low
 op-asked st (Consolidate p) f e = ltb-true (slotFor st p) (st .sizes .slots) (consolidate-taken st p e .has-slot)
 op-asked st Checkpoint f e = tt
+op-asked st (Event k m a) f e = tt
 
 -- r is the slot that the code found
 pub slot-low : (st : State) (p r : ℕ) → slotted st p ≡ true → r ≡ slotFor st p → r < st .sizes .slots

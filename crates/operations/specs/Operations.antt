@@ -1,7 +1,7 @@
 -- The operations: the rows from 11 on that turn each back, and how many stores each needs (document 01, "Calls").
 use Prim.Native.Nat.{ℕ, _+_, _-_, _*_, _<_, _≤_}
 use mathlib.Core.Bool.{Bool, true, false, _&&_, _||_, not, cond}
-use mathlib.Core.List.{List, [], _∷_}
+use mathlib.Core.List.{List, [], _∷_, _++_}
 use lib.Dec.{ltb, leb, eqb}
 use lib.ListN.{getD, length}
 use Rattle.bounded.specs.Below.{those}
@@ -12,9 +12,10 @@ use Rattle.replay.specs.declared.Table.{Table}
 use Rattle.journal.specs.Records.{liveCount}
 use Rattle.replay.specs.Table.{slotIn, slotOf, noPosition}
 use Rattle.masks.specs.Lines.{countLines}
+use Rattle.meters.specs.Meters.{eventKnown, firstMeter, ownMeter, eventNeeds}
 use Rattle.state.specs.declared.State.{State}
 use Rattle.state.specs.declared.Op.{Op}
-use Rattle.state.specs.declared.Op.the-variants.{Idle, Write, Commit, Consolidate, Checkpoint}
+use Rattle.state.specs.declared.Op.the-variants.{Idle, Write, Commit, Consolidate, Checkpoint, Event}
 use Rattle.state.specs.Slots.{slotOfPage, freeAfter, frameOfSlot}
 use Rattle.state.specs.Held.{isOpen, othersHold, someHold, heldSlots}
 
@@ -25,6 +26,7 @@ isIdle (Write w p l o n) = false
 isIdle (Commit w) = false
 isIdle (Consolidate p) = false
 isIdle Checkpoint = false
+isIdle (Event k m a) = false
 
 abbrev pub live : State → ℕ
 live st = liveCount (st .sizes) (st .head) (st .tail)
@@ -96,7 +98,22 @@ consolidateRowsOf z head tail page held p =
     ∷ (journalFullOf z head tail 1, 19)
     ∷ []
 
--- the rows of an operation, of a write with the page's frame f
+-- an event's, s being the slot of page 0 and f its frame, without row 21, which row 8 leaves out (document 02, L2). 20: there is no such event;
+-- 12: writer 1 is open; 14: another writer holds one of its lines
+abbrev pub eventFirstRowsOf : Sizes → ℕ → List ℕ → List ℕ → List ℕ → List Bool → List ℕ → ℕ → ℕ → ℕ → ℕ → List Row
+eventFirstRowsOf z next page original spare opened held k m s f =
+    (not (eventKnown k m), 20)
+    ∷ (isOpen opened 1, 12)
+    ∷ (lineTaken z held 1 s (firstMeter k m) || lineTaken z held 1 s (ownMeter k m), 14)
+    ∷ (noneFree z page next s, 15)
+    ∷ (frameBad z page original spare s f, 16)
+    ∷ []
+
+abbrev pub eventRowsOf : Sizes → ℕ → ℕ → ℕ → List ℕ → List ℕ → List ℕ → List Bool → List ℕ → ℕ → ℕ → ℕ → ℕ → List Row
+eventRowsOf z head tail next page original spare opened held k m s f =
+    eventFirstRowsOf z next page original spare opened held k m s f ++ ((journalFullOf z head tail 1, 19) ∷ [])
+
+-- the rows of an operation, of a write or an event with the page's frame f
 abbrev pub opRowsOf : Sizes → ℕ → ℕ → ℕ → List ℕ → List ℕ → List ℕ → List Bool → List ℕ → Op → ℕ → List Row
 opRowsOf z head tail next page original spare opened held Idle f = []
 opRowsOf z head tail next page original spare opened held (Write w p l o n) f =
@@ -104,6 +121,8 @@ opRowsOf z head tail next page original spare opened held (Write w p l o n) f =
 opRowsOf z head tail next page original spare opened held (Commit w) f = commitRowsOf z head tail opened held w
 opRowsOf z head tail next page original spare opened held (Consolidate p) f = consolidateRowsOf z head tail page held p
 opRowsOf z head tail next page original spare opened held Checkpoint f = []
+opRowsOf z head tail next page original spare opened held (Event k m a) f =
+    eventRowsOf z head tail next page original spare opened held k m (slotOfPage z page 0) f
 
 -- the same of a state
 abbrev pub writeRows : State → ℕ → ℕ → ℕ → ℕ → ℕ → ℕ → List Row
@@ -115,6 +134,10 @@ commitRows st w = commitRowsOf (st .sizes) (st .head) (st .tail) (st .writers .o
 
 abbrev pub consolidateRows : State → ℕ → List Row
 consolidateRows st p = consolidateRowsOf (st .sizes) (st .head) (st .tail) (st .table .page) (st .writers .held) p
+
+abbrev pub eventFirstRows : State → ℕ → ℕ → ℕ → List Row
+eventFirstRows st k m f =
+    eventFirstRowsOf (st .sizes) (st .next) (st .table .page) (st .table .original) (st .table .spare) (st .writers .opened) (st .writers .held) k m (slotFor st 0) f
 
 abbrev pub opRows : State → Op → ℕ → List Row
 opRows st op f =
@@ -147,6 +170,7 @@ needsOf z head tail page bitmap last held (Write w p l o n) = 8
 needsOf z head tail page bitmap last held (Commit w) = commitNeeds (length (heldSlots z held w))
 needsOf z head tail page bitmap last held (Consolidate p) = consolidateNeeds (getD bitmap (slotOfPage z page p) 0)
 needsOf z head tail page bitmap last held Checkpoint = checkpointNeeds head tail (length (recordedSlots z last))
+needsOf z head tail page bitmap last held (Event k m a) = eventNeeds k
 
 unfoldable pub needs : State → Op → ℕ
 needs st op = needsOf (st .sizes) (st .head) (st .tail) (st .table .page) (st .table .bitmap) (st .table .last) (st .writers .held) op
@@ -158,3 +182,4 @@ Asked z page (Write w p l o n) = Unit {0}
 Asked z page (Commit w) = w < 4
 Asked z page (Consolidate p) = slotOfPage z page p < z .slots
 Asked z page Checkpoint = Unit {0}
+Asked z page (Event k m a) = Unit {0}

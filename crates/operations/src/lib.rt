@@ -4,7 +4,8 @@ ghost use Prim.Native.Nat.{_*_, _<_, _≤_};
 ghost use Rattle.bounded.specs.Rows.{refusal};
 ghost use Rattle.layout.specs.Layout.{Legal};
 ghost use Rattle.journal.specs.Records.{liveCount};
-ghost use Rattle.operations.specs.Operations.{isIdle, writeArgsBad, lineTaken, noneFree, frameBad, writeRowsOf, commitRowsOf, consolidateRowsOf, opRowsOf};
+ghost use Rattle.state.specs.Slots.{slotOfPage};
+ghost use Rattle.operations.specs.Operations.{isIdle, writeArgsBad, lineTaken, noneFree, frameBad, journalFullOf, writeRowsOf, commitRowsOf, consolidateRowsOf, eventFirstRowsOf, eventRowsOf, opRowsOf};
 use layout::Sizes;
 use state::Op;
 
@@ -24,6 +25,11 @@ pub fn is_idle(op: Op) -> bool
         Op::Commit { writer: _ } => false,
         Op::Consolidate { page: _ } => false,
         Op::Checkpoint => false,
+        Op::Event {
+            kind: _,
+            meter: _,
+            amount: _,
+        } => false,
     }
 }
 
@@ -181,7 +187,92 @@ pub fn consolidate_row<'a>(
     0
 }
 
-// The first row from 11 on that turns an operation back, of a write with the page's frame.
+// Row 19, of one new record.
+pub fn no_room(z: Sizes, head: usize, tail: usize) -> bool
+    requires { ⌜ Legal z × (head < 2 * z .places) × (tail < 2 * z .places) × (liveCount z head tail ≤ z .places) ⌝ }
+    ensures { λ r. ⌜ r ≡ journalFullOf z head tail 1 ⌝ }
+{
+    z.places < journal::records::live_count(z, head, tail) + 1
+}
+
+// The first row before 21 that turns an event back, with the slot s of page 0, S where it has none, and its frame.
+pub fn event_first_row<'a>(
+    z: Sizes,
+    next: usize,
+    page: &'a [usize; 16],
+    original: &'a [usize; 16],
+    spare: &'a [usize; 16],
+    opened: &'a [bool; 4],
+    held: &'a [u64; 64],
+    kind: usize,
+    meter: usize,
+    s: usize,
+    frame: usize,
+) -> usize
+    requires { ⌜ Legal z × (next < z .slots) ⌝ }
+    ensures { λ r. ⌜ r ≡ refusal (eventFirstRowsOf z next (now (page .entry)) (now (original .entry)) (now (spare .entry)) (now (opened .entry)) (now (held .entry)) kind meter s frame) ⌝ }
+{
+    if !meters::is_known(kind, meter) {
+        return 20;
+    }
+    if state::held::is_open(opened, 1) {
+        return 12;
+    }
+    let first = line_taken(z, held, 1, s, meters::first_meter(kind, meter));
+    if first | line_taken(z, held, 1, s, meters::own_meter(kind, meter)) {
+        return 14;
+    }
+    if none_free(z, page, next, s) {
+        return 15;
+    }
+    if frame_bad(z, page, original, spare, s, frame) {
+        return 16;
+    }
+    0
+}
+
+// The first row that turns a pending event back.
+fn event_row<'a>(
+    z: Sizes,
+    head: usize,
+    tail: usize,
+    next: usize,
+    page: &'a [usize; 16],
+    original: &'a [usize; 16],
+    spare: &'a [usize; 16],
+    opened: &'a [bool; 4],
+    held: &'a [u64; 64],
+    kind: usize,
+    meter: usize,
+    frame: usize,
+) -> usize
+    requires { ⌜ Legal z × (head < 2 * z .places) × (tail < 2 * z .places) × (liveCount z head tail ≤ z .places) × (next < z .slots) ⌝ }
+    ensures { λ r. ⌜ r ≡ refusal (eventRowsOf z head tail next (now (page .entry)) (now (original .entry)) (now (spare .entry)) (now (opened .entry)) (now (held .entry)) kind meter (slotOfPage z (now (page .entry)) 0) frame) ⌝ }
+{
+    let s = state::slots::slot_of(z, page, 0);
+    let row = event_first_row(
+        z,
+        next,
+        page,
+        original,
+        spare,
+        opened,
+        held,
+        kind,
+        meter,
+        s,
+        frame,
+    );
+    if row != 0 {
+        return row;
+    }
+    if no_room(z, head, tail) {
+        return 19;
+    }
+    0
+}
+
+// The first row from 11 on that turns an operation back, of a write or an event with the page's frame.
 pub fn op_row<'a>(
     z: Sizes,
     head: usize,
@@ -228,5 +319,23 @@ pub fn op_row<'a>(
         Op::Commit { writer } => commit_row(z, head, tail, opened, held, writer),
         Op::Consolidate { page: p } => consolidate_row(z, head, tail, page, held, p),
         Op::Checkpoint => 0,
+        Op::Event {
+            kind,
+            meter,
+            amount: _,
+        } => event_row(
+            z,
+            head,
+            tail,
+            next,
+            page,
+            original,
+            spare,
+            opened,
+            held,
+            kind,
+            meter,
+            frame,
+        ),
     }
 }

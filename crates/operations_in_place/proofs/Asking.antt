@@ -11,7 +11,7 @@ use Rattle.layout.specs.Layout.{imageLength}
 use Rattle.state.specs.declared.State.{State}
 use Rattle.state.specs.declared.Pending.{Pending}
 use Rattle.state.specs.declared.Op.{Op}
-use Rattle.state.specs.declared.Op.the-variants.{Idle, Write, Commit, Consolidate, Checkpoint}
+use Rattle.state.specs.declared.Op.the-variants.{Idle, Write, Commit, Consolidate, Checkpoint, Event}
 use Rattle.operations.specs.Operations.{Ranged, isIdle, opRows, needs}
 use Rattle.validity.specs.Validity.{stateOk}
 use Rattle.refinement.specs.Commit.{commitRecordOf}
@@ -20,7 +20,7 @@ use Rattle.refinement.specs.Outcome.{Outcome, answered}
 use Rattle.refinement.specs.Calls.{withPending, quietRows}
 use Rattle.refinement.proofs.CallAsked.{rows-asked}
 use Rattle.refinement.proofs.Going.{ranges-of}
-use Rattle.asking.proofs.Taking.{pendingFrom, pendingWith, ask-none, ask-long, write-needs, consolidate-needs}
+use Rattle.asking.proofs.Taking.{pendingFrom, pendingWith, ask-none, ask-long, write-needs, consolidate-needs, event-needs}
 use Rattle.in_place.specs.Through.{Through, askedOf}
 use Rattle.in_place.proofs.Through.{Ready, ready-valid, all-left, through-refused, through-done, through-run}
 
@@ -32,6 +32,7 @@ completed-pending st line (Write w p l o k) n i = absurd (write-needs st w p l o
 completed-pending st line (Commit w) n i = refl
 completed-pending st line (Consolidate p) n i = absurd (consolidate-needs st p n)
 completed-pending st line Checkpoint n i = refl
+completed-pending st line (Event k m a) n i = absurd (event-needs st k m a n)
 
 abbrev zeros : List ℕ
 zeros = replicate 8 0

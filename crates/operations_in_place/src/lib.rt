@@ -51,7 +51,7 @@ fn ask(
         return Went { answer, to: at };
     }
     let needed = needs::op_needs(z, at.head, at.tail, page, bitmap, last, held, op);
-    let pending = asking::pending_from(op, [0; 8], 0);
+    let pending = asking::pending_from(op, [0; 8], [0; 8], 0);
     if needed == 0 {
         let to = stores::complete(
             z,

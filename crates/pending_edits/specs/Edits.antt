@@ -5,7 +5,7 @@ use mathlib.Core.List.{List}
 use lib.Dec.{leb, eqb}
 use lib.ListN.{getD, set, replicate}
 use Rattle.words.specs.Words.{leOf, bytesOf}
-use Rattle.state.specs.declared.Op.the-variants.{Idle, Write, Commit, Consolidate, Checkpoint}
+use Rattle.state.specs.declared.Op.the-variants.{Idle, Write, Commit, Consolidate, Checkpoint, Event}
 use Rattle.state.specs.declared.Op.{Op}
 use Rattle.state.specs.declared.Pending.{Pending}
 use Rattle.state.specs.declared.State.{State}
@@ -18,12 +18,12 @@ use Rattle.workbench.specs.declared.Turn.{Turn}
 -- ---- O,k,a,b,c,d,e,made,frame: the pending operation
 
 abbrev pub plainPending : Op → ℕ → Pending
-plainPending op made = record { op = op; made = made; line = replicate 8 0; frame = 0 }
+plainPending op made = record { op = op; made = made; line = replicate 8 0; second = replicate 8 0; frame = 0 }
 
 abbrev pub pendingOf : Line → Pending
 pendingOf line =
     cond (eqb (arg line 0) 1)
-    (record { op = Write (arg line 1) (arg line 2) (arg line 3) (arg line 4) (arg line 5); made = arg line 6; line = replicate 8 0; frame = arg line 7 })
+    (record { op = Write (arg line 1) (arg line 2) (arg line 3) (arg line 4) (arg line 5); made = arg line 6; line = replicate 8 0; second = replicate 8 0; frame = arg line 7 })
     (cond (eqb (arg line 0) 2) (plainPending (Commit (arg line 1)) (arg line 6))
     (cond (eqb (arg line 0) 3) (plainPending (Consolidate (arg line 1)) (arg line 6))
     (cond (eqb (arg line 0) 4) (plainPending Checkpoint (arg line 6)) noPending)))
@@ -44,13 +44,14 @@ isWrite (Write w p l o n) = true
 isWrite (Commit w) = false
 isWrite (Consolidate p) = false
 isWrite Checkpoint = false
+isWrite (Event k m a) = false
 
 -- the words of a line with its byte i set to v
 abbrev pub withLineByte : List ℕ → ℕ → ℕ → List ℕ
 withLineByte words i v = set words (i / 8) (leOf (set (bytesOf 8 (getD words (i / 8) 0)) (i % 8) v))
 
 abbrev pub withLine : Pending → List ℕ → Pending
-withLine p words = record { op = p .op; made = p .made; line = words; frame = p .frame }
+withLine p words = record { op = p .op; made = p .made; line = words; second = p .second; frame = p .frame }
 
 abbrev pub lineByteTurn : Bench → Line → Turn
 lineByteTurn b line =

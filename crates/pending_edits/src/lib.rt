@@ -17,6 +17,7 @@ fn plain_pending(op: Op, made: usize) -> Pending
         op,
         made,
         line: [0; 8],
+        second: [0; 8],
         frame: 0,
     }
 }
@@ -42,6 +43,7 @@ fn pending_of(line: Line) -> Pending
                 op,
                 made,
                 line: [0; 8],
+                second: [0; 8],
                 frame,
             }
         }
@@ -86,6 +88,11 @@ fn is_write(op: Op) -> bool
         Op::Commit { writer: _ } => false,
         Op::Consolidate { page: _ } => false,
         Op::Checkpoint => false,
+        Op::Event {
+            kind: _,
+            meter: _,
+            amount: _,
+        } => false,
     }
 }
 

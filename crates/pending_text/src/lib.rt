@@ -33,6 +33,11 @@ fn op_numbers(op: Op, made: usize, frame: usize) -> [u64; 8]
         Op::Commit { writer } => [2, writer as u64, 0, 0, 0, 0, m, 0],
         Op::Consolidate { page } => [3, page as u64, 0, 0, 0, 0, m, 0],
         Op::Checkpoint => [4, 0, 0, 0, 0, 0, m, 0],
+        Op::Event {
+            kind,
+            meter,
+            amount,
+        } => [5, kind as u64, meter as u64, amount, 0, 0, m, frame as u64],
     }
 }
 
@@ -91,6 +96,11 @@ fn put_finished(out: &mut [u8], at: usize, op: Op, line: [u64; 8]) -> usize
         Op::Commit { writer: _ } => at,
         Op::Consolidate { page: _ } => at,
         Op::Checkpoint => at,
+        Op::Event {
+            kind: _,
+            meter: _,
+            amount: _,
+        } => at,
     }
 }
 

@@ -33,7 +33,7 @@ use Rattle.refinement.proofs.Seen.{seen-line}
 use Rattle.refinement.proofs.Sound.{Sound, is-quiet}
 
 -- the bytes laid over the line, one by one
-merged-read : (b : Reference) (w p l o n : ℕ) (bytes : List ℕ) → o + n ≤ 64 → n ≤ length bytes
+pub merged-read : (b : Reference) (w p l o n : ℕ) (bytes : List ℕ) → o + n ≤ 64 → n ≤ length bytes
     → merged (readLine b w p l) o n bytes ≡ readLine (written w p l o n bytes b) w p l
 merged-read b w p l o n bytes fits given =
     let f : ℕ → ℕ = λ i. laidOver (b .writes w p l i) (b .pages p l i) in

@@ -68,21 +68,26 @@ abort-taken st w r =
 abbrev pub opening : State → ℕ → Writers
 opening st w = record { opened = set (st .writers .opened) w true; held = st .writers .held }
 
-pub begin-valid : (st : State) (w : ℕ) → refusal (beginRows st w) ≡ 0 → stateOk (withWriters st (opening st w)) ≡ true
-begin-valid st w r =
-    let h = begin-taken st w r in
-    let v = valid st (h .is-valid) in
-    writers-valid st (opening st w) (h .is-valid) (h .quiet)
-    (record {
+-- held lines keep the rules where a closed writer is opened
+pub opened-fine : (st : State) (w : ℕ) → stateOk st ≡ true → isOpen (st .writers .opened) w ≡ false
+    → HeldFine (st .sizes) (slotIn (st .table)) (opening st w .opened) (st .writers .held)
+opened-fine st w ok closed =
+    let v = valid st ok in
+    record {
       opens =
           λ s u l m n.
           let o = v .held .opens s u l m n in
           caseOn (eqb u w)
-          (λ e. contradicts o (ap (isOpen (st .writers .opened)) (eqb-true u w e) ∙ h .closed))
+          (λ e. contradicts o (ap (isOpen (st .writers .opened)) (eqb-true u w e) ∙ closed))
           (λ e. getD-set-other (st .writers .opened) w u true false (eqb-false u w e) ∙ o);
       owned = v .held .owned;
       apart = v .held .apart;
-    })
+    }
+
+pub begin-valid : (st : State) (w : ℕ) → refusal (beginRows st w) ≡ 0 → stateOk (withWriters st (opening st w)) ≡ true
+begin-valid st w r =
+    let h = begin-taken st w r in
+    writers-valid st (opening st w) (h .is-valid) (h .quiet) (opened-fine st w (h .is-valid) (h .closed))
 
 pub abort-valid : (st : State) (w : ℕ) → refusal (abortRows st w) ≡ 0 → stateOk (withWriters st (closedWriter (st .sizes) (st .writers) w)) ≡ true
 abort-valid st w r =

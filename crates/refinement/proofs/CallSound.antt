@@ -1,12 +1,15 @@
 -- Every call keeps what holds between two calls: one clause a call.
 use Prim.Native.Nat.{ℕ}
 use mathlib.Core.List.{List}
+use mathlib.Core.Logic.{inl, inr}
 use Rattle.refinement.specs.Stores.{World}
-use Rattle.refinement.specs.Run.{Call, mount, checkpoint, free, step, begin, abort, commit, consolidate, run, write, read, recall}
+use Rattle.refinement.specs.Run.{Call, mount, checkpoint, free, step, begin, abort, commit, consolidate, run, write, read, recall, event}
 use Rattle.refinement.specs.Reference.{Reference}
 use Rattle.refinement.specs.Statement.{Lent}
 use Rattle.refinement.proofs.Invariant.{Related}
-use Rattle.refinement.proofs.Sound.{Sound}
+use Rattle.refinement.proofs.Sound.{Sound, related-valid, related-durable}
+use Rattle.refinement.proofs.Between.{Between, Sounds, sounds}
+use Rattle.refinement.proofs.EventCalls.{event-sound, moving-sound}
 use Rattle.refinement.proofs.Begin.{begin-sound}
 use Rattle.refinement.proofs.Abort.{abort-sound}
 use Rattle.refinement.proofs.ReadCall.{read-sound}
@@ -19,16 +22,22 @@ use Rattle.refinement.proofs.AskFree.{free-sound}
 use Rattle.refinement.proofs.AskCheckpoint.{checkpoint-sound}
 use Rattle.refinement.proofs.StepCall.{step-sound, run-sound}
 
-pub call-sound : {past : List ℕ} (c : Call) → Lent c → (v : World) (b : Reference) → Related past v b → Sound past c v b
-call-sound mount lent v b h = mount-sound v b h
-call-sound checkpoint lent v b h = checkpoint-sound v b h
-call-sound free lent v b h = free-sound v b h
-call-sound step lent v b h = step-sound v b h
-call-sound (begin w) lent v b h = begin-sound w v b h
-call-sound (abort w) lent v b h = abort-sound w v b h
-call-sound (commit w) lent v b h = commit-sound w v b h
-call-sound (consolidate p) lent v b h = consolidate-sound p v b h
-call-sound (run k) lent v b h = run-sound k v b h
-call-sound (write w p l o n bytes) lent v b h = write-sound w p l o n bytes lent v b h
-call-sound (read w p l target) lent v b h = read-sound w p l target v b h
-call-sound (recall p l target) lent v b h = recall-sound p l target v b h
+-- where no event is pending
+related-sound : {past : List ℕ} (c : Call) → Lent c → (v : World) (b : Reference) → Related past v b → Sounds past c v b
+related-sound mount lent v b h = sounds v b (mount-sound v b (related-valid (v .st) (v .image) b h) (related-durable (v .st) (v .image) b h))
+related-sound checkpoint lent v b h = sounds v b (checkpoint-sound v b h)
+related-sound free lent v b h = sounds v b (free-sound v b h)
+related-sound step lent v b h = sounds v b (step-sound v b h)
+related-sound (begin w) lent v b h = sounds v b (begin-sound w v b h)
+related-sound (abort w) lent v b h = sounds v b (abort-sound w v b h)
+related-sound (commit w) lent v b h = sounds v b (commit-sound w v b h)
+related-sound (consolidate p) lent v b h = sounds v b (consolidate-sound p v b h)
+related-sound (run k) lent v b h = sounds v b (run-sound k v b h)
+related-sound (write w p l o n bytes) lent v b h = sounds v b (write-sound w p l o n bytes lent v b h)
+related-sound (read w p l target) lent v b h = sounds v b (read-sound w p l target v b h)
+related-sound (recall p l target) lent v b h = sounds v b (recall-sound p l target v b h)
+related-sound (event k m a) lent v b h = event-sound k m a v b h
+
+pub call-sound : {past : List ℕ} (c : Call) → Lent c → (v : World) (b : Reference) → Between past v b → Sounds past c v b
+call-sound c lent v b (inl h) = related-sound c lent v b h
+call-sound c lent v b (inr h) = moving-sound c v b h

@@ -17,7 +17,7 @@ use Rattle.fresh.specs.Fresh.{formatRow, formatRows}
 use Rattle.mount.specs.Mount.{mountOf}
 use Rattle.state.specs.declared.State.{State}
 use Rattle.state.specs.declared.Op.{Op}
-use Rattle.state.specs.declared.Op.the-variants.{Write, Commit, Consolidate, Checkpoint}
+use Rattle.state.specs.declared.Op.the-variants.{Write, Commit, Consolidate, Checkpoint, Event}
 use Rattle.operations.specs.Operations.{isIdle, opRows, writeRows, commitRows, consolidateRows, needs}
 use Rattle.validity.specs.Validity.{stateOk}
 use Rattle.refinement.specs.Commit.{closedWriter}
@@ -28,9 +28,13 @@ use Rattle.refinement.specs.Stores.{World, steppedBy, stepped, left}
 use Rattle.refinement.proofs.Sized.{Sized}
 use Rattle.refinement.proofs.Steps.{run-valid, run-sized, step-valid, step-sized}
 use Rattle.refinement.specs.Outcome.{answered}
-use Rattle.refinement.specs.Calls.{quietRows, withWriters, beginRows, abortRows, beginOf, abortOf, asked, finishedLine, writeCallRows, commitCallRows, consolidateCallRows, freeCallRows, checkpointCallRows, writeOf, commitOf, consolidateOf, freeOf, checkpointOf, stepRow, stepRows, worldOf, runOf, stepOf}
+use Rattle.refinement.specs.Calls.{quietRows, withWriters, beginRows, abortRows, beginOf, abortOf, asked, finishedLine, writeCallRows, commitCallRows, consolidateCallRows, freeCallRows, checkpointCallRows, writeOf, commitOf, consolidateOf, freeOf, checkpointOf, stepRow, stepRows, worldOf, runOf, stepOf, eventLine, eventSecond, eventCallRows, eventOf}
 use Rattle.refinement.specs.Mount.{mountedState, mountCall, noState, freshState, formatCall}
-use Rattle.refinement.specs.Run.{Call, mount, checkpoint, free, step, begin, abort, commit, consolidate, run, write, read, recall, exec}
+use Rattle.refinement.specs.Run.{Call, mount, checkpoint, free, step, begin, abort, commit, consolidate, run, write, read, recall, exec, event}
+use Rattle.meters.specs.Meters.{eventNeeds}
+use Rattle.refinement.specs.Settled.{withLines}
+use Rattle.refinement.proofs.EventRows.{event-some, event-needs, event-op-row}
+use Rattle.refinement.proofs.LinesAsked.{lines-valid}
 use Rattle.refinement.proofs.Begun.{opening, begin-valid, begin-sized, abort-valid, abort-sized}
 use Rattle.refinement.proofs.CallAsked.{askedState, asked-valid, asked-sized}
 use Rattle.refinement.proofs.CallMounted.{mounted-valid, mounted-sized, fresh-valid, fresh-sized}
@@ -60,7 +64,7 @@ asked-good st row op line frame g h =
     answered-good row st (needs st op) (askedState st op line frame) g
     (λ e.
     record {
-      is-valid = asked-valid st line frame op (h e) (g .is-valid) (g .sized .table .sixteen) (g .sized .writers .sixty-four);
+      is-valid = asked-valid st line frame op (h e) (g .is-valid) (g .sized .table .sixteen) (g .sized .writers .sixty-four) (g .sized .writers .four);
       sized = asked-sized st line frame op (h e) (g .sized);
     })
 
@@ -103,6 +107,19 @@ module _ (st : State) (img : List ℕ) (g : Good st) where
   unfolding checkpointOf
   checkpoint-good = asked-good st (refusal (checkpointCallRows st img)) Checkpoint (replicate 8 0) 0 g (λ e. refl)
 
+  event-good : (k m a : ℕ) → Good (eventOf st img k m a .state)
+  unfolding eventOf
+  event-good k m a =
+      let line = eventLine st img k m a in
+      let second = eventSecond st img k m a in
+      let f = pageFrame st img 0 in
+      answered-good (refusal (eventCallRows st img k m a)) st (eventNeeds k) (withLines st (Event k m a) line second f) g
+      (λ e.
+      record {
+        is-valid = lines-valid st line second f (Event k m a) (g .is-valid) (event-op-row st img k m a e) (omega (arith, event-some k, event-needs st k m a));
+        sized = record { table = g .sized .table; writers = g .sized .writers };
+      })
+
   busy : stepRow st img ≡ 0 → isIdle (st .pending .op) ≡ false
   busy e = none-apply (stepRows st img) (omega arith) e .1 .1 .0
 
@@ -112,7 +129,7 @@ module _ (st : State) (img : List ℕ) (g : Good st) where
       answered-good (stepRow st img) st 1 (stepped (worldOf st img) .st) g
       (λ e.
       record {
-        is-valid = step-valid (worldOf st img) (g .is-valid) (busy e) (g .sized .table .sixteen) (g .sized .writers .sixty-four);
+        is-valid = step-valid (worldOf st img) (g .is-valid) (busy e) (g .sized .table .sixteen) (g .sized .writers .sixty-four) (g .sized .writers .four);
         sized = step-sized (worldOf st img) (g .is-valid) (busy e) (g .sized);
       })
 
@@ -124,7 +141,7 @@ module _ (st : State) (img : List ℕ) (g : Good st) where
       answered-good (stepRow st img) st n (steppedBy n (worldOf st img) .st) g
       (λ e.
       record {
-        is-valid = run-valid (worldOf st img) (g .is-valid) (busy e) (g .sized .table .sixteen) (g .sized .writers .sixty-four) n l;
+        is-valid = run-valid (worldOf st img) (g .is-valid) (busy e) (g .sized .table .sixteen) (g .sized .writers .sixty-four) (g .sized .writers .four) n l;
         sized = run-sized (worldOf st img) (g .is-valid) (busy e) (g .sized) n l;
       })
 
@@ -163,3 +180,4 @@ call-good (run k) v b g = run-good (v .st) (v .image) g k
 call-good (write w p l o n bytes) v b g = write-good (v .st) (v .image) g w p l o n bytes
 call-good (read w p l target) v b g = g
 call-good (recall p l target) v b g = g
+call-good (event k m a) v b g = event-good (v .st) (v .image) g k m a

@@ -31,7 +31,7 @@ use Rattle.refinement.specs.Statement.{Lent}
 use Rattle.refinement.proofs.Copies.{durable-fits}
 use Rattle.refinement.proofs.Lacks.{lacks}
 use Rattle.refinement.proofs.Reached.{Reached, reached-next, always}
-use Rattle.refinement.proofs.Sound.{related-valid, related-durable}
+use Rattle.refinement.proofs.Between.{between-valid, between-durable}
 use Rattle.refinement.proofs.Valid.{legal-sizes}
 
 -- a writer holds lines of at most S slots
@@ -91,12 +91,12 @@ module _ {past : List ℕ} (z : Sizes) (v : World) (b : Reference) (h : Reached 
       let u : World = d .world in
       let r = reached-next c lent v b h in
       contradicts (ap (λ (x : ℕ). eqb x 19) n)
-      (commit-fits u (related-valid (u .st) (u .image) (turn c (d .number) (d .stores) b) (r .related)) (subst (λ (s : State). s .head ≡ s .tail) (sym e) refl) w)
+      (commit-fits u (between-valid u (turn c (d .number) (d .stores) b) (r .related)) (subst (λ (s : State). s .head ≡ s .tail) (sym e) refl) w)
 
   pub makes-room : MakesRoom v
   makes-room =
-      let ok = related-valid (v .st) (v .image) b (h .related) in
-      let fits = durable-fits past (v .st) (v .image) b (related-durable (v .st) (v .image) b (h .related)) in
+      let ok = between-valid v b (h .related) in
+      let fits = durable-fits past (v .st) (v .image) b (between-durable v b (h .related)) in
       record {
         at-once = λ taken none. has-room checkpoint tt (ask-ends v taken none);
         by-step = λ e one. has-room step tt (step-ends v ok fits e one);

@@ -3,7 +3,6 @@
 use Prim.Native.Nat.{ℕ, zero, suc, _-_, _<_, _≤_, min}
 use mathlib.Core.Bool.{not}
 use mathlib.Core.List.{List}
-use mathlib.Core.Logic.{⊎-elim}
 use mathlib.Core.Path.{_≡_, refl, sym, ap, subst}
 use native.Mathlib.Omega.{arith}
 use lib.ListN.{length}
@@ -18,10 +17,10 @@ use Rattle.refinement.specs.Run.{commit, run, exec}
 use Rattle.refinement.specs.Beside.{Finds, Whole, CommitWhole}
 use Rattle.refinement.specs.Reference.{Reference, Work, idle, under, committing, withWork, does, starts, continues, advances, turn, readLine, recallLine}
 use Rattle.refinement.proofs.Copies.{durable-fits}
-use Rattle.refinement.proofs.Invariant.{Quiet, Busy, Related}
+use Rattle.refinement.proofs.Invariant.{Quiet}
 use Rattle.refinement.proofs.MountReadsBack.{reached-finds}
 use Rattle.refinement.proofs.Reached.{Reached, reached-next, always}
-use Rattle.refinement.proofs.Sound.{is-quiet, busy-pending}
+use Rattle.refinement.proofs.Between.{Between, between-valid, between-durable, between-quiet, between-pending}
 
 -- ---- a run, by what the reference machine has under way
 
@@ -30,13 +29,12 @@ storesLeft idle = 0
 storesLeft (under t k) = k
 
 -- it is taken where something is
-run-taken : {past : List ℕ} (k : ℕ) (u : World) (c : Reference) → Related past u c → 0 < storesLeft (c .work) → exec (run k) u .number ≡ 0
+run-taken : {past : List ℕ} (k : ℕ) (u : World) (c : Reference) → Between past u c → 0 < storesLeft (c .work) → exec (run k) u .number ≡ 0
 unfolding exec runOf storesLeft
 run-taken {past = past} k u c r some =
     let st = u .st in
-    let B : Busy past st (u .image) c = ⊎-elim (λ q. absurd (omega (arith, some, ap storesLeft (q .work)))) (λ q. q) r in
     sym (row-none (stepRows st (u .image))
-    (ap not (B .valid), (le-ltb (length (u .image)) (imageLength (st .sizes)) (durable-fits past st (u .image) c (B .durable)), (busy-pending st (u .image) c B, tt))))
+    (ap not (between-valid u c r), (le-ltb (length (u .image)) (imageLength (st .sizes)) (durable-fits past st (u .image) c (between-durable u c r)), (between-pending u c r (λ e. omega (arith, some, ap storesLeft e)), tt))))
 
 -- and changes nothing where nothing is
 run-idle : (k n m : ℕ) (c : Reference) → c .work ≡ idle → turn (run k) n m c ≡ c
@@ -71,7 +69,7 @@ unfolding exec commitOf
 whole {past = past} z v b h w k taken =
     let d = exec (commit w) v in
     let row : refusal (commitCallRows (v .st) (v .image) w) ≡ 0 = taken in
-    let q : Quiet past (v .st) (v .image) b = is-quiet (v .st) (v .image) b (h .related) (none-apply (commitCallRows (v .st) (v .image) w) (omega arith) row .1 .1 .0) in
+    let q : Quiet past (v .st) (v .image) b = between-quiet v b (h .related) (none-apply (commitCallRows (v .st) (v .image) w) (omega arith) row .1 .1 .0) in
     let c = cut z w k (d .stores) (d .world) b (q .work) (subst (λ (j : ℕ). Reached z past (d .world) (turn (commit w) j (d .stores) b)) taken (reached-next (commit w) tt v b h)) in
     record { absent = c .0; landed = c .1 }
 

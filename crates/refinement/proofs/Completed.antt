@@ -6,7 +6,7 @@ use Rattle.bounded.specs.Rows.{refusal}
 use Rattle.replay.proofs.Tables.{Sixteen}
 use Rattle.state.specs.declared.State.{State}
 use Rattle.state.specs.declared.Op.{Op}
-use Rattle.state.specs.declared.Op.the-variants.{Idle, Write, Commit, Consolidate, Checkpoint}
+use Rattle.state.specs.declared.Op.the-variants.{Idle, Write, Commit, Consolidate, Checkpoint, Event}
 use Rattle.operations.specs.Operations.{opRows}
 use Rattle.validity.specs.Validity.{stateOk}
 use Rattle.operations.proofs.Taken.{write-taken}
@@ -14,12 +14,14 @@ use Rattle.refinement.specs.Stores.{completed}
 use Rattle.refinement.proofs.WriteValid.{written-valid}
 use Rattle.refinement.proofs.CommitValid.{commit-valid}
 use Rattle.refinement.proofs.ConsolidateValid.{consolidate-valid}
+use Rattle.refinement.proofs.EventReady.{event-valid}
 use Rattle.refinement.proofs.CheckpointValid.{checkpoint-valid}
 
-pub completed-valid : (st : State) (op : Op) → stateOk st ≡ true → Sixteen (st .table) → length (st .writers .held) ≡ 64 → refusal (opRows st op (st .pending .frame)) ≡ 0 → stateOk (completed st op) ≡ true
-completed-valid st Idle e full lines r = e
-completed-valid st (Write w p l o n) e full lines r =
+pub completed-valid : (st : State) (op : Op) → stateOk st ≡ true → Sixteen (st .table) → length (st .writers .held) ≡ 64 → length (st .writers .opened) ≡ 4 → refusal (opRows st op (st .pending .frame)) ≡ 0 → stateOk (completed st op) ≡ true
+completed-valid st Idle e full lines four r = e
+completed-valid st (Write w p l o n) e full lines four r =
     written-valid st w p l o n e full (write-taken st w p l o n (st .pending .frame) r) lines
-completed-valid st (Commit w) e full lines r = commit-valid st w e full r
-completed-valid st (Consolidate p) e full lines r = consolidate-valid st p e full r
-completed-valid st Checkpoint e full lines r = checkpoint-valid st e full
+completed-valid st (Commit w) e full lines four r = commit-valid st w e full r
+completed-valid st (Consolidate p) e full lines four r = consolidate-valid st p e full r
+completed-valid st Checkpoint e full lines four r = checkpoint-valid st e full
+completed-valid st (Event k m a) e full lines four r = event-valid st k m a e full lines four r

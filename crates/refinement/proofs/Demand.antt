@@ -2,6 +2,7 @@
 use Rattle.layout.specs.Layout.{imageLength}
 use Rattle.refinement.specs.Run.{Call}
 use Rattle.refinement.specs.Demand.{Demand, EveryDemand}
+use Rattle.refinement.proofs.Between.{between-valid, between-durable}
 use Rattle.refinement.proofs.CallSound.{call-sound}
 use Rattle.refinement.proofs.CheckpointRoom.{makes-room}
 use Rattle.refinement.proofs.CommitWhole.{whole}
@@ -17,6 +18,6 @@ every-demand =
       whole = whole z v b h;
       room = makes-room z v b h;
       finds = reached-finds z v b h;
-      reads-back = reads-back v b (h .related);
+      reads-back = reads-back v b (between-valid v b (h .related)) (between-durable v b (h .related));
       past = past-same v b h;
     })

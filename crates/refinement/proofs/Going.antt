@@ -13,11 +13,12 @@ use Rattle.bounded.specs.Rows.{refusal}
 use Rattle.replay.specs.Table.{slotsShaped}
 use Rattle.state.specs.declared.State.{State}
 use Rattle.state.specs.declared.Op.{Op}
-use Rattle.state.specs.declared.Op.the-variants.{Write, Commit, Consolidate, Checkpoint}
+use Rattle.state.specs.declared.Op.the-variants.{Write, Commit, Consolidate, Checkpoint, Event}
 use Rattle.operations.specs.Operations.{Ranged, isIdle, opRows, needs, commitNeeds, checkpointNeeds, recordedSlots}
 use Rattle.validity.specs.Validity.{stateOk}
 use Rattle.validity.proofs.Ranged.{slots-good, ranged}
-use Rattle.operations.proofs.Taken.{WriteTaken, write-taken, CommitTaken, commit-taken, ConsolidateTaken, consolidate-taken}
+use Rattle.meters.specs.Meters.{eventNeeds}
+use Rattle.operations.proofs.Taken.{WriteTaken, write-taken, CommitTaken, commit-taken, ConsolidateTaken, consolidate-taken, EventTaken, event-taken}
 use Rattle.refinement.specs.Frames.{pageSlot}
 use Rattle.refinement.specs.Commit.{commitSlots}
 use Rattle.refinement.specs.Consolidate.{copyStoreCount}
@@ -56,6 +57,9 @@ module _ (st : State) (taken : refusal (opRows st (st .pending .op) (st .pending
   pub consolidate-of : {p : ℕ} → st .pending .op ≡ Consolidate p → ConsolidateTaken st p
   consolidate-of {p} e = consolidate-taken st p (rw e at taken)
 
+  pub event-of : {k m a : ℕ} → st .pending .op ≡ Event k m a → EventTaken st k m (st .pending .frame)
+  event-of {k} {m} {a} e = event-taken st k m a (st .pending .frame) (rw e at taken)
+
 -- ---- of n stores that are left, the last is the operation's at most
 
 module _ (st : State) (g : Going st) (n : ℕ) (h : n ≤ left st) where
@@ -87,6 +91,12 @@ module _ (st : State) (g : Going st) (n : ℕ) (h : n ≤ left st) where
       let q : needs st (st .pending .op) ≡ checkpointNeeds (st .head) (st .tail) c = rw e in
       let m : checkpointNeeds (st .head) (st .tail) c ≤ 3 * c + 1 = row-keeps (λ (x : ℕ). x ≤ 3 * c + 1) (eqb (st .head) (st .tail)) 0 (3 * c + 1) (omega arith) (omega arith) in
       (omega (arith, g .made-low), omega (arith, g .made-low))
+
+  pub event-left : {k m a : ℕ} → st .pending .op ≡ Event k m a → st .pending .made + n ≤ eventNeeds k
+  unfolding needs
+  event-left {k} e =
+      let q : needs st (st .pending .op) ≡ eventNeeds k = rw e in
+      omega (arith, g .made-low)
 
 -- ---- the stores of the pending operation, its arguments known
 

@@ -1,13 +1,13 @@
 -- Every store of an operation that no row turns back goes to a word of the image.
 use Prim.Native.Nat.{ℕ, _+_, _-_, _*_, _/_, _%_, _<_, _≤_}
-use mathlib.Core.Bool.{Bool, true, false, not}
-use mathlib.Core.Path.{_≡_, refl}
+use mathlib.Core.Bool.{Bool, true, false, not, _&&_}
+use mathlib.Core.Path.{_≡_, refl, subst}
 use native.Mathlib.Omega.{arith}
 use lib.Dec.{ltb, eqb}
 use lib.ListN.{length, getD}
 use borrow.Author.Tests.{eqb-false, ltb-true, ltb-false}
 use Rattle.bounded.specs.Rows.{refusal}
-use Rattle.bounded.proofs.Tests.{caseOn, row-keeps}
+use Rattle.bounded.proofs.Tests.{caseOn, row-keeps, and-right}
 use Rattle.bounded.proofs.Those.{chosen, length-those}
 use Rattle.layout.specs.declared.Sizes.{Sizes}
 use Rattle.layout.specs.Layout.{Legal, frames, headWord, tailWord, pageWord, slotWord, recordWord, lineWord, imageWords, imageLength}
@@ -17,16 +17,22 @@ use Rattle.replay.specs.Table.{noPosition, slotIn}
 use Rattle.replay.proofs.Tables.{Sixteen}
 use Rattle.state.specs.declared.State.{State}
 use Rattle.state.specs.declared.Op.{Op}
-use Rattle.state.specs.declared.Op.the-variants.{Idle, Write, Commit, Consolidate, Checkpoint}
+use Rattle.state.specs.declared.Op.the-variants.{Idle, Write, Commit, Consolidate, Checkpoint, Event}
 use Rattle.operations.specs.Operations.{isIdle, opRows, needs, recordedSlots}
 use Rattle.validity.specs.Validity.{stateOk}
-use Rattle.operations.proofs.Taken.{write-taken, consolidate-taken}
+use Rattle.operations.proofs.Taken.{write-taken, consolidate-taken, EventTaken, event-taken}
 use Rattle.refinement.specs.Frames.{otherFrame, pageSlot}
 use Rattle.refinement.specs.Stores.{storeAt}
 use Rattle.refinement.specs.Write.{writeSlot, writeAt}
 use Rattle.refinement.specs.Commit.{commitSlots, commitAt, commitAtOf}
 use Rattle.refinement.specs.Consolidate.{isFew, copyTo, copyLines, copyStoreCount, consolidateAt}
 use Rattle.refinement.specs.Checkpoint.{checkpointSlot, checkpointAt, checkpointAtOf}
+use Rattle.meters.specs.Meters.{movesCredit, firstMeter, ownMeter}
+use Rattle.meters.proofs.MeterLaws.{first-low, own-range}
+use Rattle.refinement.specs.Settled.{withOpen}
+use Rattle.refinement.specs.Event.{firstAsked, firstDone, secondAsked, linesDone, lineStores, eventAt}
+use Rattle.refinement.proofs.EventReady.{write-row, event-begun, first-wrote, lines-wrote, first-asked-ok, second-asked-ok}
+use Rattle.refinement.proofs.EventRows.{first-sizes, lines-sizes}
 use Rattle.refinement.proofs.StateValid.{valid}
 use Rattle.refinement.proofs.Pending.{pends}
 use Rattle.refinement.proofs.WriteValid.{target}
@@ -113,17 +119,54 @@ module _ (st : State) (e : stateOk st ≡ true) where
       rw a (slot-in z (v .legal) (checkpointSlot st i) (i % 3) (c .below) (omega arith)))
       (λ a. rw a (header-in z (v .legal) tailWord (omega arith)))
 
+-- an event's are those of its writes and its commit
+module _ (st : State) (k m a : ℕ) (e : stateOk st ≡ true) (full : Sixteen (st .table)) (lines : length (st .writers .held) ≡ 64)
+    (four : length (st .writers .opened) ≡ 4) (r : refusal (opRows st (Event k m a) (st .pending .frame)) ≡ 0) where
+  abbrev f : ℕ
+  f = st .pending .frame
+
+  E : EventTaken st k m f
+  E = event-taken st k m a f r
+
+  abbrev Inside : ℕ → Type 0
+  Inside x = x < imageWords (st .sizes)
+
+  event-in : (i : ℕ) → eventAt st k m i < imageWords (st .sizes)
+  unfolding eventAt
+  event-in i =
+      let R = event-begun st k m a e full lines four E in
+      let W = first-wrote st k m a e full lines four E in
+      let L = lines-wrote st k m a e full lines four E in
+      let one : ltb i 8 ≡ true → Inside (writeAt (firstAsked st k m) 0 (firstMeter k m) i) =
+      λ t.
+      write-in (firstAsked st k m) (first-asked-ok st k m a e full lines four E) full 1 0 (firstMeter k m) 0 8 i
+      (write-row (withOpen st 1) k m f (firstMeter k m) (st .pending .line) R (omega (arith, first-low k m (E .known))) (R .first-free)) (ltb-true i 8 t) in
+      let two : ltb i 8 ≡ false → movesCredit k && ltb i 16 ≡ true → Inside (writeAt (secondAsked st k m) 0 (ownMeter k m) (i - 8)) =
+      λ s t.
+      subst (λ (z : Sizes). writeAt (secondAsked st k m) 0 (ownMeter k m) (i - 8) < imageWords z) (first-sizes st k m)
+      (write-in (secondAsked st k m) (second-asked-ok st k m a e full lines four E) (W .ready .full) 1 0 (ownMeter k m) 0 8 (i - 8)
+      (write-row (firstDone st k m) k m f (ownMeter k m) (st .pending .second) (W .ready) (omega (arith, own-range k m (E .known) .1)) (W .ready .own-free))
+      (omega (arith, ltb-false i 8 s, ltb-true i 16 (and-right (movesCredit k) (ltb i 16) t)))) in
+      let three : Inside (commitAt (linesDone st k m) 1 (i - lineStores k)) =
+      subst (λ (z : Sizes). commitAt (linesDone st k m) 1 (i - lineStores k) < imageWords z) (lines-sizes st k m)
+      (commit-in (linesDone st k m) (L .ready .ok) 1 (i - lineStores k)) in
+      caseOn (ltb i 8)
+      (λ t. rw t (one t))
+      (λ t. caseOn (movesCredit k && ltb i 16) (λ u. rw (t, u) (two t u)) (λ u. rw (t, u) three))
+
+module _ (st : State) (e : stateOk st ≡ true) where
   -- store i of an operation that needs more than i
-  pub op-in-range : Sixteen (st .table) → (op : Op) → refusal (opRows st op (st .pending .frame)) ≡ 0 → (i : ℕ) → i < needs st op → storeAt st op i < imageWords z
+  pub op-in-range : Sixteen (st .table) → length (st .writers .held) ≡ 64 → length (st .writers .opened) ≡ 4 → (op : Op) → refusal (opRows st op (st .pending .frame)) ≡ 0 → (i : ℕ) → i < needs st op → storeAt st op i < imageWords (st .sizes)
   unfolding needs
-  op-in-range full Idle r i l = absurd (omega arith)
-  op-in-range full (Write w p l o n) r i m = write-in full w p l o n i r m
-  op-in-range full (Commit w) r i l = commit-in w i
-  op-in-range full (Consolidate p) r i l = consolidate-in full p i r
-  op-in-range full Checkpoint r i l = checkpoint-in i
+  op-in-range full lines four Idle r i l = absurd (omega arith)
+  op-in-range full lines four (Write w p l o n) r i m = write-in st e full w p l o n i r m
+  op-in-range full lines four (Commit w) r i l = commit-in st e w i
+  op-in-range full lines four (Consolidate p) r i l = consolidate-in st e full p i r
+  op-in-range full lines four Checkpoint r i l = checkpoint-in st e i
+  op-in-range full lines four (Event k m a) r i l = event-in st k m a e full lines four r i
 
   -- store i of the pending operation: its eight bytes, on a word, lie inside the image
-  pub store-in-range : Sixteen (st .table) → isIdle (st .pending .op) ≡ false → (i : ℕ) → i < needs st (st .pending .op) → 8 * storeAt st (st .pending .op) i + 8 ≤ imageLength z
-  store-in-range full d i l =
-      let a : storeAt st (st .pending .op) i < imageWords z = op-in-range full (st .pending .op) (pends st (st .pending .op) e refl d .taken) i l in
+  pub store-in-range : Sixteen (st .table) → length (st .writers .held) ≡ 64 → length (st .writers .opened) ≡ 4 → isIdle (st .pending .op) ≡ false → (i : ℕ) → i < needs st (st .pending .op) → 8 * storeAt st (st .pending .op) i + 8 ≤ imageLength (st .sizes)
+  store-in-range full lines four d i l =
+      let a : storeAt st (st .pending .op) i < imageWords (st .sizes) = op-in-range full lines four (st .pending .op) (pends st (st .pending .op) e refl d .taken) i l in
       omega arith

@@ -18,7 +18,7 @@ use Rattle.replay.proofs.Tables.{Sixteen}
 use Rattle.masks.specs.Lines.{inMask}
 use Rattle.state.specs.declared.State.{State}
 use Rattle.state.specs.declared.Op.{Op}
-use Rattle.state.specs.declared.Op.the-variants.{Idle, Write, Commit, Consolidate, Checkpoint}
+use Rattle.state.specs.declared.Op.the-variants.{Idle, Write, Commit, Consolidate, Checkpoint, Event}
 use Rattle.state.specs.Held.{heldAt}
 use Rattle.operations.specs.Operations.{slotFor, slotted, needs}
 use Rattle.validity.specs.Validity.{stateOk}
@@ -80,7 +80,7 @@ pub record Quiet (past : List ℕ) (st : State) (img : List ℕ) (b : Reference)
   pub writers : Writing st img b Never
   pub work : b .work ≡ idle
 
--- an operation is pending: what the reference machine has under way, and for a write the finished line, the page's frame and that the
+-- an operation other than an event is pending: what the reference machine has under way, and for a write the finished line, the page's frame and that the
 -- line was bytes before
 abbrev pub Doing : State → List ℕ → Reference → Op → Type 0
 Doing st img b Idle = ⊥
@@ -95,6 +95,7 @@ Doing st img b (Write w p l o n) =
 Doing st img b (Commit w) = b .work ≡ under (committing w) (needs st (Commit w) - st .pending .made)
 Doing st img b (Consolidate p) = b .work ≡ under nothing (needs st (Consolidate p) - st .pending .made)
 Doing st img b Checkpoint = b .work ≡ under nothing (needs st Checkpoint - st .pending .made)
+Doing st img b (Event k m a) = ⊥
 
 -- the line that a pending write is changing
 abbrev pub Changing : Op → ℕ → ℕ → ℕ → Type 0
@@ -103,6 +104,7 @@ Changing (Write w p l o n) v q m = (v ≡ w) × (q ≡ p) × (m ≡ l)
 Changing (Commit w) v q m = ⊥
 Changing (Consolidate p) v q m = ⊥
 Changing Checkpoint v q m = ⊥
+Changing (Event k i a) v q m = ⊥
 
 pub record Busy (past : List ℕ) (st : State) (img : List ℕ) (b : Reference) : Type 0 where
   pub valid : stateOk st ≡ true

@@ -5,6 +5,7 @@ pub mod ConsolidatePlaces
 pub mod CheckpointPlaces
 pub mod StateValid
 pub mod Pending
+pub mod LinesAsked
 pub mod OneSlot
 pub mod LinePut
 pub mod Appended
@@ -15,6 +16,8 @@ pub mod ConsolidateValid
 pub mod CheckpointValid
 pub mod InRange
 pub mod Sized
+pub mod EventRows
+pub mod EventReady
 pub mod Completed
 pub mod Steps
 pub mod PageSlots
@@ -68,6 +71,14 @@ pub mod CommitCopies
 pub mod CommitMid
 pub mod StepCommit
 pub mod StepCall
+pub mod Moving
+pub mod EventKept
+pub mod AskEvent
+pub mod EventBook
+pub mod EventStores
+pub mod StepEvent
+pub mod Between
+pub mod EventCalls
 pub mod CallSound
 pub mod Reached
 pub mod Theorem
@@ -76,6 +87,8 @@ pub mod StoresInside
 pub mod Lacks
 pub mod PageFrame
 pub mod NeverRefused
+pub mod Totals
+pub mod MetersAddUp
 pub mod CommitWhole
 pub mod CheckpointRoom
 pub mod Demand

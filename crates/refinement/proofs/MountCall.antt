@@ -24,7 +24,7 @@ use Rattle.refinement.specs.Reference.{Reference, none, idle, turn, reca
 use Rattle.refinement.proofs.Invariant.{Durable, Related}
 use Rattle.refinement.proofs.Valid.{good, legal-sizes}
 use Rattle.refinement.proofs.Copies.{frame-kept, mount-apart}
-use Rattle.refinement.proofs.Sound.{Sound, related-valid, related-durable}
+use Rattle.refinement.proofs.Sound.{Sound}
 use Rattle.refinement.proofs.Mounted.{stateOf, Committed, mounted-quiet}
 
 module _ {past : List ℕ} (st : State) (img : List ℕ) (b : Reference) (valid : stateOk st ≡ true) (D : Durable past st img b) where
@@ -43,22 +43,20 @@ unfolding exec mountCall
 mount-result v m e = ap (λ (x : Mounted). replaces (answered (x .row) noState 0 (mountedState x)) v) e
 
 -- it is taken, and the state is what the image shows
-pub mount-found : {past : List ℕ} (v : World) (b : Reference) (h : Related past v b)
-    → exec mount v ≡ replaces (answered 0 noState 0 (stateOf (related-durable (v .st) (v .image) b h .view))) v
-mount-found v b h =
-    let D = related-durable (v .st) (v .image) b h in
+pub mount-found : {past : List ℕ} (v : World) (b : Reference) (D : Durable past (v .st) (v .image) b)
+    → exec mount v ≡ replaces (answered 0 noState 0 (stateOf (D .view))) v
+mount-found v b D =
     mount-result v (foundIn (D .view)) (taken-mount (v .image) (D .view) (D .shows) (D .mounts))
 
-pub mount-sound : {past : List ℕ} (v : World) (b : Reference) → Related past v b → Sound past mount v b
-mount-sound {past = past} v b h =
+pub mount-sound : {past : List ℕ} (v : World) (b : Reference) → stateOk (v .st) ≡ true → Durable past (v .st) (v .image) b → Sound past mount v b
+mount-sound {past = past} v b ok D =
     let st = v .st in
     let img = v .image in
-    let D = related-durable st img b h in
-    let e = mount-found v b h in
+    let e = mount-found v b D in
     let fresh : Reference = record { pages = b .pages; writes = λ w p l i. none; work = idle } in
     let q =
     mounted-quiet img (D .view) fresh (D .bytes) (subst (λ (z : Sizes). drop (imageLength z) img ≡ past) (sym (D .sizes-same)) (D .past-kept)) (D .shows) (D .mounts)
-    (mounted-committed st img b (related-valid st img b h) D) (λ w p l i. refl) refl in
+    (mounted-committed st img b ok D) (λ w p l i. refl) refl in
     record {
       right = ap (λ (d : Result). d .number) e;
       sizes = ap (λ (d : Result). d .world .st .sizes) e ∙ D .sizes-same;

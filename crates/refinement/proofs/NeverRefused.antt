@@ -1,9 +1,10 @@
 -- No call is answered 1 to 8 or 16: the image mounts and fits, the state is valid, and a page's frame is no slot's.
 use Prim.Native.Nat.{ℕ, _<_}
-use mathlib.Core.Bool.{false, not}
+use mathlib.Core.Bool.{true, false, not}
 use mathlib.Core.List.{List}
 use mathlib.Core.Logic.{⊎-elim}
 use mathlib.Core.Path.{_≡_, refl, ap}
+use native.Mathlib.Omega.{arith}
 use lib.Dec.{ltb}
 use lib.ListN.{length}
 use borrow.Author.Tests.{le-ltb}
@@ -14,21 +15,22 @@ use Rattle.validity.specs.Validity.{stateOk}
 use Rattle.operations.proofs.Taken.{args-good}
 use Rattle.refinement.specs.Frames.{pageFrame}
 use Rattle.refinement.specs.Stores.{World}
-use Rattle.refinement.specs.Calls.{beginRows, beginOf, abortRows, abortOf, writeCallRows, writeOf, commitCallRows, commitOf, consolidateCallRows, consolidateOf, freeCallRows, freeOf, checkpointCallRows, checkpointOf, readRows, readRow, stepRows, stepOf, runOf}
-use Rattle.refinement.specs.Run.{Call, mount, checkpoint, free, step, begin, abort, commit, consolidate, run, write, read, recall, exec}
+use Rattle.refinement.specs.Calls.{beginRows, beginOf, abortRows, abortOf, writeCallRows, writeOf, commitCallRows, commitOf, consolidateCallRows, consolidateOf, freeCallRows, freeOf, checkpointCallRows, checkpointOf, readRows, readRow, stepRows, stepOf, runOf, eventCallRows, eventOf}
+use Rattle.refinement.specs.Run.{Call, mount, checkpoint, free, step, begin, abort, commit, consolidate, run, write, read, recall, exec, event}
 use Rattle.refinement.specs.Beside.{broken, NeverRefused}
 use Rattle.refinement.specs.Reference.{Reference}
 use Rattle.refinement.proofs.Copies.{durable-fits, names-once}
-use Rattle.refinement.proofs.Invariant.{Related}
+use Rattle.refinement.proofs.Invariant.{Durable}
 use Rattle.refinement.proofs.Lacks.{lacks}
 use Rattle.refinement.proofs.MountReadsBack.{mount-taken}
 use Rattle.refinement.proofs.PageFrame.{frame-good}
 use Rattle.refinement.proofs.Reached.{always}
 use Rattle.refinement.proofs.ReadCall.{read-args}
-use Rattle.refinement.proofs.RecallCall.{recall-sound}
-use Rattle.refinement.proofs.Sound.{related-valid, related-durable}
+use Rattle.refinement.proofs.RecallCall.{recall-answer}
+use Rattle.refinement.proofs.Between.{between-valid, between-durable}
+use Rattle.refinement.proofs.Valid.{legal-sizes}
 
-module _ {past : List ℕ} (v : World) (b : Reference) (h : Related past v b) where
+module _ {past : List ℕ} (v : World) (b : Reference) (ok : stateOk (v .st) ≡ true) (D : Durable past (v .st) (v .image) b) where
   abbrev st : State
   st = v .st
 
@@ -37,18 +39,21 @@ module _ {past : List ℕ} (v : World) (b : Reference) (h : Related past v b) wh
 
   -- 8 and 4
   valid : not (stateOk st) ≡ false
-  valid = ap not (related-valid st img b h)
+  valid = ap not ok
 
   fits : ltb (length img) (imageLength (st .sizes)) ≡ false
-  fits = le-ltb (length img) (imageLength (st .sizes)) (durable-fits past st img b (related-durable st img b h))
+  fits = le-ltb (length img) (imageLength (st .sizes)) (durable-fits past st img b D)
 
   -- 16
   frame : (p : ℕ) → p < st .sizes .pages → frameBad (st .sizes) (st .table .page) (st .table .original) (st .table .spare) (slotFor st p) (pageFrame st img p) ≡ false
-  frame = frame-good st img (related-valid st img b h) (names-once st img (related-valid st img b h) (related-durable st img b h))
+  frame = frame-good st img ok (names-once st img ok D)
+
+  page : 0 < st .sizes .pages
+  page = omega (arith, legal-sizes st ok .pages-low)
 
   pub call-kept : (c : Call) → broken (exec c v .number) ≡ false
-  unfolding exec beginOf abortOf writeOf commitOf consolidateOf freeOf checkpointOf readRow stepOf runOf
-  call-kept mount = ap broken (mount-taken v b h)
+  unfolding exec beginOf abortOf writeOf commitOf consolidateOf freeOf checkpointOf eventOf readRow stepOf runOf
+  call-kept mount = ap broken (mount-taken v b ok D)
   call-kept checkpoint = lacks broken (checkpointCallRows st img) (valid, λ a. (fits, λ c. (refl, λ d. refl)))
   call-kept free = lacks broken (freeCallRows st img) (valid, λ a. (fits, λ c. (refl, λ d. (refl, λ e. (refl, λ f. refl)))))
   call-kept step = lacks broken (stepRows st img) (valid, λ a. (fits, λ c. (refl, λ d. refl)))
@@ -61,7 +66,10 @@ module _ {past : List ℕ} (v : World) (b : Reference) (h : Related past v b) wh
       lacks broken (writeCallRows st img w p l o n bytes)
       (valid, λ a. (fits, λ c. (refl, λ d. (refl, λ e. (refl, λ f. (refl, λ g. (refl, λ i. (refl, λ j. (frame p (args-good (st .sizes) w p l o n f .page-low), λ k. refl)))))))))
   call-kept (read w p l target) = lacks broken (readRows st img w p l target) (valid, λ a. (fits, λ c. (refl, λ d. (refl, λ e. (frame p (read-args st w p l target e .1), λ f. refl)))))
-  call-kept (recall p l target) = ⊎-elim (λ e. ap broken e) (λ e. ap broken e) (recall-sound p l target v b h .right .0)
+  call-kept (recall p l target) = ⊎-elim (λ e. ap broken e) (λ e. ap broken e) (recall-answer st img b ok D p l target)
+  call-kept (event k m a) =
+      lacks broken (eventCallRows st img k m a)
+      (valid, λ a. (fits, λ c. (refl, λ d. (refl, λ e. (refl, λ f. (refl, λ g. (refl, λ i. (frame 0 page, λ j. (refl, λ n. (refl, λ o. refl))))))))))
 
 pub never-refused : NeverRefused
-never-refused = always _ (λ z buffer v b h. call-kept v b (h .related))
+never-refused = always _ (λ z buffer v b h. call-kept v b (between-valid v b (h .related)) (between-durable v b (h .related)))

@@ -9,7 +9,7 @@ use Rattle.bounded.specs.Rows.{refusal}
 use Rattle.bounded.proofs.Tests.{and-left, and-right}
 use Rattle.state.specs.declared.State.{State}
 use Rattle.state.specs.declared.Op.{Op}
-use Rattle.state.specs.declared.Op.the-variants.{Idle, Write, Commit, Consolidate, Checkpoint}
+use Rattle.state.specs.declared.Op.the-variants.{Idle, Write, Commit, Consolidate, Checkpoint, Event}
 use Rattle.operations.specs.Operations.{isIdle, opRows, needs}
 use Rattle.validity.specs.Validity.{pendingOk, stateOk}
 use Rattle.refinement.specs.Stores.{withMade}
@@ -58,6 +58,7 @@ needs-made st m (Write w p l o n) = refl
 needs-made st m (Commit w) = refl
 needs-made st m (Consolidate p) = refl
 needs-made st m Checkpoint = refl
+needs-made st m (Event k i a) = refl
 
 -- nor do its rows
 pub rows-made : (st : State) (m : ℕ) (op : Op) (f : ℕ) → refusal (opRows (withMade st m) op f) ≡ refusal (opRows st op f)
@@ -66,6 +67,7 @@ rows-made st m (Write w p l o n) f = refl
 rows-made st m (Commit w) f = refl
 rows-made st m (Consolidate p) f = refl
 rows-made st m Checkpoint f = refl
+rows-made st m (Event k i a) f = refl
 
 pub made-valid : (st : State) (m : ℕ) → stateOk st ≡ true → isIdle (st .pending .op) ≡ false → m < needs st (st .pending .op) → stateOk (withMade st m) ≡ true
 made-valid st m e i l =

@@ -50,7 +50,7 @@ module _ {past : List ℕ} (st : State) (img : List ℕ) (b : Reference) (valid 
       refusal-past (mountRows (length img) (word img)) ((argsBad img p l target, 11) ∷ [])
       (none-apply (mountRows (length img) (word img)) (omega arith) (no-row img (ap (λ (m : Mounted). m .row) (taken-mount img (D .view) (D .shows) (D .mounts)))))
 
-  recall-answer : (recallRow img p l target ≡ 0) ⊎ (recallRow img p l target ≡ 11)
+  pub recall-answer : (recallRow img p l target ≡ 0) ⊎ (recallRow img p l target ≡ 11)
   recall-answer =
       caseOn (argsBad img p l target)
       (λ t. inr (row-is ∙ ap (λ (x : Bool). cond x 11 0) t))
@@ -62,7 +62,7 @@ module _ {past : List ℕ} (st : State) (img : List ℕ) (b : Reference) (valid 
       (λ t. let q : _≡_ {A = ℕ} 11 0 = sym (row-is ∙ ap (λ (x : Bool). cond x 11 0) t) ∙ e in absurd (omega arith))
       (λ t. t)
 
-  recall-right : recallRow img p l target ≡ 0 → recallBytes img p l target ≡ over target 0 (recallLine b p l)
+  pub recall-right : recallRow img p l target ≡ 0 → recallBytes img p l target ≡ over target 0 (recallLine b p l)
   unfolding recallBytes
   recall-right e =
       let c : Committed img (viewOf (word img)) b = subst (λ (v : View). Committed img v b) (sym (D .shows)) (mounted-committed st img b valid D) in

@@ -1,6 +1,6 @@
 -- The lengths of a state's arrays and the range of its masks, which its Rust types give: every call keeps them.
 use Prim.Native.Nat.{ℕ, _+_, _*_, _^_, _<_}
-use mathlib.Core.Bool.{false}
+use mathlib.Core.Bool.{true, false}
 use mathlib.Core.List.{List}
 use mathlib.Core.Path.{_≡_, _∙_}
 use native.Mathlib.Omega.{arith}
@@ -25,13 +25,17 @@ use Rattle.masks.proofs.Members.{with-lt, exclusive-or-lt}
 use Rattle.state.specs.declared.State.{State}
 use Rattle.state.specs.declared.Writers.{Writers}
 use Rattle.state.specs.declared.Op.{Op}
-use Rattle.state.specs.declared.Op.the-variants.{Idle, Write, Commit, Consolidate, Checkpoint}
+use Rattle.state.specs.declared.Op.the-variants.{Idle, Write, Commit, Consolidate, Checkpoint, Event}
 use Rattle.state.specs.Held.{heldAt}
 use Rattle.operations.specs.Operations.{slotted, opRows}
-use Rattle.operations.proofs.Taken.{write-taken}
+use Rattle.meters.specs.Meters.{eventKnown, movesCredit, firstMeter, ownMeter}
+use Rattle.meters.proofs.MeterLaws.{first-low, own-range}
+use Rattle.operations.proofs.Taken.{write-taken, event-taken}
 use Rattle.refinement.specs.Stores.{completed, withMade}
-use Rattle.refinement.specs.Write.{writeSlot, writeTable}
-use Rattle.refinement.specs.Commit.{commitSlots, commitRecord, closedWriter, commitRecordOf}
+use Rattle.refinement.specs.Settled.{withOpen}
+use Rattle.refinement.specs.Write.{writeSlot, writeTable, writeDone}
+use Rattle.refinement.specs.Commit.{commitSlots, commitRecord, closedWriter, commitRecordOf, commitDone}
+use Rattle.refinement.specs.Event.{lineAsked, lineDone, firstDone, secondDone, linesDone, eventDone}
 use Rattle.refinement.specs.Consolidate.{freeingRecord}
 
 -- each entry of a list is a word
@@ -97,13 +101,11 @@ module _ (st : State) (h : Sized st) where
       row-keeps SizedTable (slotted st p) (st .table) (withSlot (st .table) s v) (h .table)
       (record { sixteen = sixteen-slot (st .table) s v (h .table .sixteen); bitmap-low = set-low (st .table .bitmap) s 0 (h .table .bitmap-low) (omega arith) })
 
-  pub completed-sized : (op : Op) → refusal (opRows st op (st .pending .frame)) ≡ 0 → Sized (completed st op)
-  completed-sized Idle r = h
-  completed-sized (Write w p l o n) r =
+  written-sized : (w p l : ℕ) → l < 64 → Sized (writeDone st w p l)
+  written-sized w p l line =
       let s = writeSlot st p in
       let held = st .writers .held in
       let m = withLine (heldAt held w s) l in
-      let line : l < 64 = write-taken st w p l o n (st .pending .frame) r .args .line-low in
       record {
         table = written-table p;
         writers =
@@ -113,7 +115,9 @@ module _ (st : State) (h : Sized st) where
               held-low = set-low held (16 * w + s) m (h .writers .held-low) (with-lt (heldAt held w s) l (h .writers .held-low (16 * w + s)) line);
             };
       }
-  completed-sized (Commit w) r =
+
+  committed-sized : (w : ℕ) → Sized (commitDone st w)
+  committed-sized w =
       let n = length (commitSlots st w) in
       record {
         table =
@@ -123,12 +127,37 @@ module _ (st : State) (h : Sized st) where
             };
         writers = closed-sized (st .sizes) (st .writers) w (h .writers);
       }
+
+-- the states of an event
+open-sized : (st : State) → Sized st → Sized (withOpen st 1)
+open-sized st h =
+    record { table = h .table; writers = record { four = length-set (st .writers .opened) 1 true ∙ h .writers .four; sixty-four = h .writers .sixty-four; held-low = h .writers .held-low } }
+
+line-sized : (st : State) (l : ℕ) (words : List ℕ) (f : ℕ) → Sized st → l < 64 → Sized (lineDone st l words f)
+unfolding lineDone
+line-sized st l words f h low = written-sized (lineAsked st l words f) (record { table = h .table; writers = h .writers }) 1 0 l low
+
+event-sized : (st : State) (k m : ℕ) → Sized st → eventKnown k m ≡ true → Sized (eventDone st k m)
+unfolding eventDone
+event-sized st k m h e =
+    let low : firstMeter k m < 64 = omega (arith, first-low k m e) in
+    let own : ownMeter k m < 64 = omega (arith, own-range k m e .1) in
+    let first : Sized (firstDone st k m) = line-sized (withOpen st 1) (firstMeter k m) (st .pending .line) (st .pending .frame) (open-sized st h) low in
+    committed-sized (linesDone st k m)
+    (row-keeps Sized (movesCredit k) (secondDone st k m) (firstDone st k m) (line-sized (firstDone st k m) (ownMeter k m) (st .pending .second) (st .pending .frame) first own) first) 1
+
+module _ (st : State) (h : Sized st) where
+  pub completed-sized : (op : Op) → refusal (opRows st op (st .pending .frame)) ≡ 0 → Sized (completed st op)
+  completed-sized Idle r = h
+  completed-sized (Write w p l o n) r = written-sized st h w p l (write-taken st w p l o n (st .pending .frame) r .args .line-low)
+  completed-sized (Commit w) r = committed-sized st h w
+  completed-sized (Event k m a) r = event-sized st k m h (event-taken st k m a (st .pending .frame) r .known)
   completed-sized (Consolidate p) r =
       record {
         table =
             record {
               sixteen = sixteen-replay (st .sizes) (st .head) 1 (freeingRecord st p) (st .table) (h .table .sixteen);
-              bitmap-low = replay-low (st .sizes) (st .head) 1 (freeingRecord st p) (st .table) (h .table .bitmap-low) (freeing-low p);
+              bitmap-low = replay-low (st .sizes) (st .head) 1 (freeingRecord st p) (st .table) (h .table .bitmap-low) (freeing-low st h p);
             };
         writers = h .writers;
       }

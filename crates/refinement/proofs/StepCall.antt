@@ -11,13 +11,14 @@ use Rattle.bounded.proofs.Rows.{none-apply}
 use Rattle.bounded.proofs.Tests.{caseOn, contradicts}
 use Rattle.state.specs.declared.State.{State}
 use Rattle.state.specs.declared.Op.{Op}
-use Rattle.state.specs.declared.Op.the-variants.{Idle, Write, Commit, Consolidate, Checkpoint}
+use Rattle.state.specs.declared.Op.the-variants.{Idle, Write, Commit, Consolidate, Checkpoint, Event}
 use Rattle.operations.specs.Operations.{needs}
 use Rattle.refinement.specs.Stores.{World, completed, stepped, steppedBy, left}
 use Rattle.refinement.proofs.Pending.{pends}
 use Rattle.refinement.specs.Calls.{stepRows, stepRow, stepOf, stepBytes, runOf, runBytes, worldOf}
 use Rattle.refinement.specs.Run.{step, run, exec}
 use Rattle.refinement.specs.Reference.{Reference, Task, Work, idle, under, writing, committing, nothing, withWork, continues, advances}
+use Rattle.refinement.proofs.EventRows.{done-sizes}
 use Rattle.refinement.proofs.Invariant.{Doing, Busy, Related}
 use Rattle.refinement.proofs.Sound.{Sound, answered-after, is-busy, busy-pending}
 use Rattle.refinement.proofs.StepCheckpoint.{step-checkpoint}
@@ -34,8 +35,9 @@ module _ (past : List ℕ) (st : State) (img : List ℕ) (b : Reference) (B : Bu
   step-of (Commit w) e = step-commit past st img b B w e
   step-of (Consolidate p) e = step-consolidate past st img b B p e
   step-of Checkpoint e = step-checkpoint past st img b B e
+  step-of (Event k m a) e = absurd (subst (Doing st img b) e (B .doing))
 
-  one-store : Related past (stepped (worldOf st img)) (advances 1 (b .work) b)
+  pub one-store : Related past (stepped (worldOf st img)) (advances 1 (b .work) b)
   one-store = step-of (st .pending .op) refl
 
 -- it keeps the sizes
@@ -45,15 +47,16 @@ completed-sizes st (Write w p l o n) = refl
 completed-sizes st (Commit w) = refl
 completed-sizes st (Consolidate p) = refl
 completed-sizes st Checkpoint = refl
+completed-sizes st (Event k m a) = done-sizes st k m
 
-stepped-sizes : (v : World) → stepped v .st .sizes ≡ v .st .sizes
+pub stepped-sizes : (v : World) → stepped v .st .sizes ≡ v .st .sizes
 unfolding stepped
 stepped-sizes v =
     let op : Op = v .st .pending .op in
     let m : ℕ = v .st .pending .made in
     caseOn (eqb (m + 1) (needs (v .st) op)) (λ t. rw t (completed-sizes (v .st) op)) (λ t. rw t)
 
-steppedBy-sizes : (n : ℕ) (v : World) → steppedBy n v .st .sizes ≡ v .st .sizes
+pub steppedBy-sizes : (n : ℕ) (v : World) → steppedBy n v .st .sizes ≡ v .st .sizes
 unfolding steppedBy upTo
 steppedBy-sizes zero v = refl
 steppedBy-sizes (suc n) v = stepped-sizes (steppedBy n v) ∙ steppedBy-sizes n v
@@ -66,12 +69,13 @@ doing-work st img b (Write w p l o n) d = (writing w p l o n (d .0), d .3)
 doing-work st img b (Commit w) d = (committing w, d)
 doing-work st img b (Consolidate p) d = (nothing, d)
 doing-work st img b Checkpoint d = (nothing, d)
+doing-work st img b (Event k m a) d = absurd d
 
 no-work : Work → Bool
 no-work idle = true
 no-work (under t k) = false
 
-idle-apart : (t : Task) (k : ℕ) (w : Work) → w ≡ under t k → w ≡ idle → ⊥
+pub idle-apart : (t : Task) (k : ℕ) (w : Work) → w ≡ under t k → w ≡ idle → ⊥
 unfolding no-work
 idle-apart t k w e i = contradicts (ap no-work i) (ap no-work e)
 
@@ -87,7 +91,7 @@ continues-on : (t : Task) (m : ℕ) (b : Reference) → 0 < m → continues t m 
 continues-on t zero b l = absurd (omega arith)
 continues-on t (suc m) b l = refl
 
-work-same : (b : Reference) (k : Work) → b .work ≡ k → withWork k b ≡ b
+pub work-same : (b : Reference) (k : Work) → b .work ≡ k → withWork k b ≡ b
 work-same b k e = λ i. record { pages = b .pages; writes = b .writes; work = sym e i }
 
 one-advance : (t : Task) (m : ℕ) (b : Reference) → 0 < m → advances 1 (under t m) (withWork (under t m) b) ≡ continues t (m - 1) b
@@ -95,21 +99,26 @@ one-advance t m b l =
     let e : m - min 1 m ≡ m - 1 = omega arith in
     ap (λ (k : ℕ). continues t k (withWork (under t m) b)) e ∙ continues-work t (m - 1) (under t m) b
 
-module _ (past : List ℕ) (b : Reference) (t : Task) (m : ℕ) (v : World) (some : 0 < m) (work : b .work ≡ under t m) (h : Related past v b) where
+-- what holds after one store of an operation that is under way holds after many
+module _ (R : World → Reference → Type 0) (one : (v : World) (b : Reference) (t : Task) (m : ℕ) → b .work ≡ under t m → R v b → R (stepped v) (advances 1 (b .work) b))
+    (b : Reference) (t : Task) (m : ℕ) (v : World) (some : 0 < m) (work : b .work ≡ under t m) (h : R v b) where
   -- after n of the m stores that are left
-  many : (n : ℕ) → n ≤ m → Related past (steppedBy n v) (continues t (m - n) b)
+  pub many : (n : ℕ) → n ≤ m → R (steppedBy n v) (continues t (m - n) b)
   unfolding steppedBy upTo
   many zero l =
       let e : m - 0 ≡ m = omega arith in
-      subst (Related past v) (sym (ap (λ (k : ℕ). continues t k b) e ∙ continues-on t m b some ∙ work-same b (under t m) work)) h
+      subst (R v) (sym (ap (λ (k : ℕ). continues t k b) e ∙ continues-on t m b some ∙ work-same b (under t m) work)) h
   many (suc n) l =
       let u : World = steppedBy n v in
       let left : 0 < m - n = omega arith in
       let e : m - n - 1 ≡ m - suc n = omega arith in
       let now : Reference = withWork (under t (m - n)) b in
-      let r : Related past u now = subst (Related past u) (continues-on t (m - n) b left) (many n (omega arith)) in
-      let B : Busy past (u .st) (u .image) now = ⊎-elim (λ q. absurd (idle-apart t (m - n) (now .work) refl (q .work))) (λ q. q) r in
-      subst (Related past (stepped u)) (one-advance t (m - n) b left ∙ ap (λ (k : ℕ). continues t k b) e) (one-store past (u .st) (u .image) now B)
+      let r : R u now = subst (R u) (continues-on t (m - n) b left) (many n (omega arith)) in
+      subst (R (stepped u)) (one-advance t (m - n) b left ∙ ap (λ (k : ℕ). continues t k b) e) (one u now t (m - n) refl r)
+
+-- an operation other than an event
+one-more : (past : List ℕ) (v : World) (b : Reference) (t : Task) (m : ℕ) → b .work ≡ under t m → Related past v b → Related past (stepped v) (advances 1 (b .work) b)
+one-more past v b t m work r = one-store past (v .st) (v .image) b (⊎-elim (λ q. absurd (idle-apart t m (b .work) work (q .work))) (λ q. q) r)
 
 -- ---- the calls
 
@@ -133,7 +142,7 @@ run-related {past = past} k v b B =
     let m : ℕ = left st in
     let work : b .work ≡ under t m = x .1 in
     let low = pends st (st .pending .op) (B .valid) refl (busy-pending st (v .image) b B) .made-low in
-    let r : Related past (steppedBy (min k m) v) (continues t (m - min k m) b) = many past b t m v (omega (arith, low)) work (inr B) (min k m) (omega arith) in
+    let r : Related past (steppedBy (min k m) v) (continues t (m - min k m) b) = many (Related past) (one-more past) b t m v (omega (arith, low)) work (inr B) (min k m) (omega arith) in
     subst (λ (w : Work). Related past (steppedBy (min k m) v) (advances k w b)) (sym work) r
 
 pub run-sound : {past : List ℕ} (k : ℕ) (v : World) (b : Reference) → Related past v b → Sound past (run k) v b

@@ -26,13 +26,14 @@ use Rattle.mount.proofs.Verdict.{Taken}
 use Rattle.mount.proofs.Dead.{Dead, dead-view, store-old}
 use Rattle.state.specs.declared.State.{State}
 use Rattle.state.specs.declared.Op.{Op}
-use Rattle.state.specs.declared.Op.the-variants.{Idle, Write, Commit, Consolidate, Checkpoint}
+use Rattle.state.specs.declared.Op.the-variants.{Idle, Write, Commit, Consolidate, Checkpoint, Event}
 use Rattle.operations.specs.Operations.{slotFor, needs, isIdle}
 use Rattle.refinement.specs.Frames.{otherFrame}
 use Rattle.refinement.specs.Write.{writeSlot}
 use Rattle.refinement.specs.Commit.{commitRecordOf, commitAtOf, commitValueOf}
 use Rattle.refinement.specs.Consolidate.{consolidateAt, consolidateValue, freeingRecord}
 use Rattle.refinement.specs.Checkpoint.{checkpointAtOf, checkpointValueOf}
+use Rattle.refinement.specs.Event.{eventAt, eventValue}
 use Rattle.refinement.specs.Stores.{World, stepped, withMade, completed, storeAt, storeValue, storeMade}
 use Rattle.refinement.proofs.Pending.{made-valid}
 pub use Rattle.refinement.proofs.Pending.{needs-made}
@@ -176,20 +177,22 @@ module _ (st : State) (img : List ℕ) (b : Reference) (Being : ℕ → ℕ → 
 
 module _ (st : State) (n : ℕ) where
   pub at-made : (op : Op) (j : ℕ) → storeAt (withMade st n) op j ≡ storeAt st op j
-  unfolding writeSlot commitAtOf consolidateAt checkpointAtOf
+  unfolding writeSlot commitAtOf consolidateAt checkpointAtOf eventAt
   at-made Idle j = refl
   at-made (Write w p l o k) j = refl
   at-made (Commit w) j = refl
   at-made (Consolidate p) j = refl
   at-made Checkpoint j = refl
+  at-made (Event k m a) j = refl
 
   pub value-made : (img : List ℕ) (op : Op) (j : ℕ) → storeValue (withMade st n) img op j ≡ storeValue st img op j
-  unfolding commitValueOf commitRecordOf consolidateValue freeingRecord checkpointValueOf
+  unfolding commitValueOf commitRecordOf consolidateValue freeingRecord checkpointValueOf eventValue
   value-made img Idle j = refl
   value-made img (Write w p l o k) j = refl
   value-made img (Commit w) j = refl
   value-made img (Consolidate p) j = refl
   value-made img Checkpoint j = refl
+  value-made img (Event k m a) j = refl
 
 -- ---- a step
 

@@ -13,13 +13,14 @@ use Rattle.bounded.proofs.Tests.{caseOn, contradicts}
 use Rattle.replay.proofs.Tables.{Sixteen}
 use Rattle.state.specs.declared.State.{State}
 use Rattle.state.specs.declared.Op.{Op}
-use Rattle.state.specs.declared.Op.the-variants.{Idle, Write, Commit, Consolidate, Checkpoint}
+use Rattle.state.specs.declared.Op.the-variants.{Idle, Write, Commit, Consolidate, Checkpoint, Event}
 use Rattle.operations.specs.Operations.{isIdle, needs}
 use Rattle.validity.specs.Validity.{stateOk}
 use Rattle.refinement.specs.Write.{writeSlot}
 use Rattle.refinement.specs.Commit.{commitRecordOf, commitAtOf, commitValueOf}
 use Rattle.refinement.specs.Consolidate.{freeingRecord, consolidateAt, consolidateValue}
 use Rattle.refinement.specs.Checkpoint.{checkpointAtOf, checkpointValueOf}
+use Rattle.refinement.specs.Event.{eventAt, eventValue, eventDone}
 use Rattle.refinement.specs.Stores.{World, completed, withMade, storeMade, storesMade, stateAfter, stepped, steppedBy, left}
 use Rattle.refinement.proofs.Pending.{pends, needs-made, made-valid}
 use Rattle.refinement.proofs.Sized.{Sized, completed-sized, made-sized}
@@ -77,12 +78,13 @@ run-kept (suc n) v l =
 
 -- what an operation makes of a state does not depend on the stores made
 pub completed-made : (st : State) (m : ℕ) (op : Op) → isIdle op ≡ false → completed (withMade st m) op ≡ completed st op
-unfolding writeSlot commitRecordOf freeingRecord
+unfolding writeSlot commitRecordOf freeingRecord eventDone
 completed-made st m Idle i = contradicts refl i
 completed-made st m (Write w p l o n) i = refl
 completed-made st m (Commit w) i = refl
 completed-made st m (Consolidate p) i = refl
 completed-made st m Checkpoint i = refl
+completed-made st m (Event k j a) i = refl
 
 -- all that are left
 pub run-all : (v : World) → isIdle (v .st .pending .op) ≡ false → 0 < left (v .st) → steppedBy (left (v .st)) v .st ≡ completed (v .st) (v .st .pending .op)
@@ -103,13 +105,14 @@ run-all v i l =
     ∙ completed-made st (m + n) op i
 
 -- nor do its stores
-store-of : (st : State) (m : ℕ) (img : List ℕ) (op : Op) (i : ℕ) → storeMade (withMade st m) img op i ≡ storeMade st img op i
-unfolding writeSlot commitAtOf commitValueOf commitRecordOf consolidateAt consolidateValue freeingRecord checkpointAtOf checkpointValueOf
+pub store-of : (st : State) (m : ℕ) (img : List ℕ) (op : Op) (i : ℕ) → storeMade (withMade st m) img op i ≡ storeMade st img op i
+unfolding writeSlot commitAtOf commitValueOf commitRecordOf consolidateAt consolidateValue freeingRecord checkpointAtOf checkpointValueOf eventAt eventValue
 store-of st m img Idle i = refl
 store-of st m img (Write w p l o n) i = refl
 store-of st m img (Commit w) i = refl
 store-of st m img (Consolidate p) i = refl
 store-of st m img Checkpoint i = refl
+store-of st m img (Event k j a) i = refl
 
 -- so that the image after a run is the one after that many stores
 pub run-image : (n : ℕ) (v : World) → n ≤ left (v .st) → steppedBy n v .image ≡ storesMade (v .st) n (v .image)
@@ -157,11 +160,11 @@ module _ (v : World) (e : stateOk (v .st) ≡ true) (i : isIdle (v .st .pending 
       let a : n ≡ left st → ⊥ = eqb-false n (left st) q in
       subst P (sym (run-kept n v (omega arith))) (mid (st .pending .made + n) (omega arith)))
 
-  pub run-valid : Sixteen (v .st .table) → length (v .st .writers .held) ≡ 64 → (n : ℕ) → n ≤ left (v .st) → stateOk (steppedBy n v .st) ≡ true
-  run-valid full lines =
+  pub run-valid : Sixteen (v .st .table) → length (v .st .writers .held) ≡ 64 → length (v .st .writers .opened) ≡ 4 → (n : ℕ) → n ≤ left (v .st) → stateOk (steppedBy n v .st) ≡ true
+  run-valid full lines four =
       let st = v .st in
       after-steps (λ (x : State). stateOk x ≡ true)
-      (completed-valid st (st .pending .op) e full lines (pends st (st .pending .op) e refl i .taken)) (λ m l. made-valid st m e i l)
+      (completed-valid st (st .pending .op) e full lines four (pends st (st .pending .op) e refl i .taken)) (λ m l. made-valid st m e i l)
 
   pub run-sized : Sized (v .st) → (n : ℕ) → n ≤ left (v .st) → Sized (steppedBy n v .st)
   run-sized h =
@@ -174,8 +177,8 @@ module _ (v : World) (e : stateOk (v .st) ≡ true) (i : isIdle (v .st .pending 
       let p = pends (v .st) (v .st .pending .op) e refl i in
       (run-step 0 v ∙ ap stepped (run-none v), omega arith)
 
-  pub step-valid : Sixteen (v .st .table) → length (v .st .writers .held) ≡ 64 → stateOk (stepped v .st) ≡ true
-  step-valid full lines = subst (λ (u : World). stateOk (u .st) ≡ true) (step-run .0) (run-valid full lines 1 (step-run .1))
+  pub step-valid : Sixteen (v .st .table) → length (v .st .writers .held) ≡ 64 → length (v .st .writers .opened) ≡ 4 → stateOk (stepped v .st) ≡ true
+  step-valid full lines four = subst (λ (u : World). stateOk (u .st) ≡ true) (step-run .0) (run-valid full lines four 1 (step-run .1))
 
   pub step-sized : Sized (v .st) → Sized (stepped v .st)
   step-sized h = subst (λ (u : World). Sized (u .st)) (step-run .0) (run-sized h 1 (step-run .1))

@@ -8,14 +8,14 @@ use Rattle.layout.specs.declared.Sizes.{Sizes}
 use Rattle.layout.specs.Layout.{imageLength}
 use Rattle.state.specs.declared.State.{State}
 use Rattle.state.specs.declared.Op.{Op}
-use Rattle.state.specs.declared.Op.the-variants.{Idle, Write, Commit, Consolidate, Checkpoint}
+use Rattle.state.specs.declared.Op.the-variants.{Idle, Write, Commit, Consolidate, Checkpoint, Event}
 use Rattle.operations.specs.Operations.{isIdle, needs}
 use Rattle.refinement.specs.Stores.{World, storeAt}
 use Rattle.refinement.proofs.InRange.{store-in-range}
 use Rattle.refinement.specs.Beside.{StoresInside, PastKept}
 use Rattle.refinement.specs.Reference.{Reference}
 use Rattle.refinement.proofs.Reached.{Reached, past-same, always}
-use Rattle.refinement.proofs.Sound.{related-valid, related-durable}
+use Rattle.refinement.proofs.Between.{between-valid, between-durable, between-held, between-opened}
 
 -- what needs a store is pending
 needing : (st : State) (op : Op) (i : ℕ) → i < needs st op → isIdle op ≡ false
@@ -25,13 +25,14 @@ needing st (Write w p m o n) i l = refl
 needing st (Commit w) i l = refl
 needing st (Consolidate p) i l = refl
 needing st Checkpoint i l = refl
+needing st (Event k m a) i l = refl
 
 inside : {past : List ℕ} (z : Sizes) (v : World) (b : Reference) → Reached z past v b → (i : ℕ) → i < needs (v .st) (v .st .pending .op)
     → 8 * storeAt (v .st) (v .st .pending .op) i + 8 ≤ imageLength z
 inside z v b h i l =
     let st = v .st in
     subst (λ (y : Sizes). 8 * storeAt st (st .pending .op) i + 8 ≤ imageLength y) (h .sizes)
-    (store-in-range st (related-valid st (v .image) b (h .related)) (related-durable st (v .image) b (h .related) .behind .sixteen) (needing st (st .pending .op) i l) i l)
+    (store-in-range st (between-valid v b (h .related)) (between-durable v b (h .related) .behind .sixteen) (between-held v b (h .related)) (between-opened v b (h .related)) (needing st (st .pending .op) i l) i l)
 
 pub stores-inside : StoresInside
 stores-inside = always _ (λ z buffer v b h. inside z v b h)

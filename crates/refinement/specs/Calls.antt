@@ -7,19 +7,22 @@ use lib.ListN.{length, set, replicate}
 use Rattle.bounded.specs.Rows.{Row, refusal}
 use Rattle.layout.specs.Layout.{imageLength}
 use Rattle.image.specs.Lines.{lineBytes, merged, lineWords}
-use Rattle.words.specs.Words.{over}
+use Rattle.words.specs.Words.{over, bytesOf, wordAt}
+use Rattle.meters.specs.Meters.{movesCredit, firstMeter, ownMeter, eventNeeds, rolled, firstNumber, amountBad}
 use Rattle.state.specs.declared.State.{State}
 use Rattle.state.specs.declared.Writers.{Writers}
 use Rattle.state.specs.declared.Op.{Op}
-use Rattle.state.specs.declared.Op.the-variants.{Idle, Write, Commit, Consolidate, Checkpoint}
+use Rattle.state.specs.declared.Op.the-variants.{Idle, Write, Commit, Consolidate, Checkpoint, Event}
 use Rattle.state.specs.Held.{isOpen}
-use Rattle.operations.specs.Operations.{isIdle, slotFor, frameBad, journalFull, writeRows, commitRows, consolidateRows, needs}
+use Rattle.operations.specs.Operations.{isIdle, slotFor, frameBad, journalFull, writeRows, commitRows, consolidateRows, needs, eventFirstRows}
 use Rattle.validity.specs.Validity.{stateOk}
+use Rattle.refinement.specs.Settled.{withLines}
 use Rattle.refinement.specs.Commit.{closedWriter}
 use Rattle.refinement.specs.Frames.{pageFrame, seenFrame}
 use Rattle.refinement.specs.Freeing.{freedSlot, freedPage}
 use Rattle.refinement.specs.Stores.{World, completed, stepped, steppedBy, left}
 use Rattle.refinement.specs.Outcome.{Outcome, answered}
+pub use Rattle.refinement.specs.Settled.{withWriters, withPending}
 
 -- 8: a state that breaks the rules; 4: a short buffer; 9, 10: an operation is pending, none is
 abbrev pub rowState : State → Row
@@ -42,11 +45,6 @@ quietRows st n = rowState st ∷ rowShort st n ∷ rowPending st ∷ []
 abbrev pub busyRows : State → ℕ → List Row
 busyRows st n = rowState st ∷ rowShort st n ∷ rowNotPending st ∷ []
 
--- the state with writers ws
-abbrev pub withWriters : State → Writers → State
-withWriters st ws =
-    record { sizes = st .sizes; head = st .head; tail = st .tail; next = st .next; table = st .table; writers = ws; pending = st .pending }
-
 -- ---- begin, abort
 
 abbrev pub beginRows : State → ℕ → List Row
@@ -63,10 +61,6 @@ unfoldable pub abortOf : State → ℕ → Outcome
 abortOf st w = answered (refusal (abortRows st w)) st 0 (withWriters st (closedWriter (st .sizes) (st .writers) w))
 
 -- ---- operations asked for: complete where no store is needed, else pending
-
-abbrev pub withPending : State → Op → List ℕ → ℕ → State
-withPending st op line frame =
-    record { sizes = st .sizes; head = st .head; tail = st .tail; next = st .next; table = st .table; writers = st .writers; pending = record { op = op; made = 0; line = line; frame = frame } }
 
 abbrev pub asked : ℕ → State → Op → List ℕ → ℕ → Outcome
 asked row st op line frame =
@@ -110,6 +104,35 @@ checkpointCallRows st img = rowState st ∷ rowShort st (length img) ∷ rowPend
 
 unfoldable pub checkpointOf : State → List ℕ → Outcome
 checkpointOf st img = asked (refusal (checkpointCallRows st img)) st Checkpoint (replicate 8 0) 0
+
+-- ---- events (document 02, L2)
+
+-- the stored number of meter m as writer 1, who is closed, reads it; and its finished line, with number v
+abbrev pub meterIn : State → List ℕ → ℕ → ℕ
+meterIn st img m = wordAt (lineBytes img (st .sizes) (seenFrame st 1 0 m (pageFrame st img 0)) m) 0
+
+abbrev pub meterLine : State → List ℕ → ℕ → ℕ → List ℕ
+meterLine st img m v = finishedLine st img 1 0 m 0 8 (bytesOf 8 v)
+
+-- the two finished lines of an event: credit's first; a count has one
+abbrev pub eventLine : State → List ℕ → ℕ → ℕ → ℕ → List ℕ
+eventLine st img k m a = meterLine st img (firstMeter k m) (firstNumber k m (meterIn st img (firstMeter k m)) a)
+
+abbrev pub eventSecond : State → List ℕ → ℕ → ℕ → ℕ → List ℕ
+eventSecond st img k m a =
+    cond (movesCredit k) (meterLine st img (ownMeter k m) (rolled (ownMeter k m) (meterIn st img (ownMeter k m)) a)) (replicate 8 0)
+
+-- 20, 12, 14, 15, 16, then 21, then 19
+abbrev pub eventCallRows : State → List ℕ → ℕ → ℕ → ℕ → List Row
+eventCallRows st img k m a =
+    rowState st ∷ rowShort st (length img) ∷ rowPending st
+    ∷ (eventFirstRows st k m (pageFrame st img 0) ++ ((amountBad k m (meterIn st img (firstMeter k m)) a, 21) ∷ (journalFull st 1, 19) ∷ []))
+
+-- an event needs stores always
+unfoldable pub eventOf : State → List ℕ → ℕ → ℕ → ℕ → Outcome
+eventOf st img k m a =
+    answered (refusal (eventCallRows st img k m a)) st (eventNeeds k)
+    (withLines st (Event k m a) (eventLine st img k m a) (eventSecond st img k m a) (pageFrame st img 0))
 
 -- ---- read: the number, and the target after it
 

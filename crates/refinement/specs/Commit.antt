@@ -18,6 +18,7 @@ use Rattle.masks.specs.Lines.{exclusiveOr}
 use Rattle.state.specs.declared.State.{State}
 use Rattle.state.specs.declared.Writers.{Writers}
 use Rattle.state.specs.Held.{heldAt, heldSlots}
+use Rattle.refinement.specs.Settled.{settled}
 
 abbrev pub commitSlots : State → ℕ → List ℕ
 commitSlots st w = heldSlots (st .sizes) (st .writers .held) w
@@ -73,3 +74,7 @@ commitHead st w = position (st .sizes) (st .head) (length (commitSlots st w))
 -- a writer closed, its held lines emptied
 unfoldable pub closedWriter : Sizes → Writers → ℕ → Writers
 closedWriter z ws w = record { opened = set (ws .opened) w false; held = upTo (z .slots) (λ s h. set h (16 * w + s) 0) (ws .held) }
+
+-- the state when its last store is made
+abbrev pub commitDone : State → ℕ → State
+commitDone st w = settled st (commitHead st w) (st .tail) (st .next) (commitTable st w) (closedWriter (st .sizes) (st .writers) w)

@@ -4,6 +4,7 @@ pub mod Write
 pub mod Commit
 pub mod Consolidate
 pub mod Checkpoint
+pub mod Event
 pub mod Stores
 pub mod Outcome
 pub mod Freeing
@@ -16,3 +17,4 @@ pub mod Statement
 pub mod Beside
 pub mod Demand
 pub mod Freed
+pub mod Totals

@@ -7,7 +7,9 @@ use mathlib.Core.List.{List}
 use lib.Dec.{ltb, leb, eqb}
 use lib.ListN.{getD}
 use Rattle.bounded.specs.Tab.{tab}
-use Rattle.refinement.specs.Run.{Call, mount, checkpoint, free, step, begin, abort, commit, consolidate, run, write, read, recall}
+use Rattle.refinement.specs.Run.{Call, mount, checkpoint, free, step, begin, abort, commit, consolidate, run, write, read, recall, event}
+use Rattle.words.specs.Words.{bytesOf, wordAt}
+use Rattle.meters.specs.Meters.{movesCredit, firstMeter, ownMeter, rolled, firstNumber}
 
 -- a byte of a set of unfinished writes, if there is one
 pub data Cell : Type 0 where
@@ -23,6 +25,8 @@ pub data Task : Type 0 where
   -- writer, page, line, offset, length, data
   writing : ℕ → ℕ → ℕ → ℕ → ℕ → List ℕ → Task
   committing : ℕ → Task
+  -- an event: kind, meter, amount
+  moving : ℕ → ℕ → ℕ → Task
   nothing : Task
 
 pub data Work : Type 0 where
@@ -39,6 +43,13 @@ pub record Reference : Type 0 where
 -- pages at first zero, no unfinished writes
 abbrev pub blank : Reference
 blank = record { pages = λ p l i. 0; writes = λ w p l i. none; work = idle }
+
+-- the 64 bytes of a line as a writer reads it, and as a recall shows it
+abbrev pub readLine : Reference → ℕ → ℕ → ℕ → List ℕ
+readLine b w p l = tab 64 (λ i. laidOver (b .writes w p l i) (b .pages p l i))
+
+abbrev pub recallLine : Reference → ℕ → ℕ → List ℕ
+recallLine b p l = tab 64 (b .pages p l)
 
 abbrev pub withWork : Work → Reference → Reference
 withWork k b = record { pages = b .pages; writes = b .writes; work = k }
@@ -62,9 +73,27 @@ written w p l o n bytes b =
 abbrev pub laid : ℕ → Reference → Reference
 laid w b = record { pages = λ p l i. laidOver (b .writes w p l i) (b .pages p l i); writes = b .writes; work = b .work }
 
+-- the number of meter m: the first 8 bytes of line m of page 0
+abbrev pub meterOn : Reference → ℕ → ℕ
+meterOn b m = wordAt (recallLine b 0 m) 0
+
+-- the pages with number v there
+abbrev pub withMeter : ℕ → ℕ → Reference → Reference
+withMeter m v b =
+    record { pages = λ p l i. cond (eqb p 0 && eqb l m && ltb i 8) (getD (bytesOf 8 v) i 0) (b .pages p l i); writes = b .writes; work = b .work }
+
+-- an event moves its meters on the pages
+abbrev pub firstMoved : ℕ → ℕ → ℕ → Reference → Reference
+firstMoved k m a b = withMeter (firstMeter k m) (firstNumber k m (meterOn b (firstMeter k m)) a) b
+
+abbrev pub moved : ℕ → ℕ → ℕ → Reference → Reference
+moved k m a b =
+    cond (movesCredit k) (withMeter (ownMeter k m) (rolled (ownMeter k m) (meterOn b (ownMeter k m)) a) (firstMoved k m a b)) (firstMoved k m a b)
+
 abbrev pub does : Task → Reference → Reference
 does (writing w p l o n bytes) b = written w p l o n bytes b
 does (committing w) b = emptied w (laid w b)
+does (moving k m a) b = moved k m a b
 does nothing b = b
 
 -- an operation that needs no stores is completed when taken
@@ -95,15 +124,9 @@ taken (run k) n b = advances k (b .work) b
 taken (write w p l o m bytes) n b = starts (writing w p l o m bytes) n b
 taken (read w p l target) n b = b
 taken (recall p l target) n b = b
+taken (event k m a) n b = starts (moving k m a) n b
 
 -- a refused call changes nothing
 abbrev pub turn : Call → ℕ → ℕ → Reference → Reference
 turn c zero n b = taken c n b
 turn c (suc k) n b = b
-
--- the 64 bytes of a line as a writer reads it, and as a recall shows it
-abbrev pub readLine : Reference → ℕ → ℕ → ℕ → List ℕ
-readLine b w p l = tab 64 (λ i. laidOver (b .writes w p l i) (b .pages p l i))
-
-abbrev pub recallLine : Reference → ℕ → ℕ → List ℕ
-recallLine b p l = tab 64 (b .pages p l)

@@ -1,17 +1,38 @@
 -- A state in which no operation is pending, as each operation leaves it.
 use Prim.Native.Nat.{ℕ}
-use lib.ListN.{replicate}
+use mathlib.Core.Bool.{true}
+use mathlib.Core.List.{List}
+use lib.ListN.{set, replicate}
 use Rattle.replay.specs.declared.Table.{Table}
 use Rattle.state.specs.declared.State.{State}
 use Rattle.state.specs.declared.Writers.{Writers}
 use Rattle.state.specs.declared.Pending.{Pending}
+use Rattle.state.specs.declared.Op.{Op}
 use Rattle.state.specs.declared.Op.the-variants.{Idle}
 
 -- no operation pending
 abbrev pub noPending : Pending
-noPending = record { op = Idle; made = 0; line = replicate 8 0; frame = 0 }
+noPending = record { op = Idle; made = 0; line = replicate 8 0; second = replicate 8 0; frame = 0 }
 
 -- the state with other head, tail, next slot, slots and writers, and no operation pending
 abbrev pub settled : State → ℕ → ℕ → ℕ → Table → Writers → State
 settled st head tail next t ws =
     record { sizes = st .sizes; head = head; tail = tail; next = next; table = t; writers = ws; pending = noPending }
+
+-- the state with writers ws
+abbrev pub withWriters : State → Writers → State
+withWriters st ws =
+    record { sizes = st .sizes; head = st .head; tail = st .tail; next = st .next; table = st .table; writers = ws; pending = st .pending }
+
+-- the state with writer w open and no operation pending
+abbrev pub withOpen : State → ℕ → State
+withOpen st w =
+    settled st (st .head) (st .tail) (st .next) (st .table) (record { opened = set (st .writers .opened) w true; held = st .writers .held })
+
+-- the state with an operation pending, none of its stores made; with two finished lines, and with one
+abbrev pub withLines : State → Op → List ℕ → List ℕ → ℕ → State
+withLines st op line second frame =
+    record { sizes = st .sizes; head = st .head; tail = st .tail; next = st .next; table = st .table; writers = st .writers; pending = record { op = op; made = 0; line = line; second = second; frame = frame } }
+
+abbrev pub withPending : State → Op → List ℕ → ℕ → State
+withPending st op line frame = withLines st op line (replicate 8 0) frame

@@ -10,7 +10,7 @@ use Rattle.layout.specs.declared.Sizes.{Sizes}
 use Rattle.layout.specs.Layout.{sizesOk, imageLength}
 use Rattle.words.specs.Words.{Bytes, over}
 use Rattle.refinement.specs.Stores.{World}
-use Rattle.refinement.specs.Run.{Call, Result, mount, checkpoint, free, step, begin, abort, commit, consolidate, run, write, read, recall, exec, formattedWorld}
+use Rattle.refinement.specs.Run.{Call, Result, mount, checkpoint, free, step, begin, abort, commit, consolidate, run, write, read, recall, exec, formattedWorld, event}
 use Rattle.refinement.specs.Reference.{Reference, blank, turn, readLine, recallLine}
 
 -- what one call must answer, b being the reference machine before it:
@@ -31,6 +31,7 @@ Right (commit w) d b = Unit
 Right (consolidate p) d b = Unit
 Right (run k) d b = Unit
 Right (write w p l o n bytes) d b = Unit
+Right (event k m a) d b = Unit
 
 -- the data of a write are bytes, as those of a lent buffer are
 abbrev pub Lent : Call → Type 0
@@ -46,6 +47,7 @@ Lent (consolidate p) = Unit
 Lent (run k) = Unit
 Lent (read w p l target) = Unit
 Lent (recall p l target) = Unit
+Lent (event k m a) = Unit
 
 -- in every call of a list
 abbrev pub AllLent : List Call → Type 0

@@ -8,13 +8,14 @@ use Rattle.words.specs.Words.{store}
 use Rattle.journal.specs.Records.{position}
 use Rattle.state.specs.declared.State.{State}
 use Rattle.state.specs.declared.Op.{Op}
-use Rattle.state.specs.declared.Op.the-variants.{Idle, Write, Commit, Consolidate, Checkpoint}
+use Rattle.state.specs.declared.Op.the-variants.{Idle, Write, Commit, Consolidate, Checkpoint, Event}
 use Rattle.operations.specs.Operations.{needs}
 use Rattle.refinement.specs.Settled.{settled}
-use Rattle.refinement.specs.Write.{writeAt, writeValue, writeTable, writeNext, writeWriters}
-use Rattle.refinement.specs.Commit.{commitAt, commitValue, commitHead, commitTable, closedWriter}
+use Rattle.refinement.specs.Write.{writeAt, writeValue, writeDone}
+use Rattle.refinement.specs.Commit.{commitAt, commitValue, commitDone}
 use Rattle.refinement.specs.Consolidate.{consolidateAt, consolidateValue, consolidateTable}
 use Rattle.refinement.specs.Checkpoint.{checkpointAt, checkpointValue, withoutLasts}
+use Rattle.refinement.specs.Event.{eventAt, eventValue, eventDone}
 
 -- the word that store i goes to, and its value
 abbrev pub storeAt : State → Op → ℕ → ℕ
@@ -23,6 +24,7 @@ storeAt st (Write w p l o n) i = writeAt st p l i
 storeAt st (Commit w) i = commitAt st w i
 storeAt st (Consolidate p) i = consolidateAt st p i
 storeAt st Checkpoint i = checkpointAt st i
+storeAt st (Event k m a) i = eventAt st k m i
 
 abbrev pub storeValue : State → List ℕ → Op → ℕ → ℕ
 storeValue st img Idle i = 0
@@ -30,6 +32,7 @@ storeValue st img (Write w p l o n) i = writeValue st i
 storeValue st img (Commit w) i = commitValue st w i
 storeValue st img (Consolidate p) i = consolidateValue st img p i
 storeValue st img Checkpoint i = checkpointValue st img i
+storeValue st img (Event k m a) i = eventValue st k m i
 
 -- the image after store i
 abbrev pub storeMade : State → List ℕ → Op → ℕ → List ℕ
@@ -42,15 +45,16 @@ storesMade st n img = upTo n (λ i m. storeMade st m (st .pending .op) (st .pend
 -- the state when an operation is complete
 abbrev pub completed : State → Op → State
 completed st Idle = st
-completed st (Write w p l o n) = settled st (st .head) (st .tail) (writeNext st p) (writeTable st p) (writeWriters st w p l)
-completed st (Commit w) = settled st (commitHead st w) (st .tail) (st .next) (commitTable st w) (closedWriter (st .sizes) (st .writers) w)
+completed st (Write w p l o n) = writeDone st w p l
+completed st (Commit w) = commitDone st w
 completed st (Consolidate p) = settled st (position (st .sizes) (st .head) 1) (st .tail) (st .next) (consolidateTable st p) (st .writers)
 completed st Checkpoint = settled st (st .head) (st .head) (st .next) (withoutLasts (st .sizes) (st .table)) (st .writers)
+completed st (Event k m a) = eventDone st k m
 
 -- the state with m stores made
 abbrev pub withMade : State → ℕ → State
 withMade st m =
-    record { sizes = st .sizes; head = st .head; tail = st .tail; next = st .next; table = st .table; writers = st .writers; pending = record { op = st .pending .op; made = m; line = st .pending .line; frame = st .pending .frame } }
+    record { sizes = st .sizes; head = st .head; tail = st .tail; next = st .next; table = st .table; writers = st .writers; pending = record { op = st .pending .op; made = m; line = st .pending .line; second = st .pending .second; frame = st .pending .frame } }
 
 -- the state after the next n stores of the pending operation: with the last of them it is complete
 abbrev pub stateAfter : State → ℕ → State

@@ -17,6 +17,7 @@ use Rattle.state.specs.Slots.{roundSlot, freeAfter}
 use Rattle.state.specs.Held.{heldAt}
 use Rattle.operations.specs.Operations.{slotFor, slotted}
 use Rattle.refinement.specs.Frames.{otherFrame}
+use Rattle.refinement.specs.Settled.{settled}
 
 -- the page's slot: its own, or the first free one, going round from the next slot to try
 unfoldable pub writeSlot : State → ℕ → ℕ
@@ -56,3 +57,7 @@ withHeld ws w s l = record { opened = ws .opened; held = set (ws .held) (16 * w 
 
 abbrev pub writeWriters : State → ℕ → ℕ → ℕ → Writers
 writeWriters st w p l = withHeld (st .writers) w (writeSlot st p) l
+
+-- the state when its last store is made
+abbrev pub writeDone : State → ℕ → ℕ → ℕ → State
+writeDone st w p l = settled st (st .head) (st .tail) (writeNext st p) (writeTable st p) (writeWriters st w p l)

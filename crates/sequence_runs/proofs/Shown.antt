@@ -19,10 +19,10 @@ use Rattle.refinement.specs.Run.{Call, checkpoint, recall, exec, after}
 use Rattle.refinement.specs.Reference.{Reference, blank, recallLine}
 use Rattle.refinement.specs.Recall.{recallRow}
 use Rattle.refinement.specs.Statement.{Lent, AllLent}
+use Rattle.refinement.proofs.Between.{between-valid, between-durable}
 use Rattle.refinement.proofs.CallSound.{call-sound}
 use Rattle.refinement.proofs.Reached.{Reached, reached, reached-first}
 use Rattle.refinement.proofs.RecallCall.{row-is}
-use Rattle.refinement.proofs.Sound.{related-valid, related-durable}
 use Rattle.sequence_runs.specs.Calls.{twelve, callOf}
 use Rattle.sequence_runs.specs.Runs.{small, freshWorld, Ran, start, oneMore, ran, firstByte}
 use Rattle.sequence_runs.specs.Shown.{made, fed, BytesShown}
@@ -73,15 +73,15 @@ fresh-reached = reached-first small refl (replicate 8320 0) (zeros 8320) (fits 8
 module _ {past : List ℕ} (v : World) (b : Reference) (h : Reached small past v b) (l : ℕ) (low : l < 64) where
   sizes : sizesFrom (word (v .image)) ≡ small
   sizes =
-      let D = related-durable (v .st) (v .image) b (h .related) in
+      let D = between-durable v b (h .related) in
       ap (λ (w : View). w .sizes) (D .shows) ∙ D .sizes-same ∙ h .sizes
 
   taken : recallRow (v .image) 0 l (replicate 64 0) ≡ 0
   taken =
-      let D = related-durable (v .st) (v .image) b (h .related) in
+      let D = between-durable v b (h .related) in
       let one : sizesFrom (word (v .image)) .pages ≡ 1 = ap (λ (z : Sizes). z .pages) sizes in
       let t : ltb 63 l ≡ false = le-ltb 63 l (omega arith) in
-      row-is (v .st) (v .image) b (related-valid (v .st) (v .image) b (h .related)) D 0 l (replicate 64 0) ∙ rw (one, t)
+      row-is (v .st) (v .image) b (between-valid v b (h .related)) D 0 l (replicate 64 0) ∙ rw (one, t)
 
   shown : firstByte v l ≡ b .pages 0 l 0
   unfolding firstByte exec

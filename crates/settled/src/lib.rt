@@ -14,6 +14,7 @@ pub fn no_pending() -> Pending
         op: Op::Idle,
         made: 0,
         line: [0; 8],
+        second: [0; 8],
         frame: 0,
     }
 }

@@ -22,6 +22,11 @@ pub enum Op {
         page: usize,
     },
     Checkpoint,
+    Event {
+        kind: usize,
+        meter: usize,
+        amount: u64,
+    },
 }
 
 // Four writers: open or not, and the lines that each holds of each slot, at 16 × writer + slot.
@@ -31,11 +36,12 @@ pub struct Writers {
 }
 
 // The pending operation, how many of its stores are made, and for a write the finished line's words and the page's
-// frame.
+// frame. An event has the same of page 0, and the second line's words where it has two.
 pub struct Pending {
     pub op: Op,
     pub made: usize,
     pub line: [u64; 8],
+    pub second: [u64; 8],
     pub frame: usize,
 }
 

@@ -1,8 +1,8 @@
 // The pending operation taken further: its next stores, and what they leave where they are the last.
 ghost use mathlib.Core.Path.{_≡_};
 ghost use Prim.Native.Nat.{_≤_};
-ghost use lib.ListN.{length};
 ghost use Rattle.state.specs.Parts.{stateOf};
+ghost use Rattle.event_stores.specs.Taken.{Lengths};
 ghost use Rattle.refinement.specs.Outcome.{answered};
 ghost use Rattle.refinement.specs.Calls.{runOf, runBytes};
 use layout::Sizes;
@@ -34,8 +34,8 @@ pub fn go_on(
     pending: Pending,
     k: usize,
 ) -> Gone
-    requires { ⌜ length (now last) ≡ 16 ⌝ }
-    ensures row { λ r. ⌜ r .made .row ≤ 19 ⌝ }
+    requires { ⌜ Lengths (now page) (now original) (now spare) (now bitmap) (now last) (now opened) (now held) ⌝ }
+    ensures row { λ r. ⌜ r .made .row ≤ 22 ⌝ }
     ensures outcome { λ r. ⌜ answered (r .made .row) (stateOf z (r .to .head) (r .to .tail) (r .to .next) (now (page .exit)) (now (original .exit)) (now (spare .exit)) (now (bitmap .exit)) (now (last .exit)) (now (opened .exit)) (now (held .exit)) (r .pending)) (r .made .stores) (stateOf z (r .to .head) (r .to .tail) (r .to .next) (now (page .exit)) (now (original .exit)) (now (spare .exit)) (now (bitmap .exit)) (now (last .exit)) (now (opened .exit)) (now (held .exit)) (r .pending)) ≡ runOf (stateOf z head tail next (now (page .entry)) (now (original .entry)) (now (spare .entry)) (now (bitmap .entry)) (now (last .entry)) (now (opened .entry)) (now (held .entry)) pending) (now (image .entry)) k ⌝ }
     ensures bytes { λ _. ⌜ now (image .exit) ≡ runBytes (stateOf z head tail next (now (page .entry)) (now (original .entry)) (now (spare .entry)) (now (bitmap .entry)) (now (last .entry)) (now (opened .entry)) (now (held .entry)) pending) (now (image .entry)) k ⌝ }
 {

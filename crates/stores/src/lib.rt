@@ -86,5 +86,32 @@ pub fn complete(
                 next,
             }
         }
+        Op::Event {
+            kind,
+            meter,
+            amount: _,
+        } => {
+            let moved = event_stores::complete_event(
+                z,
+                head,
+                tail,
+                next,
+                page,
+                original,
+                spare,
+                bitmap,
+                last,
+                opened,
+                held,
+                pending,
+                kind,
+                meter,
+            );
+            Places {
+                head: moved.head,
+                tail,
+                next: moved.next,
+            }
+        }
     }
 }

@@ -9,6 +9,7 @@ ghost use Rattle.operations.specs.Operations.{isIdle};
 ghost use Rattle.validity.specs.Validity.{stateOk};
 ghost use Rattle.refinement.specs.Stores.{storesMade, left};
 ghost use Rattle.refinement.specs.Calls.{runBytes};
+ghost use Rattle.event_stores.specs.Taken.{Lengths};
 ghost use Rattle.stores.specs.Made.{madeOf};
 use layout::Sizes;
 use state::Op;
@@ -31,7 +32,7 @@ pub fn make_stores<'a>(
     pending: Pending,
     n: usize,
 )
-    requires { ⌜ (stateOk (stateOf z head tail next (now page) (now original) (now spare) (now bitmap) (now last) (now opened) (now held) pending) ≡ true) × (isIdle (pending .op) ≡ false) × (n ≤ left (stateOf z head tail next (now page) (now original) (now spare) (now bitmap) (now last) (now opened) (now held) pending)) × (imageLength z ≤ length (now image)) × (length (now last) ≡ 16) ⌝ }
+    requires { ⌜ (stateOk (stateOf z head tail next (now page) (now original) (now spare) (now bitmap) (now last) (now opened) (now held) pending) ≡ true) × (isIdle (pending .op) ≡ false) × (n ≤ left (stateOf z head tail next (now page) (now original) (now spare) (now bitmap) (now last) (now opened) (now held) pending)) × (imageLength z ≤ length (now image)) × Lengths (now page) (now original) (now spare) (now bitmap) (now last) (now opened) (now held) ⌝ }
     ensures { λ _. ⌜ now (image .exit) ≡ storesMade (stateOf z head tail next (now (page .entry)) (now (original .entry)) (now (spare .entry)) (now (bitmap .entry)) (now (last .entry)) (now (opened .entry)) (now (held .entry)) pending) n (now (image .entry)) ⌝ }
 {
     let op = pending.op;
@@ -84,6 +85,28 @@ pub fn make_stores<'a>(
             n,
         ),
         Op::Checkpoint => checkpoints::make_checkpoint_stores(image, z, head, last, made, n),
+        Op::Event {
+            kind,
+            meter,
+            amount: _,
+        } => event_stores::make_event_stores(
+            image,
+            z,
+            head,
+            tail,
+            next,
+            page,
+            original,
+            spare,
+            bitmap,
+            last,
+            opened,
+            held,
+            pending,
+            kind,
+            meter,
+            n,
+        ),
     }
 }
 
@@ -112,7 +135,7 @@ pub fn make_left<'a>(
     pending: Pending,
     k: usize,
 ) -> Made
-    requires { ⌜ length (now last) ≡ 16 ⌝ }
+    requires { ⌜ Lengths (now page) (now original) (now spare) (now bitmap) (now last) (now opened) (now held) ⌝ }
     ensures made { λ r. ⌜ r ≡ madeOf (stateOf z head tail next (now (page .entry)) (now (original .entry)) (now (spare .entry)) (now (bitmap .entry)) (now (last .entry)) (now (opened .entry)) (now (held .entry)) pending) (length (now (image .entry))) k ⌝ }
     ensures bytes { λ _. ⌜ now (image .exit) ≡ runBytes (stateOf z head tail next (now (page .entry)) (now (original .entry)) (now (spare .entry)) (now (bitmap .entry)) (now (last .entry)) (now (opened .entry)) (now (held .entry)) pending) (now (image .entry)) k ⌝ }
 {

@@ -53,7 +53,7 @@ pub fn write(
         offset,
         length,
     };
-    let pending = asking::pending_from(op, words, found.frame);
+    let pending = asking::pending_from(op, words, [0; 8], found.frame);
     next.pending = pending;
     answers::taken(8, next)
 }

@@ -62,7 +62,7 @@ pub fn write(
         offset,
         length,
     };
-    let pending = asking::pending_from(op, words, found.frame);
+    let pending = asking::pending_from(op, words, [0; 8], found.frame);
     let to = in_place::make_all(
         image,
         z,

@@ -2,7 +2,7 @@ use borrow.Author.Tests.{ne-eqb}
 use Rattle.answers.proofs.answer_of.Statement.{statement}
 use Rattle.answers.proofs.answer_of.Tie as tie
 
--- each arm has its own number, and the last one 19
+-- each arm has its own number, and the last one 22
 
 returns : tie.Need-returns
 returns c = rw (c .match .keys1)
@@ -65,7 +65,13 @@ returns-20 : tie.Need-returns-20
 returns-20 c = rw (c .match .keys20)
 
 returns-21 : tie.Need-returns-21
-returns-21 c = let r = c .match .rest in rw (ne-eqb _ 0 (r .0 .0 .0 .0 .0 .0 .0 .0 .0 .0 .0 .0 .0 .0 .0 .0 .0 .0 .0 .1), ne-eqb _ 1 (r .0 .0 .0 .0 .0 .0 .0 .0 .0 .0 .0 .0 .0 .0 .0 .0 .0 .0 .1), ne-eqb _ 2 (r .0 .0 .0 .0 .0 .0 .0 .0 .0 .0 .0 .0 .0 .0 .0 .0 .0 .1), ne-eqb _ 3 (r .0 .0 .0 .0 .0 .0 .0 .0 .0 .0 .0 .0 .0 .0 .0 .0 .1), ne-eqb _ 4 (r .0 .0 .0 .0 .0 .0 .0 .0 .0 .0 .0 .0 .0 .0 .0 .1), ne-eqb _ 5 (r .0 .0 .0 .0 .0 .0 .0 .0 .0 .0 .0 .0 .0 .0 .1), ne-eqb _ 6 (r .0 .0 .0 .0 .0 .0 .0 .0 .0 .0 .0 .0 .0 .1), ne-eqb _ 7 (r .0 .0 .0 .0 .0 .0 .0 .0 .0 .0 .0 .0 .1), ne-eqb _ 8 (r .0 .0 .0 .0 .0 .0 .0 .0 .0 .0 .0 .1), ne-eqb _ 9 (r .0 .0 .0 .0 .0 .0 .0 .0 .0 .0 .1), ne-eqb _ 10 (r .0 .0 .0 .0 .0 .0 .0 .0 .0 .1), ne-eqb _ 11 (r .0 .0 .0 .0 .0 .0 .0 .0 .1), ne-eqb _ 12 (r .0 .0 .0 .0 .0 .0 .0 .1), ne-eqb _ 13 (r .0 .0 .0 .0 .0 .0 .1), ne-eqb _ 14 (r .0 .0 .0 .0 .0 .1), ne-eqb _ 15 (r .0 .0 .0 .0 .1), ne-eqb _ 16 (r .0 .0 .0 .1), ne-eqb _ 17 (r .0 .0 .1), ne-eqb _ 18 (r .0 .1), ne-eqb _ 22 (r .1))
+returns-21 c = rw (c .match .keys21)
+
+returns-22 : tie.Need-returns-22
+returns-22 c = rw (c .match .keys22)
+
+returns-23 : tie.Need-returns-23
+returns-23 c = let r = c .match .rest in rw (ne-eqb _ 0 (r .0 .0 .0 .0 .0 .0 .0 .0 .0 .0 .0 .0 .0 .0 .0 .0 .0 .0 .0 .0 .0 .1), ne-eqb _ 1 (r .0 .0 .0 .0 .0 .0 .0 .0 .0 .0 .0 .0 .0 .0 .0 .0 .0 .0 .0 .0 .1), ne-eqb _ 2 (r .0 .0 .0 .0 .0 .0 .0 .0 .0 .0 .0 .0 .0 .0 .0 .0 .0 .0 .0 .1), ne-eqb _ 3 (r .0 .0 .0 .0 .0 .0 .0 .0 .0 .0 .0 .0 .0 .0 .0 .0 .0 .0 .1), ne-eqb _ 4 (r .0 .0 .0 .0 .0 .0 .0 .0 .0 .0 .0 .0 .0 .0 .0 .0 .0 .1), ne-eqb _ 5 (r .0 .0 .0 .0 .0 .0 .0 .0 .0 .0 .0 .0 .0 .0 .0 .0 .1), ne-eqb _ 6 (r .0 .0 .0 .0 .0 .0 .0 .0 .0 .0 .0 .0 .0 .0 .0 .1), ne-eqb _ 7 (r .0 .0 .0 .0 .0 .0 .0 .0 .0 .0 .0 .0 .0 .0 .1), ne-eqb _ 8 (r .0 .0 .0 .0 .0 .0 .0 .0 .0 .0 .0 .0 .0 .1), ne-eqb _ 9 (r .0 .0 .0 .0 .0 .0 .0 .0 .0 .0 .0 .0 .1), ne-eqb _ 10 (r .0 .0 .0 .0 .0 .0 .0 .0 .0 .0 .0 .1), ne-eqb _ 11 (r .0 .0 .0 .0 .0 .0 .0 .0 .0 .0 .1), ne-eqb _ 12 (r .0 .0 .0 .0 .0 .0 .0 .0 .0 .1), ne-eqb _ 13 (r .0 .0 .0 .0 .0 .0 .0 .0 .1), ne-eqb _ 14 (r .0 .0 .0 .0 .0 .0 .0 .1), ne-eqb _ 15 (r .0 .0 .0 .0 .0 .0 .1), ne-eqb _ 16 (r .0 .0 .0 .0 .0 .1), ne-eqb _ 17 (r .0 .0 .0 .0 .1), ne-eqb _ 18 (r .0 .0 .0 .1), ne-eqb _ 19 (r .0 .0 .1), ne-eqb _ 20 (r .0 .1), ne-eqb _ 21 (r .1))
 
 pub answer-of-spec : {M : Type 1} → statement M
 answer-of-spec =
@@ -91,4 +97,6 @@ answer-of-spec =
     returns-18
     returns-19
     returns-20
-    returns-21)
+    returns-21
+    returns-22
+    returns-23)

@@ -3,7 +3,7 @@ use Rattle.bounded.proofs.Tests.{contradicts}
 use Rattle.operations.specs.Operations.{isIdle}
 use Rattle.operations.proofs.Taken.{commit-taken}
 use Rattle.refinement.specs.Stores.{completed}
-use Rattle.asking.proofs.Taking.{empty-commit, empty-checkpoint, write-needs, consolidate-needs}
+use Rattle.asking.proofs.Taking.{empty-commit, empty-checkpoint, write-needs, consolidate-needs, event-needs}
 use borrow.Author.Needs.{needs}
 use Rattle.asking.proofs.completed_at_once.Statement.{statement}
 use Rattle.asking.proofs.completed_at_once.Tie as tie
@@ -36,6 +36,9 @@ returns-5 c = let s = c .before .before .before .before .before .before in
     empty-checkpoint (s .args .st) _ _ (c .complete-checkpoint .ensures) (c .before .before .before .before .no-pending .ensures)
     ∙ sym (ap (completed (s .args .st)) (c .before .before .enum-told4 .given .1))
 
+returns-6 : tie.Need-returns-6
+returns-6 c = absurd (event-needs (c .before .before .before .before .args .st) _ _ _ (rw (c .enum-told5 .given .1) at (c .before .before .before .before .pre .3)))
+
 pub completed-at-once-spec : {M : Type 1} → statement M
 completed-at-once-spec =
     tie.close
@@ -49,8 +52,10 @@ completed-at-once-spec =
     (λ c. search needs)
     (λ c. search needs)
     complete-checkpoint-requires
+    (λ c. search needs)
     returns
     returns-2
     returns-3
     returns-4
-    returns-5)
+    returns-5
+    returns-6)

@@ -46,6 +46,9 @@ returns-4 c = rw (c .before .before .slot-of .ensures) at (c .consolidate-needs 
 returns-5 : tie.Need-returns-5
 returns-5 c = c .checkpoint-needs .ensures ∙ sym (ap (count (c .before .before .before)) (c .before .enum-told3 .given .1))
 
+returns-6 : tie.Need-returns-6
+returns-6 c = c .event-needs .ensures ∙ sym (ap (count (c .before .before .before .before)) (c .before .before .op3 .given .1))
+
 pub op-needs-spec : {M : Type 1} → statement M
 op-needs-spec =
     tie.close
@@ -62,8 +65,11 @@ op-needs-spec =
     (λ c κs. search needs)
     (λ c. search needs)
     (λ c κs. search needs)
+    (λ c. search needs)
+    (λ c κs. search needs)
     returns
     returns-2
     returns-3
     returns-4
-    returns-5)
+    returns-5
+    returns-6)

@@ -28,6 +28,9 @@ returns-4 c = c .consolidate-row .ensures ∙ sym (ap (row (c .before .before .b
 returns-5 : tie.Need-returns-5
 returns-5 c = sym (ap (row (c .before .before)) (c .enum-told2 .given .1))
 
+returns-6 : tie.Need-returns-6
+returns-6 c = c .event-row .ensures ∙ sym (ap (row (c .before .before .before .before)) (c .before .before .op4 .given .1))
+
 pub op-row-spec : {M : Type 1} → statement M
 op-row-spec =
     tie.close
@@ -41,8 +44,11 @@ op-row-spec =
     (λ c. search needs)
     (λ c κs. search needs)
     (λ c. search needs)
+    (λ c. search needs)
+    (λ c κs. search needs)
     returns
     returns-2
     returns-3
     returns-4
-    returns-5)
+    returns-5
+    returns-6)

@@ -17,6 +17,9 @@ returns-4 c = sym (ap (λ (o : Op). opNumbers o (c .before .before .before .args
 returns-5 : tie.Need-returns-5
 returns-5 c = sym (ap (λ (o : Op). opNumbers o (c .before .before .args .made) (c .before .before .args .frame)) (c .enum-told2 .given .1))
 
+returns-6 : tie.Need-returns-6
+returns-6 c = sym (ap (λ (o : Op). opNumbers o (c .before .before .before .args .made) (c .before .before .before .args .frame)) (c .before .op4 .given .1))
+
 pub op-numbers-spec : {M : Type 1} → statement M
 op-numbers-spec =
     tie.close
@@ -27,7 +30,9 @@ op-numbers-spec =
     (λ c. search needs)
     (λ c. search needs)
     (λ c. search needs)
+    (λ c. search needs)
     returns-2
     returns-3
     returns-4
-    returns-5)
+    returns-5
+    returns-6)

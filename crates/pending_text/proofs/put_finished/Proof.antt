@@ -23,6 +23,10 @@ returns-5 : tie.Need-returns-5
 unfolding blanked
 returns-5 c = rw (c .enum-told5 .given .1) (put-none (c .before .before .before .args .out .now) (c .before .before .before .args .at))
 
+returns-6 : tie.Need-returns-6
+unfolding blanked
+returns-6 c = rw (c .enum-told6 .given .1) (put-none (c .before .before .before .args .out .now) (c .before .before .before .args .at))
+
 pub put-finished-spec : {M : Type 1} → statement M
 put-finished-spec =
     tie.close
@@ -33,9 +37,11 @@ put-finished-spec =
     (λ c. search needs)
     (λ c. search needs)
     (λ c. search needs)
+    (λ c. search needs)
     returns
     (λ c. search needs)
     returns-2
     returns-3
     returns-4
-    returns-5)
+    returns-5
+    returns-6)

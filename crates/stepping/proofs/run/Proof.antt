@@ -1,15 +1,27 @@
-use mathlib.Core.Path.{_≡_, _∙_}
-use lib.ListN.{length}
+use mathlib.Core.Path.{_∙_}
+use Rattle.event_stores.specs.Taken.{Lengths}
 use Rattle.answers.proofs.Answered.{answer-known}
 use borrow.Author.Needs.{needs}
 use Rattle.stepping.proofs.run.Statement.{statement}
 use Rattle.stepping.proofs.run.Tie as tie
 
-last-long : (c : tie.Start) → length (c .args .st .table .last) ≡ 16
-last-long c = search needs
+lengths : (c : tie.Start)
+    → let t = c .args .st .table in
+    let w = c .args .st .writers in
+    Lengths (t .page) (t .original) (t .spare) (t .bitmap) (t .last) (w .opened) (w .held)
+lengths c =
+    record {
+      page-long = search needs;
+      original-long = search needs;
+      spare-long = search needs;
+      bitmap-long = search needs;
+      last-long = search needs;
+      four = search needs;
+      sixty-four = search needs;
+    }
 
 go-on-requires : tie.Need-go-on-requires
-go-on-requires c κs = last-long (c .before .before .before .before .before .before .before .before .before .before .before .before .before .before .before .before .before .before)
+go-on-requires c κs = lengths (c .before .before .before .before .before .before .before .before .before .before .before .before .before .before .before .before .before .before)
 
 returns : tie.Need-returns
 returns c = let e = c .before .before .before .before .go-on .ensures in

@@ -8,7 +8,7 @@ use Rattle.state.specs.Parts.{stateOf}
 use Rattle.operations.specs.Operations.{isIdle}
 use Rattle.refinement.specs.Settled.{noPending}
 use Rattle.refinement.specs.Stores.{completed}
-use Rattle.refinement.proofs.Going.{write-of, commit-of, consolidate-of}
+use Rattle.refinement.proofs.Going.{write-of, commit-of, consolidate-of, event-of}
 use Rattle.writes.proofs.WriteMade.{write-done}
 use Rattle.commits.proofs.CommitMade.{commit-done}
 use Rattle.consolidations.proofs.ConsolidateMade.{consolidate-done}
@@ -60,6 +60,14 @@ returns-5 c = let s = c .before .before .before .before in
     ap (λ (l : List ℕ). stateOf (a .z) (a .head) (a .head) (a .next) (a .page .now) (a .original .now) (a .spare .now) (a .bitmap .now) l (a .opened .now) (a .held .now) noPending) (c .complete-checkpoint .ensures)
     ∙ sym (ap (completed (st s)) (c .before .before .enum-told2 .given .1))
 
+complete-event-requires : tie.Need-complete-event-requires
+complete-event-requires c κs = let s = c .before .before .before .before .before .before .before .before .before .before in
+    (s .pre .0 .legal, s .pre .0 .head-low, s .pre .0 .next-low, event-of (st s) (s .pre .1) (c .before .before .before .before .before .before .before .before .op4 .given .1) .known)
+
+returns-6 : tie.Need-returns-6
+returns-6 c = let s = c .before .before .before .before .before .before .before .before .before .before .before in
+    c .complete-event .ensures ∙ sym (ap (completed (st s)) (c .before .before .before .before .before .before .before .before .before .op4 .given .1))
+
 pub complete-spec : {M : Type 1} → statement M
 complete-spec =
     tie.close
@@ -73,8 +81,11 @@ complete-spec =
     complete-consolidate-requires
     (λ c. search needs)
     (λ c κs. search needs)
+    (λ c. search needs)
+    complete-event-requires
     returns
     returns-2
     returns-3
     returns-4
-    returns-5)
+    returns-5
+    returns-6)

@@ -3,10 +3,11 @@ use Rattle.bounded.proofs.Tests.{contradicts}
 use Rattle.state.specs.declared.State.{State}
 use Rattle.state.specs.Parts.{stateOf}
 use Rattle.operations.specs.Operations.{isIdle}
-use Rattle.refinement.proofs.Going.{going, write-of, commit-of, consolidate-of, write-left, commit-left, consolidate-left, checkpoint-left, stores-of}
+use Rattle.refinement.proofs.Going.{going, write-of, commit-of, consolidate-of, write-left, commit-left, consolidate-left, checkpoint-left, event-left, stores-of}
 use Rattle.writes.proofs.WriteMade.{write-stores-of}
 use Rattle.commits.proofs.CommitMade.{commit-stores-of}
 use Rattle.consolidations.proofs.ConsolidateMade.{consolidate-stores-of}
+use Rattle.event_stores.specs.Lines.{eventStores}
 use borrow.Author.Needs.{needs}
 use Rattle.stores.proofs.making.make_stores.Statement.{statement}
 use Rattle.stores.proofs.making.make_stores.Tie as tie
@@ -43,7 +44,7 @@ make-checkpoint-stores-requires : tie.Need-make-checkpoint-stores-requires
 make-checkpoint-stores-requires c κs = let s = c .before .before .before .before in
     let g = going (st s) (s .pre .0) (s .pre .1) in
     let l = checkpoint-left (st s) g (s .args .n) (s .pre .2) (c .before .enum-told2 .given .1) in
-    (g .ranges .legal, s .pre .4, l .0, l .1, s .pre .3)
+    (g .ranges .legal, s .pre .4 .last-long, l .0, l .1, s .pre .3)
 
 returns : tie.Need-returns
 returns c = contradicts (ap isIdle (c .enum-told .given .1)) (c .before .before .before .pre .1)
@@ -64,6 +65,17 @@ returns-5 : tie.Need-returns-5
 returns-5 c = let s = c .before .before .before .before .before .before .before in
     stores-of (st s) (s .args .n) (s .args .image .now) _ (c .before .before .before .before .enum-told2 .given .1) (c .before .before .make-checkpoint-stores .ensures)
 
+make-event-stores-requires : tie.Need-make-event-stores-requires
+make-event-stores-requires c κs = let s = c .before .before .before .before .before in
+    let g = going (st s) (s .pre .0) (s .pre .1) in
+    let e = c .before .before .op4 .given .1 in
+    (record { valid = s .pre .0; row = rw e at (g .taken); lengths = s .pre .4 }, event-left (st s) g (s .args .n) (s .pre .2) e, s .pre .3)
+
+returns-6 : tie.Need-returns-6
+unfolding eventStores
+returns-6 c = let s = c .before .before .before .before .before .before .before .before in
+    stores-of (st s) (s .args .n) (s .args .image .now) _ (c .before .before .before .before .before .op4 .given .1) (c .before .before .make-event-stores .ensures)
+
 pub make-stores-spec : {M : Type 1} → statement M
 make-stores-spec =
     tie.close
@@ -77,6 +89,8 @@ make-stores-spec =
     make-consolidate-stores-requires
     (λ c. search needs)
     make-checkpoint-stores-requires
+    (λ c. search needs)
+    make-event-stores-requires
     returns
     (λ c. search needs)
     returns-2
@@ -85,4 +99,6 @@ make-stores-spec =
     (λ c. search needs)
     returns-4
     (λ c. search needs)
-    returns-5)
+    returns-5
+    (λ c. search needs)
+    returns-6)

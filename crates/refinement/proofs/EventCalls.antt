@@ -1,0 +1,194 @@
+-- The calls, where an event is asked for or pending: an event that is taken is pending; a step or a run makes its stores; a mount finds the pages without it;
+-- and row 9 turns any other call back but recall, which changes nothing.
+use Prim.Native.Nat.{ℕ, zero, suc, _-_, _<_, _≤_, min}
+use mathlib.Core.Bool.{Bool, true, false, cond, not}
+use mathlib.Core.List.{List}
+use mathlib.Core.Logic.{_⊎_, inl, inr, ⊎-elim}
+use mathlib.Core.Path.{_≡_, refl, sym, ap, _∙_, subst}
+use native.Mathlib.Omega.{arith}
+use lib.Dec.{ltb, eqb, eqb·suc-zero}
+use lib.ListN.{length}
+use borrow.Author.Tests.{le-ltb}
+use Rattle.bounded.specs.Rows.{refusal}
+use Rattle.bounded.proofs.Rows.{none-apply, row-at}
+use Rattle.layout.specs.Layout.{imageLength}
+use Rattle.meters.specs.Meters.{eventNeeds}
+use Rattle.state.specs.declared.State.{State}
+use Rattle.state.specs.declared.Op.the-variants.{Event}
+use Rattle.operations.specs.Operations.{isIdle, needs}
+use Rattle.validity.specs.Validity.{stateOk}
+use Rattle.refinement.specs.Settled.{withLines}
+use Rattle.refinement.specs.Frames.{pageFrame}
+use Rattle.refinement.specs.Stores.{World, stepped, steppedBy, left}
+use Rattle.refinement.specs.Outcome.{answered}
+use Rattle.refinement.specs.Calls.{worldOf, beginRows, abortRows, writeCallRows, commitCallRows, consolidateCallRows, freeCallRows, checkpointCallRows, readRows, beginOf, abortOf, writeOf, commitOf, consolidateOf, freeOf, checkpointOf, eventOf, eventLine, eventSecond, eventCallRows, readRow, readBytes, stepRow, stepRows, stepOf, stepBytes, runOf, runBytes}
+use Rattle.refinement.specs.Run.{Call, mount, checkpoint, free, step, begin, abort, commit, consolidate, run, write, read, recall, event, exec}
+use Rattle.refinement.specs.Recall.{recallRow}
+use Rattle.refinement.specs.Reference.{Reference, Task, Work, idle, under, moving, withWork, starts, continues, advances, taken, turn}
+use Rattle.refinement.proofs.AskEvent.{event-moving}
+use Rattle.refinement.proofs.Between.{Between, Sounds, sounds, moving-pending}
+use Rattle.refinement.proofs.Copies.{durable-fits}
+use Rattle.refinement.proofs.EventRows.{event-some, event-needs}
+use Rattle.refinement.proofs.Invariant.{Quiet, Related}
+use Rattle.refinement.proofs.MountCall.{mount-sound}
+use Rattle.refinement.proofs.Moving.{Moving}
+use Rattle.refinement.proofs.Pending.{pends}
+use Rattle.refinement.proofs.RecallCall.{recall-answer, recall-right}
+use Rattle.refinement.proofs.Sound.{is-quiet}
+use Rattle.refinement.proofs.StepCall.{many, idle-apart, stepped-sizes, steppedBy-sizes}
+use Rattle.refinement.proofs.StepEvent.{Goes, step-event}
+
+-- what follows a step or a run of it
+between-goes : {past : List ℕ} (v : World) (b : Reference) → Goes past v b → Between past v b
+between-goes v b (inl q) = inl (inl q)
+between-goes v b (inr m) = inr m
+
+-- ---- what is answered, by its row: with row 0 the taken call's, with any other none
+
+pub record Then (past : List ℕ) (v u : World) (b : Reference) : Type 0 where
+  pub sizes : u .st .sizes ≡ v .st .sizes
+  pub between : Between past u b
+
+answered-then : {past : List ℕ} (c : Call) (v : World) (b : Reference) (row n : ℕ) (after : State) (img : List ℕ)
+    → Between past v b → (row ≡ 0 → Then past v (worldOf after img) (taken c n b))
+    → Then past v (worldOf (answered row (v .st) n after .state) (cond (eqb row 0) img (v .image))) (turn c row (answered row (v .st) n after .stores) b)
+answered-then c v b zero n after img h f = f refl
+answered-then c v b (suc k) n after img h f = rw (eqb·suc-zero k) (record { sizes = refl; between = h })
+
+-- ---- an event asked for
+
+pub starts-some : (t : Task) (n : ℕ) (b : Reference) → 0 < n → starts t n b ≡ withWork (under t n) b
+starts-some t zero b l = absurd (omega arith)
+starts-some t (suc n) b l = refl
+
+same-image : (row : ℕ) (img : List ℕ) → cond (eqb row 0) img img ≡ img
+same-image zero img = refl
+same-image (suc k) img = rw (eqb·suc-zero k)
+
+pub event-sound : {past : List ℕ} (k m a : ℕ) (v : World) (b : Reference) → Related past v b → Sounds past (event k m a) v b
+unfolding exec eventOf
+event-sound {past = past} k m a v b h =
+    let st = v .st in
+    let img = v .image in
+    let row : ℕ = refusal (eventCallRows st img k m a) in
+    let asked = withLines st (Event k m a) (eventLine st img k m a) (eventSecond st img k m a) (pageFrame st img 0) in
+    let r =
+    answered-then (event k m a) v b row (eventNeeds k) asked img (inl h)
+    (λ e.
+    let q : Quiet past st img b = is-quiet st img b h (none-apply (eventCallRows st img k m a) (omega arith) e .1 .1 .0) in
+    record { sizes = refl; between = subst (Between past (worldOf asked img)) (sym (starts-some (moving k m a) (eventNeeds k) b (event-some k))) (inr (event-moving st img b k m a q e)) }) in
+    record {
+      right = tt;
+      sizes = r .sizes;
+      between =
+          subst (λ (i : List ℕ). Between past (worldOf (answered row st (eventNeeds k) asked .state) i) (turn (event k m a) row (answered row st (eventNeeds k) asked .stores) b)) (same-image row img) (r .between);
+    }
+
+-- ---- an event pending
+
+module _ {past : List ℕ} (v : World) (b : Reference) (M : Moving past (v .st) (v .image) b) where
+  abbrev st : State
+  st = v .st
+
+  abbrev img : List ℕ
+  img = v .image
+
+  valid-row : not (stateOk st) ≡ false
+  valid-row = ap not (M .valid)
+
+  fits-row : ltb (length img) (imageLength (st .sizes)) ≡ false
+  fits-row = le-ltb (length img) (imageLength (st .sizes)) (durable-fits past st img b (M .durable))
+
+  pending-row : not (isIdle (st .pending .op)) ≡ true
+  pending-row = ap not (moving-pending v b M)
+
+  -- a call so turned back
+  refused : (c : Call) (row n : ℕ) (after : State) → row ≡ 9
+      → Then past v (worldOf (answered row st n after .state) img) (turn c row (answered row st n after .stores) b)
+  refused c row n after e =
+      subst (λ (r : ℕ). Then past v (worldOf (answered r st n after .state) img) (turn c r (answered r st n after .stores) b)) (sym e) (record { sizes = refl; between = inr M })
+
+  -- ---- step and run
+
+  one-step : Between past (stepped v) (advances 1 (b .work) b)
+  one-step = between-goes (stepped v) (advances 1 (b .work) b) (step-event past st img b M)
+
+  one-more : (u : World) (c : Reference) (t : Task) (m : ℕ) → c .work ≡ under t m → Goes past u c → Goes past (stepped u) (advances 1 (c .work) c)
+  one-more u c t m work g = ⊎-elim (λ q. absurd (idle-apart t m (c .work) work (q .work))) (λ m. step-event past (u .st) (u .image) c m) g
+
+  some-left : 0 < left st
+  some-left = let p = pends st (st .pending .op) (M .valid) refl (moving-pending v b M) .made-low in omega (arith, p)
+
+  work-left : b .work ≡ under (moving (M .kind) (M .meter) (M .amount)) (left st)
+  work-left =
+      M .work ∙ sym (ap (λ (x : ℕ). under (moving (M .kind) (M .meter) (M .amount)) (x - st .pending .made)) (ap (needs st) (M .event) ∙ event-needs st (M .kind) (M .meter) (M .amount)))
+
+  pub run-stores : (k : ℕ) → Between past (steppedBy (min k (left st)) v) (advances k (b .work) b)
+  run-stores k =
+      let t : Task = moving (M .kind) (M .meter) (M .amount) in
+      let n : ℕ = min k (left st) in
+      let g = many (Goes past) one-more b t (left st) v some-left work-left (inr M) n (omega arith) in
+      subst (λ (w : Work). Between past (steppedBy n v) (advances k w b)) (sym work-left) (between-goes (steppedBy n v) (continues t (left st - n) b) g)
+
+  step-goes : Sounds past step v b
+  unfolding exec stepOf stepBytes
+  step-goes =
+      let r = answered-then step v b (stepRow st img) 1 (stepped v .st) (stepped v .image) (inr M) (λ e. record { sizes = stepped-sizes v; between = one-step }) in
+      record { right = tt; sizes = r .sizes; between = r .between }
+
+  run-goes : (k : ℕ) → Sounds past (run k) v b
+  unfolding exec runOf runBytes
+  run-goes k =
+      let n : ℕ = min k (left st) in
+      let r = answered-then (run k) v b (stepRow st img) n (steppedBy n v .st) (steppedBy n v .image) (inr M) (λ e. record { sizes = steppedBy-sizes n v; between = run-stores k }) in
+      record { right = tt; sizes = r .sizes; between = r .between }
+
+  -- ---- read and recall
+
+  read-nine : (w p l : ℕ) (target : List ℕ) → readRow st img w p l target ≡ 9
+  unfolding readRow
+  read-nine w p l target = sym (row-at (readRows st img w p l target) 2 (omega arith) (valid-row, (fits-row, tt)) pending-row)
+
+  read-goes : (w p l : ℕ) (target : List ℕ) → Sounds past (read w p l target) v b
+  unfolding exec
+  read-goes w p l target =
+      let e = read-nine w p l target in
+      record {
+        right = λ q. let x : _≡_ {A = ℕ} 9 0 = sym e ∙ q in absurd (omega arith);
+        sizes = refl;
+        between = subst (λ (r : ℕ). Between past v (turn (read w p l target) r 0 b)) (sym e) (inr M);
+      }
+
+  kept : (p l : ℕ) (target : List ℕ) (row : ℕ) → Between past v (turn (recall p l target) row 0 b)
+  kept p l target zero = inr M
+  kept p l target (suc n) = inr M
+
+  recall-goes : (p l : ℕ) (target : List ℕ) → Sounds past (recall p l target) v b
+  unfolding exec
+  recall-goes p l target =
+      record {
+        right = (recall-answer st img b (M .valid) (M .durable) p l target, recall-right st img b (M .valid) (M .durable) p l target);
+        sizes = refl;
+        between = kept p l target (recallRow img p l target);
+      }
+
+  -- ---- the others
+
+  pub moving-sound-at : (c : Call) → Sounds past c v b
+  unfolding exec beginOf abortOf writeOf commitOf consolidateOf freeOf checkpointOf eventOf
+  moving-sound-at mount = sounds v b (mount-sound v b (M .valid) (M .durable))
+  moving-sound-at step = step-goes
+  moving-sound-at (run k) = run-goes k
+  moving-sound-at (read w p l target) = read-goes w p l target
+  moving-sound-at (recall p l target) = recall-goes p l target
+  moving-sound-at checkpoint = let r = refused checkpoint (refusal (checkpointCallRows st img)) _ _ (sym (row-at (checkpointCallRows st img) 2 (omega arith) (valid-row, (fits-row, tt)) pending-row)) in record { right = tt; sizes = r .sizes; between = r .between }
+  moving-sound-at free = let r = refused free (refusal (freeCallRows st img)) _ _ (sym (row-at (freeCallRows st img) 2 (omega arith) (valid-row, (fits-row, tt)) pending-row)) in record { right = tt; sizes = r .sizes; between = r .between }
+  moving-sound-at (begin w) = let r = refused (begin w) (refusal (beginRows st w)) _ _ (sym (row-at (beginRows st w) 1 (omega arith) (valid-row, tt) pending-row)) in record { right = tt; sizes = r .sizes; between = r .between }
+  moving-sound-at (abort w) = let r = refused (abort w) (refusal (abortRows st w)) _ _ (sym (row-at (abortRows st w) 1 (omega arith) (valid-row, tt) pending-row)) in record { right = tt; sizes = r .sizes; between = r .between }
+  moving-sound-at (commit w) = let r = refused (commit w) (refusal (commitCallRows st img w)) _ _ (sym (row-at (commitCallRows st img w) 2 (omega arith) (valid-row, (fits-row, tt)) pending-row)) in record { right = tt; sizes = r .sizes; between = r .between }
+  moving-sound-at (consolidate p) = let r = refused (consolidate p) (refusal (consolidateCallRows st img p)) _ _ (sym (row-at (consolidateCallRows st img p) 2 (omega arith) (valid-row, (fits-row, tt)) pending-row)) in record { right = tt; sizes = r .sizes; between = r .between }
+  moving-sound-at (write w p l o n bytes) = let r = refused (write w p l o n bytes) (refusal (writeCallRows st img w p l o n bytes)) _ _ (sym (row-at (writeCallRows st img w p l o n bytes) 2 (omega arith) (valid-row, (fits-row, tt)) pending-row)) in record { right = tt; sizes = r .sizes; between = r .between }
+  moving-sound-at (event k m a) = let r = refused (event k m a) (refusal (eventCallRows st img k m a)) _ _ (sym (row-at (eventCallRows st img k m a) 2 (omega arith) (valid-row, (fits-row, tt)) pending-row)) in record { right = tt; sizes = r .sizes; between = r .between }
+
+pub moving-sound : {past : List ℕ} (c : Call) (v : World) (b : Reference) → Moving past (v .st) (v .image) b → Sounds past c v b
+moving-sound c v b M = moving-sound-at v b M c

@@ -1,0 +1,46 @@
+-- An operation asked for: what is pending changes neither what an operation needs nor its rows, and the state stays valid.
+use Prim.Native.Nat.{ℕ, _<_}
+use mathlib.Core.Bool.{true}
+use mathlib.Core.List.{List}
+use mathlib.Core.Path.{_≡_, refl, _∙_}
+use Rattle.bounded.specs.Rows.{refusal}
+use Rattle.state.specs.declared.State.{State}
+use Rattle.state.specs.declared.Op.{Op}
+use Rattle.state.specs.declared.Op.the-variants.{Idle, Write, Commit, Consolidate, Checkpoint, Event}
+use Rattle.operations.specs.Operations.{needs, opRows}
+use Rattle.validity.specs.Validity.{stateOk}
+use Rattle.refinement.specs.Settled.{withLines}
+use Rattle.refinement.proofs.StateValid.{valid, valid-ok}
+use Rattle.refinement.proofs.Pending.{pends-ok}
+
+module _ (st : State) (line second : List ℕ) (frame : ℕ) where
+  pub needs-lines : (op o : Op) → needs (withLines st o line second frame) op ≡ needs st op
+  unfolding needs
+  needs-lines Idle o = refl
+  needs-lines (Write w p l a n) o = refl
+  needs-lines (Commit w) o = refl
+  needs-lines (Consolidate p) o = refl
+  needs-lines Checkpoint o = refl
+  needs-lines (Event k m a) o = refl
+
+  pub rows-lines : (op o : Op) (f : ℕ) → refusal (opRows (withLines st o line second frame) op f) ≡ refusal (opRows st op f)
+  rows-lines Idle o f = refl
+  rows-lines (Write w p l a n) o f = refl
+  rows-lines (Commit w) o f = refl
+  rows-lines (Consolidate p) o f = refl
+  rows-lines Checkpoint o f = refl
+  rows-lines (Event k m a) o f = refl
+
+  pub lines-valid : (op : Op) → stateOk st ≡ true → refusal (opRows st op frame) ≡ 0 → 0 < needs st op → stateOk (withLines st op line second frame) ≡ true
+  lines-valid op e r l =
+      let v = valid st e in
+      valid-ok (withLines st op line second frame)
+      (record {
+        legal = v .legal;
+        positions = v .positions;
+        slots = v .slots;
+        held = v .held;
+        next-low = v .next-low;
+        lasts = v .lasts;
+        pending = pends-ok (withLines st op line second frame) op refl (record { made-low = rw (needs-lines op op) l; taken = rows-lines op op frame ∙ r });
+      })
