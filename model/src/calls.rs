@@ -2,13 +2,15 @@
 //!
 //! A call that asks for an operation gives the number of stores needed; run gives the number made.
 
-use crate::image::{line as line_at, word};
+use crate::image::{line as line_at, put_word, word};
+use crate::meters::Asked;
 use crate::plan::{complete, plan};
 use crate::refusal::{row, Answer, Refusal::*};
 use crate::rows::{
-    abort_rows, begin_rows, commit_rows, consolidate_rows, frame_row, free_rows, place_rows, write_rows,
+    abort_rows, begin_rows, commit_rows, consolidate_rows, event_rows, frame_row, free_rows, place_rows,
+    room_row, write_rows,
 };
-use crate::state::{Operation, Pending, State, Write};
+use crate::state::{Event, Operation, Pending, State, Write};
 use crate::validity::is_broken;
 
 pub fn begin(state: &mut State, writer: u64) -> Answer<u64> {
@@ -73,6 +75,22 @@ pub fn free_slot(state: &mut State, image: &[u8]) -> Answer<u64> {
 pub fn checkpoint(state: &mut State, image: &[u8]) -> Answer<u64> {
     idle_rows(state, image)?;
     Ok(ask(state, Operation::Checkpoint))
+}
+
+/// An event of document 02: its meters' lines and the record that commits them. Rows 20, 12, 14, 15, 16, 21, 19.
+pub fn event(state: &mut State, image: &[u8], asked: Asked) -> Answer<u64> {
+    idle_rows(state, image)?;
+    event_rows(state, asked)?;
+    let frame = page_frame(state, image, 0)?;
+    let mut finished = vec![];
+    for line in asked.meters() {
+        let mut bytes = line_shown(state, image, (1, 0, line), frame);
+        let number = asked.moved(line, word(&bytes, 0)).ok_or(AmountOutOfRange)?;
+        put_word(&mut bytes, 0, number);
+        finished.push((line, bytes));
+    }
+    room_row(state, 1)?;
+    Ok(ask(state, Operation::Event(Event { asked, frame, finished })))
 }
 
 /// 64 bytes into the target's start. Any writer may read, open or not.

@@ -1,4 +1,4 @@
-//! An independent model of the store, written from document 01 alone.
+//! An independent model of the store, written from documents 01 and 02 alone.
 //!
 //! It is plain rather than quick: names of frames are counted, operations are listed store by store, and what
 //! can be worked out again is worked out again. Modules from the bottom up:
@@ -6,6 +6,7 @@
 //! - `refusal`: the numbered answers
 //! - `layout`, `image`: where each word lies, and reading and writing words
 //! - `slots`, `journal`: a slot's three words and its shapes; records, positions, live counts
+//! - `meters`: events and the numbers that they move (document 02)
 //! - `state`: what the host keeps between calls
 //! - `rows`: the refusal table from row 11 on
 //! - `plan`: the stores that an operation needs, and the change that comes with its last store
@@ -20,6 +21,7 @@ pub mod compare;
 pub mod image;
 pub mod journal;
 pub mod layout;
+pub mod meters;
 pub mod mount;
 pub mod plan;
 pub mod refusal;

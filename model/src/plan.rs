@@ -4,7 +4,7 @@ use crate::image::{put_word, word};
 use crate::journal::{position_after, Record};
 use crate::layout::{Sizes, HEAD_AT, TAIL_AT};
 use crate::slots::{lines_of, Slot};
-use crate::state::{Operation, State, Write};
+use crate::state::{Event, Operation, State, Write};
 
 /// One store: a word's address and what goes there.
 #[derive(Clone, Copy, Debug, PartialEq, Eq)]
@@ -37,6 +37,7 @@ pub fn plan(state: &State, operation: &Operation) -> Vec<Store> {
         Operation::Commit { writer } => commit_plan(state, *writer),
         Operation::Consolidate { page } => consolidate_plan(state, *page),
         Operation::Checkpoint => checkpoint_plan(state),
+        Operation::Event(event) => event_plan(state, event),
     }
 }
 
@@ -47,6 +48,7 @@ pub fn complete(state: &mut State, operation: &Operation) {
         Operation::Commit { writer } => complete_commit(state, *writer),
         Operation::Consolidate { page } => complete_consolidate(state, *page),
         Operation::Checkpoint => complete_checkpoint(state),
+        Operation::Event(event) => complete_event(state, event),
     }
 }
 
@@ -182,4 +184,37 @@ fn complete_checkpoint(state: &mut State) {
         state.last[slot] = None;
     }
     state.tail = state.head;
+}
+
+/// The slot of page 0 before an event's record, taken if the page has none, and after it.
+fn event_slots(state: &State, event: &Event) -> (usize, Slot, Slot) {
+    let number = state.slot_of(0).unwrap_or_else(|| slot_for(state));
+    let taken = Slot { page: 0, original: event.frame, bitmap: 0, ..state.slots[number] };
+    let before = if state.slot_of(0).is_some() { state.slots[number] } else { taken };
+    let lines = event.finished.iter().fold(0, |lines, (line, _)| lines | 1 << line);
+    (number, before, Slot { bitmap: before.bitmap ^ lines, ..before })
+}
+
+/// Each line to the frame that is not the committed one, then one record, then head.
+fn event_plan(state: &State, event: &Event) -> Vec<Store> {
+    let (number, before, after) = event_slots(state, event);
+    let mut stores = vec![];
+    for (line, finished) in &event.finished {
+        let at = state.sizes.line_start(before.other_frame(*line), *line);
+        stores.extend((0..8).map(|i| put(at + 8 * i, word(finished, 8 * i))));
+    }
+    let record = Record { first: state.head, slot_number: number as u64, slot: after };
+    stores.extend(record_stores(state.sizes, state.head, record));
+    stores.push(put(HEAD_AT, position_after(state.sizes, state.head, 1)));
+    stores
+}
+
+fn complete_event(state: &mut State, event: &Event) {
+    let (number, _, after) = event_slots(state, event);
+    if state.slot_of(0).is_none() {
+        state.next = (number as u64 + 1) % state.sizes.s;
+    }
+    state.slots[number] = after;
+    state.last[number] = Some(state.head);
+    state.head = position_after(state.sizes, state.head, 1);
 }

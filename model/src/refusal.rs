@@ -22,6 +22,9 @@ pub enum Refusal {
     PageWithoutSlot = 17,
     PageHeld = 18,
     JournalFull = 19,
+    /// Document 02, "Meters on the store".
+    UnknownEvent = 20,
+    AmountOutOfRange = 21,
     /// Document 02, "Make a slot free".
     NoSlotToFree = 22,
 }

@@ -3,6 +3,7 @@
 
 use crate::journal::live_count;
 use crate::layout::LINES;
+use crate::meters::Asked;
 use crate::refusal::{row, Answer, Refusal::*};
 use crate::slots::{frames_named, FREE_PAGE};
 use crate::state::{State, WRITERS};
@@ -42,11 +43,13 @@ pub fn write_rows(
     row(BadArgument, length == 0)?;
     row(BadArgument, u128::from(offset) + u128::from(length) > 64)?;
     row(WriterClosed, !state.is_open(writer))?;
-    let slot = state.slot_of(page);
-    let others = (0..WRITERS as u64).filter(|&other| other != writer);
-    let held = slot.is_some_and(|slot| others.into_iter().any(|other| state.holds(other, slot, line)));
-    row(LineHeld, held)?;
-    row(NoFreeSlot, slot.is_none() && state.first_free().is_none())
+    row(LineHeld, held_by_another(state, writer, page, line))?;
+    row(NoFreeSlot, state.slot_of(page).is_none() && state.first_free().is_none())
+}
+
+fn held_by_another(state: &State, writer: u64, page: u64, line: u64) -> bool {
+    let mut others = (0..WRITERS as u64).filter(|&other| other != writer);
+    state.slot_of(page).is_some_and(|slot| others.any(|other| state.holds(other, slot, line)))
 }
 
 /// Row 16 for a page without a slot, on a frame that its page-table word names.
@@ -68,6 +71,14 @@ pub fn consolidate_rows(state: &State, page: u64) -> Answer<()> {
     room_row(state, 1)
 }
 
+/// Rows 20, 12, 14 and 15 of an event, which is writer 1's, on page 0.
+pub fn event_rows(state: &State, asked: Asked) -> Answer<()> {
+    row(UnknownEvent, asked.meters().is_empty())?;
+    row(WriterOpen, state.is_open(1))?;
+    row(LineHeld, asked.meters().iter().any(|&line| held_by_another(state, 1, 0, line)))?;
+    row(NoFreeSlot, state.slot_of(0).is_none() && state.first_free().is_none())
+}
+
 /// Rows 22 and 19, and the page to consolidate: of the slots with a page of which nobody holds a line, sorted by the lines that
 /// leaving them would copy and then by their number, the first one's.
 pub fn free_rows(state: &State) -> Answer<u64> {
@@ -87,7 +98,7 @@ pub fn free_rows(state: &State) -> Answer<u64> {
 }
 
 /// Row 19.
-fn room_row(state: &State, new: u64) -> Answer<()> {
+pub fn room_row(state: &State, new: u64) -> Answer<()> {
     let live = live_count(state.sizes, state.head, state.tail);
     row(JournalFull, live + new > state.sizes.j)
 }

@@ -1,6 +1,7 @@
 //! What the host keeps between calls.
 
 use crate::layout::{Sizes, MOST_SLOTS};
+use crate::meters::Asked;
 use crate::slots::{has_line, slot_owning, Slot};
 
 pub const WRITERS: usize = 4;
@@ -41,6 +42,7 @@ pub enum Operation {
     Commit { writer: u64 },
     Consolidate { page: u64 },
     Checkpoint,
+    Event(Event),
 }
 
 #[derive(Clone, Debug, PartialEq, Eq)]
@@ -54,6 +56,16 @@ pub struct Write {
     pub frame: u64,
     /// The whole line as it will be stored.
     pub finished: [u8; 64],
+}
+
+/// An event of document 02: one transaction by writer 1 on page 0.
+#[derive(Clone, Debug, PartialEq, Eq)]
+pub struct Event {
+    pub asked: Asked,
+    /// The frame of page 0; for a slotted page its original.
+    pub frame: u64,
+    /// Each line, credit's first, with the whole line as it will be stored.
+    pub finished: Vec<(u64, [u8; 64])>,
 }
 
 impl State {

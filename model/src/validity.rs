@@ -2,9 +2,9 @@
 
 use crate::journal::{bounds_hold, live_positions};
 use crate::plan::plan;
-use crate::rows::{commit_rows, consolidate_rows, frame_row, write_rows};
+use crate::rows::{commit_rows, consolidate_rows, event_rows, frame_row, room_row, write_rows};
 use crate::slots::{frames_named, page_twice};
-use crate::state::{Operation, Pending, State, Write, WRITERS};
+use crate::state::{Operation, Pending, State, WRITERS};
 
 /// What breaks a state. All are row 8; they are told apart only to see what tests reach.
 #[derive(Clone, Copy, Debug, PartialEq, Eq, PartialOrd, Ord)]
@@ -98,23 +98,28 @@ fn pending_breach(state: &State, pending: &Pending) -> Option<Breach> {
         Operation::Commit { writer } => commit_rows(state, *writer),
         Operation::Consolidate { page } => consolidate_rows(state, *page),
         Operation::Checkpoint => Ok(()),
+        // row 21 is left out, as document 02 says
+        Operation::Event(event) => event_rows(state, event.asked).and_then(|()| room_row(state, 1)),
     };
     if let Err(refusal) = rows {
         return Some(Breach::PendingRefused(refusal.number()));
     }
-    if let Operation::Write(write) = &pending.operation {
-        if !frame_stands(state, write) {
-            return Some(Breach::PendingFrame);
-        }
+    let stands = match &pending.operation {
+        Operation::Write(write) => frame_stands(state, write.page, write.frame),
+        Operation::Event(event) => frame_stands(state, 0, event.frame),
+        _ => true,
+    };
+    if !stands {
+        return Some(Breach::PendingFrame);
     }
     let needed = plan(state, &pending.operation).len() as u64;
     (pending.made >= needed).then_some(Breach::PendingMade)
 }
 
 /// Row 16 on the frame held, which for a slotted page must be its original.
-fn frame_stands(state: &State, write: &Write) -> bool {
-    match state.slot_of(write.page) {
-        Some(slot) => write.frame == state.slots[slot].original,
-        None => frame_row(state, write.frame).is_ok(),
+fn frame_stands(state: &State, page: u64, frame: u64) -> bool {
+    match state.slot_of(page) {
+        Some(slot) => frame == state.slots[slot].original,
+        None => frame_row(state, frame).is_ok(),
     }
 }

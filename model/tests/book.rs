@@ -7,6 +7,7 @@ use std::collections::BTreeMap;
 use common::{numbered, Store};
 use model::calls::{self, Patch};
 use model::compare::rng::Rng;
+use model::meters::{modulus, Asked, CREDIT};
 use model::mount::recall;
 
 /// A byte's page, line and offset.
@@ -16,6 +17,7 @@ type Spot = (u64, u64, u64);
 enum Underway {
     Write { writer: usize, spot: Spot, data: Vec<u8> },
     Commit { writer: usize },
+    Event(Asked),
     Other,
 }
 
@@ -25,6 +27,8 @@ struct Book {
     pages: BTreeMap<Spot, u8>,
     sheets: [BTreeMap<Spot, u8>; 4],
     underway: Option<(Underway, u64)>,
+    /// The completed events, in their order.
+    events: Vec<Asked>,
 }
 
 impl Book {
@@ -50,8 +54,20 @@ impl Book {
                 let sheet = std::mem::take(&mut self.sheets[writer]);
                 self.pages.extend(sheet);
             }
+            Underway::Event(asked) => self.moved(asked),
             Underway::Other => {}
         }
+    }
+
+    /// A completed event moves its meters on the pages.
+    fn moved(&mut self, asked: Asked) {
+        for meter in asked.meters() {
+            let stored = u64::from_le_bytes(self.line(None, 0, meter)[..8].try_into().expect("eight bytes"));
+            let number = asked.moved(meter, stored).expect("row 21: in range");
+            let spots = (0..).map(|offset| (0, meter, offset));
+            self.pages.extend(spots.zip(number.to_le_bytes()));
+        }
+        self.events.push(asked);
     }
 
     fn mounted(&mut self) {
@@ -72,16 +88,19 @@ struct Both {
     rng: Rng,
     taken: u64,
     freed: u64,
+    /// Only events write to page 0.
+    metered: bool,
 }
 
-const LINES: [u64; 4] = [0, 1, 31, 63];
+/// Among them the lines of credit, cash in, bet and one count.
+const LINES: [u64; 5] = [0, 1, 3, 23, 63];
 
 impl Both {
-    fn new(seed: u64) -> Both {
+    fn new(seed: u64, metered: bool) -> Both {
         let mut rng = Rng::new(seed, 0);
         let (p, s) = (rng.between(1, 3), rng.between(1, 3));
         let j = rng.between(s, 4);
-        Both { store: Store::fresh(p, s, j), book: Book::default(), rng, taken: 0, freed: 0 }
+        Both { store: Store::fresh(p, s, j), book: Book::default(), rng, taken: 0, freed: 0, metered }
     }
 
     fn note(&mut self, call: Underway, answer: Result<u64, u8>) {
@@ -90,15 +109,25 @@ impl Both {
                 self.taken += 1;
                 self.book.taken(call, needs);
             }
-            Err(number) => assert!(
-                ((9..=19).contains(&number) && number != 16) || number == 22,
-                "{number} on such a list"
-            ),
+            Err(number) => assert!((9..=22).contains(&number) && number != 16, "{number} on such a list"),
         }
     }
 
+    fn event(&mut self) {
+        let kind = self.rng.pick(&[1, 1, 3, 3, 3, 5, 5, 0]);
+        let (meter, amount) =
+            (self.rng.pick(&[23, 23, 23, 4]), self.rng.pick(&[0, 7, 300, 9_999, 60_000_000]));
+        let answer = self.store.ask_event(kind, meter, amount);
+        self.note(Underway::Event(Asked { kind, meter, amount }), answer);
+    }
+
     fn write(&mut self) {
-        let (writer, page) = (self.rng.pick(&[0, 0, 1, 2]), self.rng.below(self.store.state.sizes.p));
+        let first = u64::from(self.metered);
+        if self.store.state.sizes.p == first {
+            return;
+        }
+        let (writer, page) =
+            (self.rng.pick(&[0, 0, 1, 2]), self.rng.between(first, self.store.state.sizes.p - 1));
         let (line, offset) = (self.rng.pick(&LINES), self.rng.pick(&[0, 3, 63]));
         let data: Vec<u8> =
             (0..self.rng.between(1, 64 - offset)).map(|_| self.rng.below(256) as u8).collect();
@@ -117,6 +146,7 @@ impl Both {
                     self.book.sheets[writer as usize].clear();
                 }
             }
+            4..=8 if self.rng.percent(if self.metered { 60 } else { 20 }) => self.event(),
             4..=8 => self.write(),
             9..=11 => {
                 let answer = self.store.ask_commit(writer);
@@ -148,6 +178,23 @@ impl Both {
         }
     }
 
+    /// The meters that a mount of the image finds are the totals of the completed events.
+    fn adds_up(&self) {
+        let total = |meter| {
+            let own = self.book.events.iter().filter(|asked| asked.meters().last() == Some(&meter));
+            own.map(|asked| asked.amount).sum::<u64>()
+        };
+        let found = |meter| {
+            let mut target = [9; 64];
+            numbered(recall(0, meter, &self.store.image, &mut target)).expect("a recall is taken");
+            u64::from_le_bytes(target[..8].try_into().expect("eight bytes"))
+        };
+        assert_eq!(found(CREDIT) + total(2) + total(3), total(1) + total(4), "credit");
+        for meter in 1..24 {
+            assert_eq!(found(meter), total(meter) % modulus(meter), "meter {meter}");
+        }
+    }
+
     /// Every reader sees the book's bytes, and a cut here would leave the pages.
     fn agree(&self) {
         for page in 0..self.store.state.sizes.p {
@@ -172,16 +219,35 @@ impl Both {
 
 #[test]
 fn the_model_keeps_the_book() {
-    let (mut taken, mut freed) = (0, 0);
+    let (mut taken, mut freed, mut events) = (0, 0, 0);
     for seed in 0..120 {
-        let mut both = Both::new(seed);
+        let mut both = Both::new(seed, false);
         for _ in 0..120 {
             both.turn();
             both.agree();
         }
         taken += both.taken;
         freed += both.freed;
+        events += both.book.events.len();
     }
     assert!(taken > 1_000, "only {taken} operations were taken");
     assert!(freed > 30, "only {freed} slots were freed");
+    assert!(events > 30, "only {events} events were completed");
+}
+
+/// Document 02: where nothing but events writes to page 0, credit is cash in minus cash out minus bet plus won over the completed events, and the other
+/// meters are their totals by remainder.
+#[test]
+fn the_meters_add_up() {
+    let mut events = 0;
+    for seed in 0..120 {
+        let mut both = Both::new(seed, true);
+        for _ in 0..120 {
+            both.turn();
+            both.adds_up();
+        }
+        both.agree();
+        events += both.book.events.len();
+    }
+    assert!(events > 300, "only {events} events were completed");
 }

@@ -64,6 +64,8 @@ enum Call {
     Commit(u64),
     Consolidate(u64),
     Checkpoint,
+    FreeSlot,
+    Event(u64, u64, u64),
     Run(u64),
     Mount,
     Read((u64, u64, u64)),
@@ -88,6 +90,10 @@ fn any_call(rng: &mut Rng, pages: u64) -> Call {
         15 => Call::Read((writer, page, line)),
         16 => Call::Recall(page, line),
         17 if rng.percent(25) => Call::Mount,
+        18 if rng.percent(50) => {
+            Call::Event(rng.pick(&[1, 3, 5]), rng.pick(&[23, 24]), rng.pick(&[7, 300, 9_999]))
+        }
+        18 if rng.percent(20) => Call::FreeSlot,
         _ => Call::Run(rng.pick(&[0, 1, 3, 9, 600, 600, 600])),
     }
 }
@@ -105,6 +111,8 @@ fn perform(store: &mut Store, call: &Call) -> (Result<u64, u8>, [u8; 64]) {
         Call::Commit(writer) => store.ask_commit(*writer),
         Call::Consolidate(page) => store.ask_consolidate(*page),
         Call::Checkpoint => store.ask_checkpoint(),
+        Call::FreeSlot => store.ask_free_slot(),
+        Call::Event(kind, meter, amount) => store.ask_event(*kind, *meter, *amount),
         Call::Run(k) => store.run(*k),
         Call::Mount => store.mount().map(|()| 0),
         Call::Read(place) => {

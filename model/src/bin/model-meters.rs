@@ -1,7 +1,7 @@
 //! The store's program `metering`, played by the model.
 //!
-//! The model has no events: each is played here as the transaction that document 02 says it is, call by call, with a budget of stores. The meters are
-//! kept beside it as plain numbers, and every line read is held to them.
+//! Each event is played as the transaction that document 02 says it is, call by call, with a budget of stores, and not by the model's own event. The
+//! meters are kept beside it as plain numbers, and every line read is held to them.
 
 use model::calls::{begin, checkpoint, commit, read, run, write, Patch};
 use model::layout::Sizes;

@@ -2,8 +2,9 @@
 //!
 //! Its tables stand by call, where document 01's table stands by number, and its reader goes from left to right.
 
-use model::calls::{begin, consolidate, free_slot, run, write, Patch};
+use model::calls::{abort, begin, consolidate, event, free_slot, run, write, Patch};
 use model::layout::Sizes;
+use model::meters::Asked;
 use model::mount::format;
 use model::refusal::Refusal;
 use model::state::State;
@@ -30,7 +31,7 @@ const fn call(name: &'static str, given: &str, numbers: &'static [u64]) -> Call 
     Call { name, writer, page, line, numbers }
 }
 
-const CALLS: [Call; 13] = [
+const CALLS: [Call; 14] = [
     call("Format", "", &[3, 4]),
     call("Mount", "", &[1, 2, 3, 4, 5, 6, 7]),
     call("Recall", "pl", &[1, 2, 3, 4, 5, 6, 7, 11]),
@@ -44,10 +45,12 @@ const CALLS: [Call; 13] = [
     call("Step", "", &[4, 8, 10]),
     call("Run", "", &[4, 8, 10]),
     call("Free slot", "", &[4, 8, 9, 19, 22]),
+    call("Event", "", &[4, 8, 9, 12, 14, 15, 16, 19, 20, 21]),
 ];
 const WRITE: usize = 5;
 const CONSOLIDATE: usize = 7;
 const FREE_SLOT: usize = 12;
+const EVENT: usize = 13;
 
 fn text(number: u64) -> &'static str {
     match number {
@@ -70,6 +73,8 @@ fn text(number: u64) -> &'static str {
         17 => "the page has no slot",
         18 => "a writer holds a line of the page",
         19 => "the journal has no room for the records",
+        20 => "the event or its meter is unknown",
+        21 => "the amount or the new credit is out of range",
         22 => "there is no taken slot without a held line",
         _ => unreachable!("no number of the table"),
     }
@@ -204,7 +209,7 @@ fn show_odd() {
         sentence.replace(", held by writer 2", ""),
         sentence.replace("Write ", "Begin ").replace(", page 3, line 5", ""),
         sentence.replace("(14)", "(13)").replace(", held by writer 2", ""),
-        "Free slot refused (20): .".to_string(),
+        "Free slot refused (23): .".to_string(),
         format!("{mount} "),
         mount.trim_end_matches('.').to_string(),
         String::new(),
@@ -252,6 +257,39 @@ impl Store {
         self.tell(CONSOLIDATE, refusal, Met { writer: 0, page, line: 0, holder });
     }
 
+    /// Turned back, or run to its end.
+    fn event(&mut self, kind: u64, meter: u64) {
+        let asked = Asked { kind, meter, amount: 1 };
+        match event(&mut self.state, &self.image, asked) {
+            Ok(needed) => assert_eq!(run(&mut self.state, &mut self.image, needed), Ok(needed)),
+            Err(refusal) => {
+                let lines = asked.meters();
+                let holder = self.holder(0, Some(1), |held| lines.iter().any(|line| held >> line & 1 == 1));
+                self.tell(EVENT, refusal, Met { writer: 0, page: 0, line: 0, holder });
+            }
+        }
+    }
+
+    fn events(&mut self) {
+        self.event(6, 0);
+        self.event(3, 0);
+        for writer in [1, 3] {
+            abort(&mut self.state, writer).expect("a taken abort");
+        }
+        self.event(3, 0);
+        let needed = consolidate(&mut self.state, &self.image, 1).expect("a taken consolidation");
+        assert_eq!(run(&mut self.state, &mut self.image, needed), Ok(needed));
+        begin(&mut self.state, 2).expect("a taken begin");
+        self.write(2, 0, 3);
+        self.write(0, 0, 0);
+        self.event(3, 0);
+        abort(&mut self.state, 0).expect("a taken abort");
+        self.event(3, 0);
+        self.event(2, 0);
+        self.event(5, 5);
+        self.event(5, 5);
+    }
+
     fn free_slot(&mut self) {
         let refusal = free_slot(&mut self.state, &self.image).expect_err("a refusal");
         self.tell(FREE_SLOT, refusal, Met { writer: 0, page: 0, line: 0, holder: 0 });
@@ -271,10 +309,11 @@ fn show_met() {
     store.consolidate(1);
     store.consolidate(0);
     store.free_slot();
+    store.events();
 }
 
 fn main() {
-    (0..14).for_each(show_call);
+    (0..15).for_each(show_call);
     show_odd();
     show_met();
 }

@@ -4,6 +4,7 @@
 use model::calls::{self, Patch};
 use model::image::word;
 use model::layout::Sizes;
+use model::meters::Asked;
 use model::mount::{format, mount};
 use model::refusal::Refusal;
 use model::state::State;
@@ -63,6 +64,10 @@ impl Store {
         numbered(calls::checkpoint(&mut self.state, &self.image))
     }
 
+    pub fn ask_event(&mut self, kind: u64, meter: u64, amount: u64) -> Answer {
+        numbered(calls::event(&mut self.state, &self.image, Asked { kind, meter, amount }))
+    }
+
     pub fn run(&mut self, k: u64) -> Answer {
         numbered(calls::run(&mut self.state, &mut self.image, k))
     }
@@ -98,6 +103,11 @@ impl Store {
 
     pub fn free_slot(&mut self) -> Answer {
         let asked = self.ask_free_slot();
+        self.finish(asked)
+    }
+
+    pub fn event(&mut self, kind: u64, meter: u64, amount: u64) -> Answer {
+        let asked = self.ask_event(kind, meter, amount);
         self.finish(asked)
     }
 

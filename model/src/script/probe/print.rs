@@ -38,5 +38,7 @@ fn pending(state: &State) -> Vec<u64> {
         Operation::Commit { writer } => vec![2, *writer, 0, 0, 0, 0, made, 0],
         Operation::Consolidate { page } => vec![3, *page, 0, 0, 0, 0, made, 0],
         Operation::Checkpoint => vec![4, 0, 0, 0, 0, 0, made, 0],
+        // no line of probe asks for one
+        Operation::Event(e) => vec![5, e.asked.kind, e.asked.meter, e.asked.amount, 0, 0, made, e.frame],
     }
 }
