@@ -13,7 +13,7 @@ use Rattle.wording.specs.Calls.{takesWriter, takesPage, takesLine, meetsWriter}
 use Rattle.wording.specs.Words.{codes, nameOf, textOf, isDigit, plain}
 use Rattle.wording.proofs.Wording.{Fits, name-fits, text-fits}
 use Rattle.reasons.specs.declared.Reason.{Reason}
-use Rattle.reasons.specs.Sentence.{opening, field, pageLabel, closing, sentence}
+use Rattle.reasons.specs.Sentence.{opening, field, pageLabel, holderLabel, closing, sentence}
 use Rattle.reason_reading.specs.Numbers.{goesOn, numbersFrom, numbersIn}
 use Rattle.reason_reading.proofs.Scanning.{Digit, is-digit, at-digit, at-gap, at-end}
 use Rattle.reason_reading.proofs.Guessing.{given}
@@ -109,7 +109,7 @@ writer-label : Label (codes ". Writer ")
 unfolding codes plain starts
 writer-label = record { clear = refl; begins = refl }
 
-page-label : (second : Bool) → Label (pageLabel second)
+page-label : (later : Bool) → Label (pageLabel later)
 unfolding codes plain starts
 page-label true = record { clear = refl; begins = refl }
 page-label false = record { clear = refl; begins = refl }
@@ -118,9 +118,10 @@ line-label : Label (codes ", line ")
 unfolding codes plain starts
 line-label = record { clear = refl; begins = refl }
 
-holder-label : Label (codes ", held by writer ")
+holder-label : (later : Bool) → Label (holderLabel later)
 unfolding codes plain starts
-holder-label = record { clear = refl; begins = refl }
+holder-label true = record { clear = refl; begins = refl }
+holder-label false = record { clear = refl; begins = refl }
 
 dot-label : Label (codes ".")
 unfolding codes plain starts
@@ -160,37 +161,40 @@ module _ (r : Reason) (s : Small r) where
   abbrev has-writer : Bool
   has-writer = takesWriter (r .call)
 
+  abbrev has-page : Bool
+  has-page = takesPage (r .call)
+
   abbrev after-holder : List ℕ
   after-holder = codes "."
 
   abbrev after-line : List ℕ
-  after-line = field (meetsWriter (r .number)) (codes ", held by writer ") (r .holder) ++ after-holder
+  after-line = field (meetsWriter (r .number)) (holderLabel has-page) (r .holder) ++ after-holder
 
   abbrev after-page : List ℕ
   after-page = field (takesLine (r .call)) (codes ", line ") (r .line) ++ after-line
 
   abbrev after-writer : List ℕ
-  after-writer = field (takesPage (r .call)) (pageLabel has-writer) (r .page) ++ after-page
+  after-writer = field has-page (pageLabel has-writer) (r .page) ++ after-page
 
   starts-line : starts after-line ≡ true
-  starts-line = starts-field (meetsWriter (r .number)) (codes ", held by writer ") (r .holder) after-holder (holder-label .begins) (dot-label .begins)
+  starts-line = starts-field (meetsWriter (r .number)) (holderLabel has-page) (r .holder) after-holder (holder-label has-page .begins) (dot-label .begins)
 
   starts-page : starts after-page ≡ true
   starts-page = starts-field (takesLine (r .call)) (codes ", line ") (r .line) after-line (line-label .begins) starts-line
 
   starts-writer : starts after-writer ≡ true
-  starts-writer = starts-field (takesPage (r .call)) (pageLabel has-writer) (r .page) after-page (page-label has-writer .begins) starts-page
+  starts-writer = starts-field has-page (pageLabel has-writer) (r .page) after-page (page-label has-writer .begins) starts-page
 
   numbers-closing : numbersFrom false 0 (closing r) ≡ fieldsOf r
   unfolding closing
   numbers-closing =
       numbers-field has-writer (codes ". Writer ") (r .writer) after-writer (writer-label .clear) (s .writer) starts-writer
       ∙ ap (λ (l : List ℕ). given has-writer (r .writer) ++ l)
-      (numbers-field (takesPage (r .call)) (pageLabel has-writer) (r .page) after-page (page-label has-writer .clear) (s .page) starts-page
-      ∙ ap (λ (l : List ℕ). given (takesPage (r .call)) (r .page) ++ l)
+      (numbers-field has-page (pageLabel has-writer) (r .page) after-page (page-label has-writer .clear) (s .page) starts-page
+      ∙ ap (λ (l : List ℕ). given has-page (r .page) ++ l)
       (numbers-field (takesLine (r .call)) (codes ", line ") (r .line) after-line (line-label .clear) (s .line) starts-line
       ∙ ap (λ (l : List ℕ). given (takesLine (r .call)) (r .line) ++ l)
-      (numbers-field (meetsWriter (r .number)) (codes ", held by writer ") (r .holder) after-holder (holder-label .clear) (s .holder) (dot-label .begins)
+      (numbers-field (meetsWriter (r .number)) (holderLabel has-page) (r .holder) after-holder (holder-label has-page .clear) (s .holder) (dot-label .begins)
       ∙ ap (λ (l : List ℕ). given (meetsWriter (r .number)) (r .holder) ++ l) dot-none)))
 
   pub numbers-sentence : numbersIn (sentence r) ≡ r .number ∷ fieldsOf r

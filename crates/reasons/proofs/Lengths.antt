@@ -1,6 +1,6 @@
 -- How long the parts of a sentence are, and what decimals promises of a text, as a text put.
 use mathlib.Core.Path.{_≡_, refl}
-use mathlib.Core.Bool.{Bool, true, false}
+use mathlib.Core.Bool.{Bool, true, false, cond}
 use mathlib.Core.List.{List, _++_}
 use Prim.Native.Nat.{ℕ, _+_, _<_, _≤_}
 use native.Mathlib.Omega.{arith}
@@ -17,7 +17,7 @@ use Rattle.wording.specs.Calls.{numberCount}
 use Rattle.wording.specs.Words.{codes, nameOf, textOf}
 use Rattle.wording.proofs.Wording.{Fits, name-fits, text-fits}
 use Rattle.reasons.specs.declared.Reason.{Reason}
-use Rattle.reasons.specs.Sentence.{opening, field, pageLabel}
+use Rattle.reasons.specs.Sentence.{opening, field, pageLabel, holderLabel}
 
 pub as-put : {l xs m : List ℕ} {a b : ℕ} → (m ≡ over l a xs) × (b ≡ a + length xs) → Put l a xs m b
 as-put h = record { laid = h .0; place = h .1 }
@@ -50,14 +50,25 @@ unfolding field
 field-le true label v = omega (arith, length-append label (decimalOf v), decimal-le v)
 field-le false label v = omega arith
 
-pub page-le : (has second : Bool) (v : ℕ) → length (field has (pageLabel second) v) ≤ 27
+pub joined-le : (has later : Bool) (label first : List ℕ) (v n : ℕ) → length label ≡ n → length first ≡ n
+    → length (field has (cond later label first) v) ≤ n + 20
+joined-le has true label first v n e f = omega (arith, field-le has label v, e)
+joined-le has false label first v n e f = omega (arith, field-le has first v, f)
+
+pub page-le : (has later : Bool) (v : ℕ) → length (field has (pageLabel later) v) ≤ 27
 unfolding codes
-page-le has true v = field-le has (codes ", page ") v
-page-le has false v = field-le has (codes ". Page ") v
+page-le has later v = joined-le has later (codes ", page ") (codes ". Page ") v 7 refl refl
+
+pub holder-le : (has later : Bool) (v : ℕ) → length (field has (holderLabel later) v) ≤ 37
+unfolding codes
+holder-le has later v = joined-le has later (codes ", held by writer ") (codes ". Held by writer ") v 17 refl refl
 
 -- where a field that was put ends
 pub field-end : {l m : List ℕ} {a b : ℕ} (has : Bool) (label : List ℕ) (v : ℕ) → Put l a (field has label v) m b → b ≤ a + (length label + 20)
 field-end has label v p = omega (arith, p .place, field-le has label v)
 
-pub page-end : {l m : List ℕ} {a b : ℕ} (has second : Bool) (v : ℕ) → Put l a (field has (pageLabel second) v) m b → b ≤ a + 27
-page-end has second v p = omega (arith, p .place, page-le has second v)
+pub page-end : {l m : List ℕ} {a b : ℕ} (has later : Bool) (v : ℕ) → Put l a (field has (pageLabel later) v) m b → b ≤ a + 27
+page-end has later v p = omega (arith, p .place, page-le has later v)
+
+pub holder-end : {l m : List ℕ} {a b : ℕ} (has later : Bool) (v : ℕ) → Put l a (field has (holderLabel later) v) m b → b ≤ a + 37
+holder-end has later v p = omega (arith, p .place, holder-le has later v)

@@ -17,8 +17,8 @@ use Rattle.wording.proofs.Returns.{Known, known}
 use Rattle.wording.proofs.Wording.{Fits, name-fits, text-fits, plain-printable, printable-append}
 use Rattle.reasons.specs.declared.Reason.{Reason}
 use Rattle.reasons.specs.declared.Composed.{Composed}
-use Rattle.reasons.specs.Sentence.{opening, field, pageLabel, closing, sentence, composeRow, composed, composedIn}
-use Rattle.reasons.proofs.Lengths.{opening-le, field-le, page-le}
+use Rattle.reasons.specs.Sentence.{opening, field, pageLabel, holderLabel, closing, sentence, composeRow, composed, composedIn}
+use Rattle.reasons.proofs.Lengths.{opening-le, field-le, page-le, holder-le}
 
 -- ---- how long
 
@@ -28,13 +28,13 @@ closing-le r =
     let w = field (takesWriter (r .call)) (codes ". Writer ") (r .writer) in
     let p = field (takesPage (r .call)) (pageLabel (takesWriter (r .call))) (r .page) in
     let l = field (takesLine (r .call)) (codes ", line ") (r .line) in
-    let h = field (meetsWriter (r .number)) (codes ", held by writer ") (r .holder) in
+    let h = field (meetsWriter (r .number)) (holderLabel (takesPage (r .call))) (r .holder) in
     omega (
       arith,
       field-le (takesWriter (r .call)) (codes ". Writer ") (r .writer),
       page-le (takesPage (r .call)) (takesWriter (r .call)) (r .page),
       field-le (takesLine (r .call)) (codes ", line ") (r .line),
-      field-le (meetsWriter (r .number)) (codes ", held by writer ") (r .holder),
+      holder-le (meetsWriter (r .number)) (takesPage (r .call)) (r .holder),
       length-append w (p ++ (l ++ (h ++ codes "."))),
       length-append p (l ++ (h ++ codes ".")),
       length-append l (h ++ codes "."),
@@ -62,10 +62,15 @@ unfolding field printable
 field-printable true label v e = printable-append label (decimalOf v) e (digits-printable 20 v)
 field-printable false label v e = refl
 
-page-printable : (second : Bool) → printable (pageLabel second) ≡ true
+page-printable : (later : Bool) → printable (pageLabel later) ≡ true
 unfolding codes printable
 page-printable true = refl
 page-printable false = refl
+
+holder-printable : (later : Bool) → printable (holderLabel later) ≡ true
+unfolding codes printable
+holder-printable true = refl
+holder-printable false = refl
 
 opening-printable : (c n : ℕ) → printable (opening c n) ≡ true
 unfolding opening codes printable
@@ -85,13 +90,13 @@ before-printable has label v rest e f = printable-append (field has label v) res
 closing-printable : (r : Reason) → printable (closing r) ≡ true
 unfolding closing codes printable
 closing-printable r =
-    let holder = field (meetsWriter (r .number)) (codes ", held by writer ") (r .holder) ++ codes "." in
+    let holder = field (meetsWriter (r .number)) (holderLabel (takesPage (r .call))) (r .holder) ++ codes "." in
     let line = field (takesLine (r .call)) (codes ", line ") (r .line) ++ holder in
     let page = field (takesPage (r .call)) (pageLabel (takesWriter (r .call))) (r .page) ++ line in
     before-printable (takesWriter (r .call)) (codes ". Writer ") (r .writer) page refl
     (before-printable (takesPage (r .call)) (pageLabel (takesWriter (r .call))) (r .page) line (page-printable (takesWriter (r .call)))
     (before-printable (takesLine (r .call)) (codes ", line ") (r .line) holder refl
-    (before-printable (meetsWriter (r .number)) (codes ", held by writer ") (r .holder) (codes ".") refl refl)))
+    (before-printable (meetsWriter (r .number)) (holderLabel (takesPage (r .call))) (r .holder) (codes ".") (holder-printable (takesPage (r .call))) refl)))
 
 -- ---- both, of each sentence that can be composed
 

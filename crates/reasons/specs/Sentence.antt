@@ -21,9 +21,12 @@ unfoldable pub field : Bool → List ℕ → ℕ → List ℕ
 field true label v = label ++ decimalOf v
 field false label v = []
 
--- the page is the second field, or the first
+-- a page comes after a writer, and a writer in the way after a page, or it is the first field
 abbrev pub pageLabel : Bool → List ℕ
-pageLabel second = cond second (codes ", page ") (codes ". Page ")
+pageLabel later = cond later (codes ", page ") (codes ". Page ")
+
+abbrev pub holderLabel : Bool → List ℕ
+holderLabel later = cond later (codes ", held by writer ") (codes ". Held by writer ")
 
 -- what the call was given, and the writer in its way
 unfoldable pub closing : Reason → List ℕ
@@ -31,7 +34,7 @@ closing r =
     field (takesWriter (r .call)) (codes ". Writer ") (r .writer)
     ++ (field (takesPage (r .call)) (pageLabel (takesWriter (r .call))) (r .page)
     ++ (field (takesLine (r .call)) (codes ", line ") (r .line)
-    ++ (field (meetsWriter (r .number)) (codes ", held by writer ") (r .holder)
+    ++ (field (meetsWriter (r .number)) (holderLabel (takesPage (r .call))) (r .holder)
     ++ codes ".")))
 
 unfoldable pub sentence : Reason → List ℕ

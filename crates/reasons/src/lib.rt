@@ -1,10 +1,11 @@
 // Reasons in words: a refusal as a sentence for the service screen.
 ghost use mathlib.Core.Path.{_≡_};
+ghost use mathlib.Core.Bool.{cond};
 ghost use Prim.Native.Nat.{_+_, _<_, _≤_};
 ghost use lib.ListN.{length};
 ghost use Rattle.number_text.specs.Text.{Put};
 ghost use Rattle.wording.specs.Calls.{callCount, numberCount};
-ghost use Rattle.reasons.specs.Sentence.{opening, field, pageLabel, closing, composed, composedIn};
+ghost use Rattle.reasons.specs.Sentence.{opening, field, closing, composed, composedIn};
 
 // A refused call, the number of the row that turned it back, and what it met: the writer, page and line that it was given
 // and the lowest writer in its way. Where the call is given none, or none is in its way, the field says nothing.
@@ -47,15 +48,24 @@ fn put_field(out: &mut [u8], at: usize, has: bool, label: &[u8], v: usize) -> us
     decimals::put_decimal(out, next, v as u64)
 }
 
-// The page, as the second field or the first.
-fn put_page(out: &mut [u8], at: usize, has: bool, second: bool, page: usize) -> usize
-    requires { ⌜ at + 27 ≤ length (now out) ⌝ }
-    ensures { λ r. ⌜ Put (now (out .entry)) at (field has (pageLabel second) page) (now (out .exit)) r ⌝ }
+// A number after its label, of which there are two: for a later field, and for the first.
+fn put_joined(
+    out: &mut [u8],
+    at: usize,
+    has: bool,
+    later: bool,
+    label: &[u8],
+    first: &[u8],
+    v: usize,
+) -> usize
+    requires { ⌜ at + length (now label) + 20 ≤ length (now out) ⌝ }
+    requires { ⌜ at + length (now first) + 20 ≤ length (now out) ⌝ }
+    ensures { λ r. ⌜ Put (now (out .entry)) at (field has (cond later (now (label .entry)) (now (first .entry))) v) (now (out .exit)) r ⌝ }
 {
-    if second {
-        return put_field(out, at, has, b", page ", page);
+    if later {
+        return put_field(out, at, has, label, v);
     }
-    put_field(out, at, has, b". Page ", page)
+    put_field(out, at, has, first, v)
 }
 
 // What the call was given, and the writer in its way.
@@ -68,9 +78,25 @@ fn put_closing(out: &mut [u8], at: usize, reason: Reason) -> usize
     let has_line = wording::takes_line(reason.call);
     let met = wording::meets_writer(reason.number);
     let next = put_field(out, at, has_writer, b". Writer ", reason.writer);
-    let next = put_page(out, next, has_page, has_writer, reason.page);
+    let next = put_joined(
+        out,
+        next,
+        has_page,
+        has_writer,
+        b", page ",
+        b". Page ",
+        reason.page,
+    );
     let next = put_field(out, next, has_line, b", line ", reason.line);
-    let next = put_field(out, next, met, b", held by writer ", reason.holder);
+    let next = put_joined(
+        out,
+        next,
+        met,
+        has_page,
+        b", held by writer ",
+        b". Held by writer ",
+        reason.holder,
+    );
     decimals::put_byte(out, next, b'.')
 }
 

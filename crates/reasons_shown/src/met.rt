@@ -1,11 +1,14 @@
 // Refusals that a store gives: what the call met, as a sentence.
 use answers::Done;
 use layout::Sizes;
+use reasons::Reason;
 use state::State;
 
-// Calls with their writer, page and line. Writers 3 and 1 hold lines 5 and 6 of page 1; then 0 and 3 want line 6, and 0 line 5 and another page,
-// and pages 1 and 0 are to be consolidated and a slot freed.
-const CALLS: [[usize; 4]; 14] = [
+// Calls with their writer, page and line, an event with its kind, meter and amount. Writers 3 and 1 hold lines 5 and 6 of page 1; then 0 and 3 want
+// line 6, and 0 line 5 and another page, and pages 1 and 0 are to be consolidated and a slot freed. Then come an unknown event and bets: writer 1 is
+// open, there is no slot, writer 0 holds credit's line and 2 the bet's, 2 the bet's alone; then there is no credit to cash out, and of two counts the
+// second has no room.
+const CALLS: [[usize; 4]; 29] = [
     [wording::BEGIN, 3, 0, 0],
     [wording::BEGIN, 1, 0, 0],
     [wording::BEGIN, 0, 0, 0],
@@ -20,15 +23,40 @@ const CALLS: [[usize; 4]; 14] = [
     [wording::CONSOLIDATE, 0, 1, 0],
     [wording::CONSOLIDATE, 0, 0, 0],
     [wording::FREE_SLOT, 0, 0, 0],
+    [wording::EVENT, 6, 0, 1],
+    [wording::EVENT, 3, 0, 1],
+    [wording::ABORT, 1, 0, 0],
+    [wording::ABORT, 3, 0, 0],
+    [wording::EVENT, 3, 0, 1],
+    [wording::CONSOLIDATE, 0, 1, 0],
+    [wording::BEGIN, 2, 0, 0],
+    [wording::WRITE, 2, 0, 3],
+    [wording::WRITE, 0, 0, 0],
+    [wording::EVENT, 3, 0, 1],
+    [wording::ABORT, 0, 0, 0],
+    [wording::EVENT, 3, 0, 1],
+    [wording::EVENT, 2, 0, 1],
+    [wording::EVENT, 5, 5, 1],
+    [wording::EVENT, 5, 5, 1],
 ];
 
 // Makes a call.
 fn make(st: State, image: &[u8], row: &[usize; 4]) -> Done {
     match row[0] {
         wording::BEGIN => writers::begin(st, row[1]),
+        wording::ABORT => writers::abort(st, row[1]),
         wording::WRITE => transactions::write(st, image, row[1], row[2], row[3], 0, 1, b"x"),
         wording::CONSOLIDATE => transactions::consolidate(st, image, row[2]),
+        wording::EVENT => events::event(st, image, row[1], row[2], row[3] as u64),
         _ => freeing::free_slot(st, image),
+    }
+}
+
+// What a call met that was turned back with a number.
+fn met(st: State, number: usize, row: &[usize; 4]) -> Reason {
+    match row[0] {
+        wording::EVENT => refusals::event_met(st, number, row[1], row[2]),
+        _ => refusals::reason_met(st, row[0], number, row[1], row[2], row[3]),
     }
 }
 
@@ -37,7 +65,7 @@ fn tell(done: Done, row: &[usize; 4]) {
     let mut target = [0; 200];
     let answer = done.answer;
     let number = answers::number_of(answer);
-    let reason = refusals::reason_met(done.state, row[0], number, row[1], row[2], row[3]);
+    let reason = met(done.state, number, row);
     let composed = reasons::compose(reason, &mut target);
     if composed.number != 0 {
         return;
@@ -55,10 +83,10 @@ pub fn show_met() {
         places: 2,
     };
     let mut st = mounting::format(&mut image, z).state;
-    for k in 0..14 {
+    for k in 0..29 {
         let row = CALLS[k];
         let done = make(st, &image, &row);
         tell(done, &row);
-        st = stepping::run(done.state, &mut image, 8).state;
+        st = stepping::run(done.state, &mut image, 13).state;
     }
 }

@@ -1,8 +1,8 @@
 -- Where row 14 or 18 turns a call back, a writer stands in its way, and the one that is said is the lowest.
 use mathlib.Core.Path.{_≡_, refl, subst}
-use mathlib.Core.Bool.{Bool, true, false, not, _||_}
+use mathlib.Core.Bool.{Bool, true, false, not, _&&_, _||_}
 use mathlib.Core.List.{List}
-use Prim.Native.Nat.{ℕ, _+_, _<_}
+use Prim.Native.Nat.{ℕ, _+_, _<_, min}
 use native.Mathlib.Omega.{arith}
 use lib.Dec.{ltb, leb, eqb}
 use borrow.Author.Tests.{ltb-true, ltb-false, not-false, eqb-true, eqb-false}
@@ -13,13 +13,15 @@ use Rattle.bounded.proofs.Below.{first-le, first-holds, first-before, none-made
 use Rattle.layout.specs.declared.Sizes.{Sizes}
 use Rattle.layout.specs.Layout.{sizesOk, Legal}
 use Rattle.layout.proofs.LayoutLaws.{legal}
+use Rattle.meters.specs.Meters.{eventKnown, firstMeter, ownMeter}
+use Rattle.meters.proofs.MeterLaws.{first-low, own-range}
 use Rattle.state.specs.declared.State.{State}
 use Rattle.state.specs.Held.{othersHold, someHold}
 use Rattle.operations.specs.Operations.{slotFor, slotted}
 use Rattle.validity.specs.Validity.{stateOk, slotsOk}
 use Rattle.validity.proofs.Ranged.{slots-good}
-use Rattle.refinement.specs.Calls.{writeCallRows, consolidateCallRows}
-use Rattle.refusals.specs.Met.{holdsLine, holdsSlot, slotMet, lineHolder, pageHolder, Lowest}
+use Rattle.refinement.specs.Calls.{writeCallRows, consolidateCallRows, eventCallRows}
+use Rattle.refusals.specs.Met.{holdsLine, holdsSlot, slotMet, lineHolder, pageHolder, eventHolder, Lowest}
 use Rattle.refusals.proofs.Slots.{has-slot, line-first, page-first}
 use Rattle.refusals.proofs.OnlyRow.{Stopped, stopped}
 
@@ -76,3 +78,44 @@ consolidate-met st img p e =
     subst (λ (v : ℕ). Lowest (holdsSlot (st .writers .held) (slotFor st p)) v)
     (page-first st p (slotFor st p) (slot st p (s .past .0) has) (slot-low st p (s .past .0) has))
     (lowest (holdsSlot (st .writers .held) (slotFor st p)) (s .applies))
+
+-- 14, of an event: on either of its lines
+two-lowest : (f g : ℕ → Bool) → someBelow 4 f || someBelow 4 g ≡ true → Lowest (λ v. f v || g v) (min (firstBelow 4 f) (firstBelow 4 g))
+two-lowest f g e =
+    let a = firstBelow 4 f in
+    let b = firstBelow 4 g in
+    let low : min a b < 4 =
+    caseOn (someBelow 4 f) (λ t. omega (arith, lowest f t .writer)) (λ t. omega (arith, lowest g (rw t at e) .writer)) in
+    record {
+      writer = low;
+      stands =
+          caseOn (ltb a b)
+          (λ t.
+          let m : min a b ≡ a = omega (arith, ltb-true a b t) in
+          rw (m, first-holds f 4 (omega arith)))
+          (λ t.
+          let m : min a b ≡ b = omega (arith, ltb-false a b t) in
+          rw (m, first-holds g 4 (omega arith)) (or-true (f b)));
+      lowest = λ u h. rw (first-before f 4 u (omega arith), first-before g 4 u (omega arith));
+    }
+  where
+    or-true : (b : Bool) → b || true ≡ true
+    or-true true = refl
+    or-true false = refl
+
+both : (s a b : Bool) → (s && a) || (s && b) ≡ true → (s ≡ true) × (a || b ≡ true)
+both true a b e = (refl, e)
+both false a b e = contradicts e refl
+
+pub event-met : (st : State) (img : List ℕ) (k m a : ℕ) → refusal (eventCallRows st img k m a) ≡ 14
+    → Lowest (λ v. holdsLine (st .writers .held) 1 (slotFor st 0) (firstMeter k m) v || holdsLine (st .writers .held) 1 (slotFor st 0) (ownMeter k m) v) (eventHolder st k m)
+unfolding othersHold eventHolder
+event-met st img k m a e =
+    let s = stopped (eventCallRows st img k m a) 5 14 refl e in
+    let f = holdsLine (st .writers .held) 1 (slotFor st 0) (firstMeter k m) in
+    let g = holdsLine (st .writers .held) 1 (slotFor st 0) (ownMeter k m) in
+    let h = both (slotted st 0) (someBelow 4 f) (someBelow 4 g) (s .applies) in
+    let known = not-false (eventKnown k m) (s .past .1 .1 .1 .0) in
+    let first = line-first st 0 (slotFor st 0) (slot st 0 (s .past .0) (h .0)) 1 (firstMeter k m) (slot-low st 0 (s .past .0) (h .0)) (omega (arith, first-low k m known)) in
+    let own = line-first st 0 (slotFor st 0) (slot st 0 (s .past .0) (h .0)) 1 (ownMeter k m) (slot-low st 0 (s .past .0) (h .0)) (omega (arith, own-range k m known .1)) in
+    rw (← first, ← own) (two-lowest f g (h .1))

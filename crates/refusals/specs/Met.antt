@@ -1,5 +1,5 @@
 -- What a refused call met (document 02, L1): what it was given and, for 14 and 18, the lowest writer in its way.
-use Prim.Native.Nat.{ℕ, _<_}
+use Prim.Native.Nat.{ℕ, _<_, min}
 use mathlib.Core.Bool.{Bool, true, false, not, cond, _&&_}
 use mathlib.Core.List.{List}
 use mathlib.Core.Path.{_≡_}
@@ -11,7 +11,8 @@ use Rattle.masks.specs.Lines.{inMask}
 use Rattle.state.specs.declared.State.{State}
 use Rattle.state.specs.Slots.{slotOfPage}
 use Rattle.state.specs.Held.{heldAt}
-use Rattle.wording.specs.Calls.{takesWriter, takesPage, takesLine}
+use Rattle.meters.specs.Meters.{firstMeter, ownMeter}
+use Rattle.wording.specs.Calls.{takesWriter, takesPage, takesLine, event}
 use Rattle.reasons.specs.declared.Reason.{Reason}
 
 -- 14: whether writer v, other than w, holds line l of slot s; 18: whether v holds a line of slot s
@@ -36,6 +37,10 @@ pageHolder st p =
     let s = slotMet (st .sizes) (st .table .page) p in
     cond (ltb s 16) (firstBelow 4 (holdsSlot (st .writers .held) s)) 4
 
+-- of an event, which writes one or two lines of page 0 as writer 1
+unfoldable pub eventHolder : State → ℕ → ℕ → ℕ
+eventHolder st k m = min (lineHolder st 1 0 (firstMeter k m)) (lineHolder st 1 0 (ownMeter k m))
+
 unfoldable pub holderMet : State → ℕ → ℕ → ℕ → ℕ → ℕ
 holderMet st n w p l = cond (eqb n 14) (lineHolder st w p l) (cond (eqb n 18) (pageHolder st p) 0)
 
@@ -50,6 +55,11 @@ reasonMet st c n w p l =
       line = cond (takesLine c) l 0;
       holder = holderMet st n w p l;
     }
+
+-- the reason of event k, of meter m, turned back with n: it is given no writer, page or line
+unfoldable pub eventMet : State → ℕ → ℕ → ℕ → Reason
+eventMet st n k m =
+    record { call = event; number = n; writer = 0; page = 0; line = 0; holder = cond (eqb n 14) (eventHolder st k m) 0 }
 
 -- v is the lowest of the four writers that stand in the way
 pub record Lowest (inTheWay : ℕ → Bool) (v : ℕ) : Type 0 where

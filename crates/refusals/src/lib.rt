@@ -4,7 +4,7 @@ ghost use mathlib.Core.Path.{_≡_};
 ghost use mathlib.Core.Bool.{cond};
 ghost use Prim.Native.Nat.{_<_};
 ghost use Rattle.bounded.specs.Below.{firstBelow};
-ghost use Rattle.refusals.specs.Met.{holdsLine, holdsSlot, slotMet, lineHolder, pageHolder, holderMet, reasonMet};
+ghost use Rattle.refusals.specs.Met.{holdsLine, holdsSlot, slotMet, lineHolder, pageHolder, eventHolder, holderMet, reasonMet, eventMet};
 use layout::Sizes;
 use reasons::Reason;
 use state::State;
@@ -78,6 +78,15 @@ pub fn page_holder(st: State, page: usize) -> usize
     first_of_slot(&st.writers.held, s)
 }
 
+// The lowest writer in the way of an event (row 14), 4 where there is none. A count has one line, an event that moves credit two.
+pub fn event_holder(st: State, kind: usize, meter: usize) -> usize
+    ensures { λ r. ⌜ r ≡ eventHolder st kind meter ⌝ }
+{
+    let first = line_holder(st, 1, 0, meters::first_meter(kind, meter));
+    let own = line_holder(st, 1, 0, meters::own_meter(kind, meter));
+    if first < own { first } else { own }
+}
+
 // The writer in the way of a call that a number turns back.
 fn holder_met(st: State, number: usize, writer: usize, page: usize, line: usize) -> usize
     ensures { λ r. ⌜ r ≡ holderMet st number writer page line ⌝ }
@@ -97,7 +106,8 @@ fn where_taken(has: bool, v: usize) -> usize
     if has { v } else { 0 }
 }
 
-// The reason of a call that a number turned back, from the state and what the call was given. What the call does not take may be anything.
+// The reason of a call other than an event that a number turned back, from the state and what the call was given. What the call does not take may be
+// anything.
 pub fn reason_met(
     st: State,
     call: usize,
@@ -115,5 +125,19 @@ pub fn reason_met(
         page: where_taken(wording::takes_page(call), page),
         line: where_taken(wording::takes_line(call), line),
         holder: holder_met(st, number, writer, page, line),
+    }
+}
+
+// The reason of an event that a number turned back.
+pub fn event_met(st: State, number: usize, kind: usize, meter: usize) -> Reason
+    ensures { λ r. ⌜ r ≡ eventMet st number kind meter ⌝ }
+{
+    Reason {
+        call: wording::EVENT,
+        number,
+        writer: 0,
+        page: 0,
+        line: 0,
+        holder: where_taken(number == 14, event_holder(st, kind, meter)),
     }
 }

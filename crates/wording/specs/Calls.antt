@@ -43,9 +43,12 @@ run = 11
 abbrev pub freeSlot : ℕ
 freeSlot = 12
 
+abbrev pub event : ℕ
+event = 13
+
 -- how many calls and numbers the tables have; a request that adds one raises these, and CALLS and NUMBERS in the code
 abbrev pub callCount : ℕ
-callCount = 13
+callCount = 14
 
 abbrev pub numberCount : ℕ
 numberCount = 23
@@ -57,9 +60,9 @@ readers = mount ∷ recall ∷ []
 
 -- the calls that take a state and the image, but step and run
 abbrev pub askers : List ℕ
-askers = write ∷ commit ∷ consolidate ∷ checkpoint ∷ read ∷ freeSlot ∷ []
+askers = write ∷ commit ∷ consolidate ∷ checkpoint ∷ read ∷ freeSlot ∷ event ∷ []
 
--- the table, row by row: the number and the calls of its place; then the rows of document 02 (20 and 21, of request L2, are not here yet)
+-- the table, row by row: the number and the calls of its place; then the rows of document 02
 unfoldable pub places : List (ℕ × List ℕ)
 places =
     (1, readers)
@@ -74,14 +77,16 @@ places =
     ∷ (9, begin ∷ abort ∷ askers)
     ∷ (10, step ∷ run ∷ [])
     ∷ (11, recall ∷ begin ∷ abort ∷ write ∷ commit ∷ consolidate ∷ read ∷ [])
-    ∷ (12, begin ∷ [])
+    ∷ (12, begin ∷ event ∷ [])
     ∷ (13, write ∷ commit ∷ abort ∷ [])
-    ∷ (14, write ∷ [])
-    ∷ (15, write ∷ [])
-    ∷ (16, write ∷ read ∷ [])
+    ∷ (14, write ∷ event ∷ [])
+    ∷ (15, write ∷ event ∷ [])
+    ∷ (16, write ∷ read ∷ event ∷ [])
     ∷ (17, consolidate ∷ [])
     ∷ (18, consolidate ∷ [])
-    ∷ (19, commit ∷ consolidate ∷ freeSlot ∷ [])
+    ∷ (19, commit ∷ consolidate ∷ freeSlot ∷ event ∷ [])
+    ∷ (20, event ∷ [])
+    ∷ (21, event ∷ [])
     ∷ (22, freeSlot ∷ [])
     ∷ []
 

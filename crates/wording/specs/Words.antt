@@ -30,9 +30,10 @@ names =
     ∷ codes "Step"
     ∷ codes "Run"
     ∷ codes "Free slot"
+    ∷ codes "Event"
     ∷ []
 
--- by number, from 0 on; 0 turns nothing back and has none, nor have 20 and 21, which no call returns yet
+-- by number, from 0 on; 0 turns nothing back and has none
 unfoldable pub texts : List (List ℕ)
 texts =
     []
@@ -55,8 +56,8 @@ texts =
     ∷ codes "the page has no slot"
     ∷ codes "a writer holds a line of the page"
     ∷ codes "the journal has no room for the records"
-    ∷ []
-    ∷ []
+    ∷ codes "the event or its meter is unknown"
+    ∷ codes "the amount or the new credit is out of range"
     ∷ codes "there is no taken slot without a held line"
     ∷ []
 

@@ -33,36 +33,38 @@ pub const RUN: usize = 11;
 
 pub const FREE_SLOT: usize = 12;
 
+pub const EVENT: usize = 13;
+
 // How many calls and numbers the tables have.
-const CALLS: usize = 13;
+const CALLS: usize = 14;
 
 const NUMBERS: usize = 23;
 
 // A row for each number from 0 on, a column for each call: `x` where the call can return the number.
 const RETURNS: [[u8; CALLS]; NUMBERS] = [
-    *b"             ",
-    *b" xx          ",
-    *b" xx          ",
-    *b"xxx          ",
-    *b"xxx  xxxxxxxx",
-    *b" xx          ",
-    *b" xx          ",
-    *b" xx          ",
-    *b"   xxxxxxxxxx",
-    *b"   xxxxxxx  x",
-    *b"          xx ",
-    *b"  xxxxxx x   ",
-    *b"   x         ",
-    *b"    xxx      ",
-    *b"     x       ",
-    *b"     x       ",
-    *b"     x   x   ",
-    *b"       x     ",
-    *b"       x     ",
-    *b"      xx    x",
-    *b"             ",
-    *b"             ",
-    *b"            x",
+    *b"              ",
+    *b" xx           ",
+    *b" xx           ",
+    *b"xxx           ",
+    *b"xxx  xxxxxxxxx",
+    *b" xx           ",
+    *b" xx           ",
+    *b" xx           ",
+    *b"   xxxxxxxxxxx",
+    *b"   xxxxxxx  xx",
+    *b"          xx  ",
+    *b"  xxxxxx x    ",
+    *b"   x         x",
+    *b"    xxx       ",
+    *b"     x       x",
+    *b"     x       x",
+    *b"     x   x   x",
+    *b"       x      ",
+    *b"       x      ",
+    *b"      xx    xx",
+    *b"             x",
+    *b"             x",
+    *b"            x ",
 ];
 
 // The calls' names, each up to its dot.
@@ -80,6 +82,7 @@ const NAMES: [[u8; 12]; CALLS] = [
     *b"Step.       ",
     *b"Run.        ",
     *b"Free slot.  ",
+    *b"Event.      ",
 ];
 
 // The numbers' texts, each up to its dot.
@@ -104,8 +107,8 @@ const TEXTS: [[u8; 49]; NUMBERS] = [
     *b"the page has no slot.                            ",
     *b"a writer holds a line of the page.               ",
     *b"the journal has no room for the records.         ",
-    *b".                                                ",
-    *b".                                                ",
+    *b"the event or its meter is unknown.               ",
+    *b"the amount or the new credit is out of range.    ",
     *b"there is no taken slot without a held line.      ",
 ];
 

@@ -12,7 +12,7 @@ use Rattle.reasons_shown.proofs.met.tell.Tie as tie
 array-share-prefix-target : tie.Need-array-share-prefix-target
 array-share-prefix-target c =
     let k = c .before .before .before in
-    let i = inside (k .before .before .reason-met .result) (replicate 200 0) in
+    let i = inside (k .before .before .met .result) (replicate 200 0) in
     omega (arith, i .same, i .fits, ap (λ (d : Composed). d .length) (k .compose .ensures .0), ap length (k .compose .ensures .1))
 
 slice-aggregate-write-both : tie.Need-slice-aggregate-write-both
