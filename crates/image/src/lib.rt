@@ -34,7 +34,7 @@ fn put_frame_line_word(frame: &mut [u8], l: usize, k: usize, v: u64)
 }
 
 // Word k of line l of frame f of an image.
-pub fn read_line_word(image: &[u8], z: Sizes, f: usize, l: usize, k: usize) -> u64
+fn read_line_word(image: &[u8], z: Sizes, f: usize, l: usize, k: usize) -> u64
     requires { ⌜ Legal z × (f < frames z) × (l < 64) × (k < 8) × (imageLength z ≤ length (now image)) ⌝ }
     ensures { λ r. ⌜ r ≡ word (now (image .entry)) (lineWord z f l + k) ⌝ }
 {
