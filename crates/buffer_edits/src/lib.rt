@@ -39,7 +39,7 @@ pub fn set_word(bench: Bench, buffer: &mut [u8], line: Line) -> Turn
 {
     let i = line.numbers[0] as usize;
     if (line.count == 2) & (i < buffer.len() / 8) {
-        words::store_word(buffer, i, line.numbers[1]);
+        image_words::store_word(buffer, i, line.numbers[1]);
         return workbench::edited(bench);
     }
     workbench::other(bench)

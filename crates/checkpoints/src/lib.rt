@@ -43,8 +43,8 @@ fn copy_words(image: &mut [u8], a: usize, b: usize, k: usize, n: usize)
 {
     let mut i = 0;
     while i < n {
-        let v = words::read_word(image, a + (k + i));
-        words::store_word(image, b + (k + i), v);
+        let v = image_words::read_word(image, a + (k + i));
+        image_words::store_word(image, b + (k + i), v);
         i += 1;
     }
 }
@@ -88,7 +88,7 @@ pub fn make_checkpoint_stores(
     let m = pieces::smaller(n, 3 * c - from);
     make_slot_stores(image, z, head, last, from, m);
     if m < n {
-        words::store_word(image, 5, head as u64);
+        image_words::store_word(image, 5, head as u64);
     }
 }
 

@@ -132,7 +132,7 @@ pub fn make_commit_stores<'a>(
     );
     if m < n {
         let h = journal::records::position(z, head, c);
-        words::store_word(image, 4, h as u64);
+        image_words::store_word(image, 4, h as u64);
     }
 }
 

@@ -88,7 +88,7 @@ fn make_piece(
         return m;
     }
     if at == c {
-        words::store_word(image, layout::page_word(p), copy_to(t) as u64);
+        image_words::store_word(image, layout::page_word(p), copy_to(t) as u64);
         return 1;
     }
     if at < c + 5 {
@@ -98,7 +98,7 @@ fn make_piece(
         return m;
     }
     let h = journal::records::position(z, head, 1);
-    words::store_word(image, 4, h as u64);
+    image_words::store_word(image, 4, h as u64);
     1
 }
 

@@ -29,7 +29,7 @@ fn lines(z: Sizes)
 {
     let first = layout::line_word(z, 0, 0);
     let next = layout::line_word(z, 0, 63);
-    let last = layout::line_word(z, layout::frame_count(z) - 1, 63);
+    let last = layout::line_word(z, z.pages + z.slots - 1, 63);
     out::case(b"lines", first as u64, next as u64, last as u64);
 }
 

@@ -4,7 +4,11 @@ use crate::out;
 fn bits(m: u64) {
     out::name(b"mask");
     out::three(m, masks::has(m, 0) as u64, masks::has(m, 63) as u64);
-    out::three(masks::with(m, 0), masks::with(m, 63), masks::complement(m));
+    out::three(
+        masks::with(m, 0),
+        masks::with(m, 63),
+        masks::exclusive_or(m, 18446744073709551615),
+    );
     out::number(masks::count(m) as u64);
     out::end();
 }

@@ -38,7 +38,7 @@ pub fn page_frame(z: Sizes, original: &[usize; 16], image: &[u8], p: usize, s: u
     if s < z.slots {
         return original[s];
     }
-    words::read_word(image, layout::page_word(p)) as usize
+    image_words::read_word(image, layout::page_word(p)) as usize
 }
 
 // The frame that a writer reads a line of page p from, s being its slot, S where it has none, and frame the page's.

@@ -14,10 +14,10 @@ fn put_header(image: &mut [u8], z: Sizes)
     requires { ⌜ Legal z × (imageLength z ≤ length (now image)) ⌝ }
     ensures { λ _. ⌜ now (image .exit) ≡ putWords (now (image .entry)) 0 (freshHeader z) ⌝ }
 {
-    words::store_word(image, 0, z.pages as u64);
-    words::store_word(image, 1, z.slots as u64);
-    words::store_word(image, 2, z.places as u64);
-    words::store_word(image, 3, 1);
+    image_words::store_word(image, 0, z.pages as u64);
+    image_words::store_word(image, 1, z.slots as u64);
+    image_words::store_word(image, 2, z.places as u64);
+    image_words::store_word(image, 3, 1);
     runs::fill_words(image, 32, 4, 0);
 }
 

@@ -47,7 +47,7 @@ pub fn record_from(image: &[u8], a: usize) -> Record
     requires { ⌜ 8 * a + 32 ≤ length (now image) ⌝ }
     ensures { λ r. ⌜ r ≡ recordFrom (word (now (image .entry))) a ⌝ }
 {
-    let w = words::read_word(image, a);
+    let w = image_words::read_word(image, a);
     let now = slots::slot_from(image, a + 1);
     Record {
         first: (w % 4294967296) as usize,

@@ -13,9 +13,9 @@ pub fn slot_from(image: &[u8], a: usize) -> Slot
     requires { ⌜ 8 * a + 24 ≤ length (now image) ⌝ }
     ensures { λ r. ⌜ r ≡ slotFrom (word (now (image .entry))) a ⌝ }
 {
-    let page = words::read_word(image, a);
-    let frames = words::read_word(image, a + 1);
-    let bitmap = words::read_word(image, a + 2);
+    let page = image_words::read_word(image, a);
+    let frames = image_words::read_word(image, a + 1);
+    let bitmap = image_words::read_word(image, a + 2);
     Slot {
         page: page as usize,
         original: (frames % 4294967296) as usize,

@@ -23,7 +23,7 @@ pub fn sizes_ok(z: Sizes) -> bool
 }
 
 // The number of frames.
-pub fn frame_count(z: Sizes) -> usize
+fn frame_count(z: Sizes) -> usize
     requires { ⌜ Legal z ⌝ }
     ensures { λ r. ⌜ r ≡ frames z ⌝ }
 {

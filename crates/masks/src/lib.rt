@@ -60,7 +60,7 @@ pub fn nth_in(m: u64, n: usize) -> usize
 }
 
 // The lines that are not in m.
-pub fn complement(m: u64) -> u64
+fn complement(m: u64) -> u64
     ensures { λ r. ⌜ r ≡ others m ⌝ }
 {
     !m

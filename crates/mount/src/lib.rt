@@ -21,9 +21,9 @@ fn sizes_from(image: &[u8]) -> Sizes
     requires { ⌜ 64 ≤ length (now image) ⌝ }
     ensures { λ r. ⌜ r ≡ sizesFrom (word (now (image .entry))) ⌝ }
 {
-    let pages = words::read_word(image, 0);
-    let slots = words::read_word(image, 1);
-    let places = words::read_word(image, 2);
+    let pages = image_words::read_word(image, 0);
+    let slots = image_words::read_word(image, 1);
+    let places = image_words::read_word(image, 2);
     Sizes {
         pages: pages as usize,
         slots: slots as usize,
@@ -55,7 +55,7 @@ pub fn judge(image: &[u8]) -> Mounted
     if image.len() < 64 {
         return turned_back(1);
     }
-    if words::read_word(image, 3) != 1 {
+    if image_words::read_word(image, 3) != 1 {
         return turned_back(2);
     }
     let z = sizes_from(image);
@@ -65,8 +65,8 @@ pub fn judge(image: &[u8]) -> Mounted
     if image.len() < layout::image_length(z) {
         return turned_back(4);
     }
-    let head = words::read_word(image, 4) as usize;
-    let tail = words::read_word(image, 5) as usize;
+    let head = image_words::read_word(image, 4) as usize;
+    let tail = image_words::read_word(image, 5) as usize;
     if !journal::records::positions_ok(z, head, tail) {
         return turned_back(5);
     }

@@ -32,7 +32,7 @@ fn put_words(homes: &mut [usize], image: &[u8], z: Sizes)
 {
     let mut p = 0;
     while p < z.pages {
-        homes[p] = words::read_word(image, layout::page_word(p)) as usize;
+        homes[p] = image_words::read_word(image, layout::page_word(p)) as usize;
         p += 1;
     }
 }

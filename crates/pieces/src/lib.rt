@@ -70,7 +70,7 @@ pub fn store_record_words(image: &mut [u8], a: usize, e: Record, k: usize, n: us
     let mut i = 0;
     while i < n {
         let v = journal::records::word_of_record(e, k + i);
-        words::store_word(image, a + (k + i), v);
+        image_words::store_word(image, a + (k + i), v);
         i += 1;
     }
 }

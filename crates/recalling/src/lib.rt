@@ -17,7 +17,7 @@ fn recall_frame(image: &[u8], z: Sizes, t: Table, page: usize, line: usize) -> u
     if s < z.slots {
         return frames::committed_frame(replay::slot_in(t, s), line);
     }
-    words::read_word(image, layout::page_word(page)) as usize
+    image_words::read_word(image, layout::page_word(page)) as usize
 }
 
 // The committed line of a page into the target's start, or the number of the first row that turns it back.

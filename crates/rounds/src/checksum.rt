@@ -15,7 +15,7 @@ fn with_line(sum: u64, line: &[u8; 64]) -> u64 {
     let mut sum = sum;
     let mut k = 0;
     while k < 8 {
-        sum = with(sum, words::read_word(line, k));
+        sum = with(sum, image_words::read_word(line, k));
         k += 1;
     }
     sum

@@ -2,7 +2,7 @@
 ghost use mathlib.Core.Path.{_≡_};
 ghost use Prim.Native.Nat.{_+_, _*_, _≤_};
 ghost use lib.ListN.{length};
-ghost use Rattle.words.specs.Words.{leOf, bytesOf, wordAt, putWord, word, store, over};
+ghost use Rattle.words.specs.Words.{leOf, bytesOf, wordAt, putWord};
 
 // The number that 8 bytes make, the lowest first.
 fn join(b0: u8, b1: u8, b2: u8, b3: u8, b4: u8, b5: u8, b6: u8, b7: u8) -> u64
@@ -60,20 +60,4 @@ pub fn put_word(s: &mut [u8], at: usize, v: u64)
     ensures { λ _. ⌜ now (s .exit) ≡ putWord (now (s .entry)) at v ⌝ }
 {
     put_bytes(&mut s[at..at + 8], v);
-}
-
-// Word i of an image.
-pub fn read_word(image: &[u8], i: usize) -> u64
-    requires { ⌜ 8 * i + 8 ≤ length (now image) ⌝ }
-    ensures { λ r. ⌜ r ≡ word (now (image .entry)) i ⌝ }
-{
-    word_at(image, 8 * i)
-}
-
-// Stores v as word i of an image.
-pub fn store_word(image: &mut [u8], i: usize, v: u64)
-    requires { ⌜ 8 * i + 8 ≤ length (now image) ⌝ }
-    ensures { λ _. ⌜ now (image .exit) ≡ store (now (image .entry)) i v ⌝ }
-{
-    put_word(image, 8 * i, v);
 }
