@@ -3,7 +3,7 @@
 mod arguments;
 mod checksum;
 mod play;
-mod room;
+mod steps;
 
 // Rounds where no argument names another number.
 const ROUNDS: usize = 100;

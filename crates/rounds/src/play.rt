@@ -1,6 +1,11 @@
 // The rounds. The state's arrays are kept here and lent to each call.
-ghost use Prim.Native.Nat.{_<_};
-use crate::room;
+ghost use mathlib.Core.Path.{_≡_};
+ghost use Prim.Native.Nat.{_+_, _%_, _<_};
+ghost use lib.ListN.{getD};
+use crate::steps;
+use answers::Answer;
+use answers::number_of;
+use in_place::Went;
 use layout::Sizes;
 use replay::Table;
 use state::State;
@@ -13,11 +18,13 @@ pub struct Played {
     pub stores: u64,
 }
 
-// A line of the eight words v.
-fn line_of(v: u64) -> [u8; 64] {
-    let mut line = [0u8; 64];
-    runs::fill_words(&mut line, 0, 8, v);
-    line
+// The stores of a taken call.
+fn stores_in(a: Answer) -> u64 {
+    if let Answer::Taken(n) = a {
+        n as u64
+    } else {
+        0
+    }
 }
 
 // The pair of pages of round r, of eight; each pair stays for so many rounds.
@@ -30,10 +37,24 @@ fn pair_of(r: usize, stay: usize) -> usize
     r / stay % 8
 }
 
-// Round r: one of 24 lines of the pair's first page, as meters are, and the next of the 64 of its second, as a history is.
-fn round(
+// The page in the slot k places on from next, of four, going round.
+fn page_after(page: &[usize; 16], next: usize, k: usize) -> usize
+    ensures { λ r. ⌜ r ≡ getD (now (page .entry)) ((next % 4 + k % 4) % 4) 0 ⌝ }
+{
+    page[(next % 4 + k % 4) % 4]
+}
+
+// The line that round r writes: one of 24 of the pair's first page, as meters are, and the next of the 64 of its second, as a history is.
+fn line_of(r: usize, second: usize) -> usize {
+    if second == 0 {
+        return r % 24;
+    }
+    r % 64
+}
+
+// Makes the call of a step of round r.
+fn call(
     image: &mut [u8; 84288],
-    stores: &mut u64,
     z: Sizes,
     at: Places,
     page: &mut [usize; 16],
@@ -43,17 +64,81 @@ fn round(
     last: &mut [usize; 16],
     opened: &mut [bool; 4],
     held: &mut [u64; 64],
+    c: u8,
     r: usize,
     stay: usize,
-) -> Places {
-    let p = 2 * pair_of(r, stay);
-    let next = p + 1;
-    let v = 2 * (r as u64 % 4294967296);
-    writers_in_place::begin(z, at, page, original, spare, bitmap, last, opened, held, 0);
-    let one = line_of(v + 1);
-    let at = room::write(
+) -> Went {
+    if c == b'B' {
+        let answer = writers_in_place::begin(
+            z,
+            at,
+            page,
+            original,
+            spare,
+            bitmap,
+            last,
+            opened,
+            held,
+            0,
+        );
+        return Went { answer, to: at };
+    }
+    if c >= b'V' {
+        let second = c as usize % 2;
+        let v = 2 * (r as u64 % 4294967296) + 1 + second as u64;
+        let mut line = [0u8; 64];
+        runs::fill_words(&mut line, 0, 8, v);
+        return write_in_place::write(
+            image,
+            z,
+            at,
+            page,
+            original,
+            spare,
+            bitmap,
+            last,
+            opened,
+            held,
+            0,
+            2 * pair_of(r, stay) + second,
+            line_of(r, second),
+            0,
+            64,
+            &line,
+        );
+    }
+    if c == b'C' {
+        return operations_in_place::commit(
+            image,
+            z,
+            at,
+            page,
+            original,
+            spare,
+            bitmap,
+            last,
+            opened,
+            held,
+            0,
+        );
+    }
+    if c == b'P' {
+        return operations_in_place::checkpoint(
+            image,
+            z,
+            at,
+            page,
+            original,
+            spare,
+            bitmap,
+            last,
+            opened,
+            held,
+        );
+    }
+    let p = page_after(page, at.next, c as usize);
+    operations_in_place::consolidate(
         image,
-        stores,
         z,
         at,
         page,
@@ -64,38 +149,6 @@ fn round(
         opened,
         held,
         p,
-        r % 24,
-        &one,
-    );
-    let two = line_of(v + 2);
-    let at = room::write(
-        image,
-        stores,
-        z,
-        at,
-        page,
-        original,
-        spare,
-        bitmap,
-        last,
-        opened,
-        held,
-        next,
-        r % 64,
-        &two,
-    );
-    room::commit(
-        image,
-        stores,
-        z,
-        at,
-        page,
-        original,
-        spare,
-        bitmap,
-        last,
-        opened,
-        held,
     )
 }
 
@@ -121,11 +174,12 @@ pub fn rounds(image: &mut [u8; 84288], n: usize, stay: usize) -> Played {
         next: fresh.next,
     };
     let mut stores = 0;
-    let mut r = 0;
-    while r < n {
-        at = round(
+    let end = 32 * (n % 4294967296);
+    let calls = steps::CALLS;
+    let mut i = 0;
+    while i < end {
+        let went = call(
             image,
-            &mut stores,
             z,
             at,
             &mut page,
@@ -135,10 +189,14 @@ pub fn rounds(image: &mut [u8; 84288], n: usize, stay: usize) -> Played {
             &mut last,
             &mut opened,
             &mut held,
-            r,
+            calls[i % 32],
+            i / 32,
             stay,
         );
-        r += 1;
+        let answer = went.answer;
+        at = went.to;
+        stores = std::num::wrapping_add_u64(stores, stores_in(answer));
+        i += steps::after(i % 32, number_of(answer));
     }
     let table = Table {
         page,

@@ -1,14 +1,16 @@
--- A turn a round.
-use Prim.Native.Nat.{_-_, _≤_}
+-- The steps that are left.
+use Prim.Native.Nat.{_-_, _≤_, _*_, _%_}
+use mathlib.Core.Path.{_≡_}
 use borrow.Author.Needs.{needs}
+use native.Mathlib.Omega.{arith}
 use Rattle.rounds.proofs.play.rounds.Statement.{statement}
 use Rattle.rounds.proofs.play.rounds.Tie as tie
 
 abbrev Inv-loop : tie.InvT-loop
-Inv-loop image₀ n stay z page₀ original₀ spare₀ bitmap₀ last₀ opened₀ held₀ at₀ stores₀ r₀ image page original spare bitmap last opened held at stores r = r ≤ n
+Inv-loop image₀ n stay z page₀ original₀ spare₀ bitmap₀ last₀ opened₀ held₀ at₀ stores₀ end calls i₀ image page original spare bitmap last opened held at stores i = Unit {0}
 
 abbrev μ-loop : tie.MeasureT-loop
-μ-loop image₀ n stay z page₀ original₀ spare₀ bitmap₀ last₀ opened₀ held₀ at₀ stores₀ r₀ image page original spare bitmap last opened held at stores r = n - r
+μ-loop image₀ n stay z page₀ original₀ spare₀ bitmap₀ last₀ opened₀ held₀ at₀ stores₀ end calls i₀ image page original spare bitmap last opened held at stores i = end - i
 
 pub rounds-spec : {M : Type 1} → statement M
 rounds-spec =
@@ -18,6 +20,12 @@ rounds-spec =
     μ-loop
     (λ c κs. search needs)
     (λ c. search needs)
+    (λ c. search needs)
+    (λ c. search needs)
+    (λ c κs. search needs)
+    (λ c κs. search needs)
+    (λ c κs. search needs)
+    (λ c κs. search needs)
     (λ c κs. search needs)
     (λ c. search needs)
     (λ c. search needs)

@@ -1,0 +1,96 @@
+// A round as 32 steps, so that one loop plays it: begin, two writes of 14 steps each and a commit of 3. The steps after a write's first free a slot
+// where none is free (15), those after a consolidation's or a commit's first empty the journal where it is full (19); the last tries again.
+ghost use Prim.Native.Nat.{_<_, _≤_};
+
+// What each step calls: begin, a write to the first page of the pair (V) or the second (W), commit, checkpoint, or the consolidation of the page
+// that lies 0 to 3 slots on from the next slot to try.
+pub const CALLS: [u8; 32] = *b"BV0P01P12P23P3VW0P01P12P23P3WCPC";
+// How many steps a taken call passes over.
+const TAKEN: [usize; 32] = [
+    0,
+    13,
+    11,
+    0,
+    9,
+    8,
+    0,
+    6,
+    5,
+    0,
+    3,
+    2,
+    0,
+    0,
+    0,
+    13,
+    11,
+    0,
+    9,
+    8,
+    0,
+    6,
+    5,
+    0,
+    3,
+    2,
+    0,
+    0,
+    0,
+    2,
+    0,
+    0,
+];
+// The same of a refused one, unless room must be made for it.
+const REFUSED: [usize; 32] = [
+    0,
+    13,
+    2,
+    0,
+    0,
+    2,
+    0,
+    0,
+    2,
+    0,
+    0,
+    2,
+    0,
+    0,
+    0,
+    13,
+    2,
+    0,
+    0,
+    2,
+    0,
+    0,
+    2,
+    0,
+    0,
+    2,
+    0,
+    0,
+    0,
+    2,
+    0,
+    0,
+];
+
+// How many steps the round goes on after an answer's number.
+pub fn after(step: usize, number: usize) -> usize
+    requires { ⌜ step < 32 ⌝ }
+    ensures { λ r. ⌜ (1 ≤ r) × (r ≤ 32) ⌝ }
+{
+    if number == 15 {
+        return 1;
+    }
+    if number == 19 {
+        return 1;
+    }
+    if number == 0 {
+        let over = TAKEN;
+        return 1 + over[step] % 32;
+    }
+    let over = REFUSED;
+    1 + over[step] % 32
+}
