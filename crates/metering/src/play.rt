@@ -123,7 +123,7 @@ pub fn events(image: &mut [u8; 16640], n: usize) -> Game {
 pub fn meter(image: &[u8; 16640], st: State, m: usize) -> u64 {
     let mut line = [0u8; 64];
     reading::read(st, image, 0, 0, m, &mut line);
-    words::read_word(&line, 0)
+    image_words::read_word(&line, 0)
 }
 
 // The checksum with the 24 meters.
