@@ -1,6 +1,4 @@
 // Step makes one store; run makes at most k.
-mod going;
-
 ghost use mathlib.Core.Path.{_≡_};
 ghost use Rattle.answers.specs.Answers.{outcomeOf};
 ghost use Rattle.refinement.specs.Calls.{stepOf, stepBytes, runOf, runBytes};

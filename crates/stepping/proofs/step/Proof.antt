@@ -1,6 +1,6 @@
 use mathlib.Core.Path.{_∙_}
 use borrow.Author.Needs.{needs}
-use Rattle.stepping.proofs.Running.{step-outcome, step-bytes}
+use Rattle.stepping.proofs.OneStep.{step-outcome, step-bytes}
 use Rattle.stepping.proofs.step.Statement.{statement}
 use Rattle.stepping.proofs.step.Tie as tie
 

@@ -1,8 +1,8 @@
--- Run: what its stores and its state come to; and step, a run of one.
+-- What a run's stores and its state come to.
 use Prim.Native.Nat.{ℕ, _+_, _≤_, min}
 use mathlib.Core.Bool.{true, false}
 use mathlib.Core.List.{List}
-use mathlib.Core.Path.{_≡_, refl, sym, ap, _∙_}
+use mathlib.Core.Path.{_≡_, sym, _∙_}
 use native.Mathlib.Omega.{arith}
 use lib.Dec.{eqb}
 use lib.ListN.{length}
@@ -11,11 +11,11 @@ use Rattle.bounded.specs.Rows.{refusal}
 use Rattle.bounded.proofs.Tests.{caseOn, contradicts}
 use Rattle.state.specs.declared.State.{State}
 use Rattle.operations.specs.Operations.{needs, isIdle}
-use Rattle.refinement.specs.Stores.{completed, withMade, stateAfter, stepped, steppedBy, left}
+use Rattle.refinement.specs.Stores.{completed, withMade, stateAfter, steppedBy, left}
 use Rattle.refinement.specs.Outcome.{answered}
-use Rattle.refinement.specs.Calls.{busyRows, stepRow, worldOf, stepOf, stepBytes, runOf, runBytes}
+use Rattle.refinement.specs.Calls.{busyRows, stepRow, worldOf, runOf}
 use Rattle.refinement.proofs.Going.{Going, going}
-use Rattle.refinement.proofs.Steps.{run-after, step-run}
+use Rattle.refinement.proofs.Steps.{run-after}
 use Rattle.refinement.proofs.Quiet.{Busy, busy}
 use Rattle.answers.proofs.Answered.{row-known}
 use Rattle.stores.specs.declared.making.Made.{Made}
@@ -79,19 +79,3 @@ module _ (st : State) (img : List ℕ) (k : ℕ) (m : Made) (e : m ≡ madeOf st
         let low = taken-going z .made-low in
         let f : eqb (st .pending .made + min k (left st)) (needs st (st .pending .op)) ≡ true = eq-eqb (st .pending .made + min k (left st)) (needs st (st .pending .op)) (omega (arith, low)) in
         went z after (rw f a)
-
--- a step is a run of one
-module _ (st : State) (img : List ℕ) where
-  one-step : eqb (stepRow st img) 0 ≡ true → (steppedBy 1 (worldOf st img) ≡ stepped (worldOf st img)) × (min 1 (left st) ≡ 1)
-  one-step t =
-      let b = busy st (length img) (stepRow st img) refl (eqb-true (stepRow st img) 0 t) in
-      let r = step-run (worldOf st img) (b .ok) (b .pends) in
-      (r .0, omega (arith, r .1))
-
-  pub step-outcome : runOf st img 1 ≡ stepOf st img
-  unfolding runOf stepOf
-  step-outcome = caseOn (eqb (stepRow st img) 0) (λ t. rw (one-step t .1, one-step t .0)) (λ t. rw t)
-
-  pub step-bytes : runBytes st img 1 ≡ stepBytes st img
-  unfolding runBytes stepBytes
-  step-bytes = caseOn (eqb (stepRow st img) 0) (λ t. rw (one-step t .1, one-step t .0)) (λ t. rw t)

@@ -2,10 +2,10 @@ use borrow.Author.Tests.{not-true, not-false}
 use Rattle.state.specs.declared.State.{State}
 use Rattle.state.specs.Parts.{stateOf}
 use Rattle.stores.proofs.LeftMade.{put-together}
-use Rattle.stepping.proofs.Running.{row-low, taken-busy, taken-going, went-part, whole-taken, went-whole}
+use Rattle.going.proofs.Running.{row-low, taken-busy, taken-going, went-part, whole-taken, went-whole}
 use borrow.Author.Needs.{needs}
-use Rattle.stepping.proofs.going.go_on.Statement.{statement}
-use Rattle.stepping.proofs.going.go_on.Tie as tie
+use Rattle.going.proofs.go_on.Statement.{statement}
+use Rattle.going.proofs.go_on.Tie as tie
 
 abbrev st : tie.Start → State
 st c =
