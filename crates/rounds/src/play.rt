@@ -54,7 +54,7 @@ fn line_of(r: usize, second: usize) -> usize {
 
 // Makes the call of a step of round r.
 fn call(
-    image: &mut [u8; 84288],
+    image: &mut [u8],
     z: Sizes,
     at: Places,
     page: &mut [usize; 16],

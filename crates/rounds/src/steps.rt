@@ -5,76 +5,10 @@ ghost use Prim.Native.Nat.{_<_, _≤_};
 // What each step calls: begin, a write to the first page of the pair (V) or the second (W), commit, checkpoint, or the consolidation of the page
 // that lies 0 to 3 slots on from the next slot to try.
 pub const CALLS: [u8; 32] = *b"BV0P01P12P23P3VW0P01P12P23P3WCPC";
-// How many steps a taken call passes over.
-const TAKEN: [usize; 32] = [
-    0,
-    13,
-    11,
-    0,
-    9,
-    8,
-    0,
-    6,
-    5,
-    0,
-    3,
-    2,
-    0,
-    0,
-    0,
-    13,
-    11,
-    0,
-    9,
-    8,
-    0,
-    6,
-    5,
-    0,
-    3,
-    2,
-    0,
-    0,
-    0,
-    2,
-    0,
-    0,
-];
-// The same of a refused one, unless room must be made for it.
-const REFUSED: [usize; 32] = [
-    0,
-    13,
-    2,
-    0,
-    0,
-    2,
-    0,
-    0,
-    2,
-    0,
-    0,
-    2,
-    0,
-    0,
-    0,
-    13,
-    2,
-    0,
-    0,
-    2,
-    0,
-    0,
-    2,
-    0,
-    0,
-    2,
-    0,
-    0,
-    0,
-    2,
-    0,
-    0,
-];
+// How far the round goes on after a call that was taken: A is one step, B are two.
+const TAKEN: [u8; 32] = *b"ANLAJIAGFADCAAANLAJIAGFADCAAACAA";
+// The same after one that was refused, unless room must be made for it.
+const REFUSED: [u8; 32] = *b"ANCAACAACAACAAANCAACAACAACAAACAA";
 
 // How many steps the round goes on after an answer's number.
 pub fn after(step: usize, number: usize) -> usize
@@ -88,9 +22,9 @@ pub fn after(step: usize, number: usize) -> usize
         return 1;
     }
     if number == 0 {
-        let over = TAKEN;
-        return 1 + over[step] % 32;
+        let on = TAKEN;
+        return 1 + ((on[step] % 32) as usize + 31) % 32;
     }
-    let over = REFUSED;
-    1 + over[step] % 32
+    let on = REFUSED;
+    1 + ((on[step] % 32) as usize + 31) % 32
 }
