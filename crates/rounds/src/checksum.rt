@@ -10,22 +10,17 @@ fn with(sum: u64, word: u64) -> u64
     (31 * (sum % 4294967291) + word % 4294967291) % 4294967291
 }
 
-// Eight words more.
-fn with_line(sum: u64, line: &[u8; 64]) -> u64 {
+// Line i of the 1,024 more, as a writer that holds nothing sees it.
+fn with_line(sum: u64, image: &[u8; 84288], st: State, i: usize) -> u64 {
+    let mut line = [0u8; 64];
+    reading::read(st, image, 0, i / 64, i % 64, &mut line);
     let mut sum = sum;
     let mut k = 0;
     while k < 8 {
-        sum = with(sum, image_words::read_word(line, k));
+        sum = with(sum, image_words::read_word(&line, k));
         k += 1;
     }
     sum
-}
-
-// Line i of the 1,024 more, as a writer that holds nothing sees it.
-fn with_line_of(sum: u64, image: &[u8; 84288], st: State, i: usize) -> u64 {
-    let mut line = [0u8; 64];
-    reading::read(st, image, 0, i / 64, i % 64, &mut line);
-    with_line(sum, &line)
 }
 
 // The checksum of 16 pages of 64 lines.
@@ -33,7 +28,7 @@ pub fn of_pages(image: &[u8; 84288], st: State) -> u64 {
     let mut sum = 0;
     let mut i = 0;
     while i < 1024 {
-        sum = with_line_of(sum, image, st, i);
+        sum = with_line(sum, image, st, i);
         i += 1;
     }
     sum

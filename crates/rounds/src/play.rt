@@ -54,7 +54,7 @@ fn line_of(r: usize, second: usize) -> usize {
 
 // Makes the call of a step of round r.
 fn call(
-    image: &mut [u8; 84288],
+    image: &mut [u8],
     z: Sizes,
     at: Places,
     page: &mut [usize; 16],
@@ -68,27 +68,51 @@ fn call(
     r: usize,
     stay: usize,
 ) -> Went {
-    if c == b'B' {
-        let answer = writers_in_place::begin(
-            z,
-            at,
-            page,
-            original,
-            spare,
-            bitmap,
-            last,
-            opened,
-            held,
-            0,
-        );
-        return Went { answer, to: at };
-    }
-    if c >= b'V' {
-        let second = c as usize % 2;
-        let v = 2 * (r as u64 % 4294967296) + 1 + second as u64;
-        let mut line = [0u8; 64];
-        runs::fill_words(&mut line, 0, 8, v);
-        return write_in_place::write(
+    match c {
+        b'B' => {
+            let answer = writers_in_place::begin(
+                z,
+                at,
+                page,
+                original,
+                spare,
+                bitmap,
+                last,
+                opened,
+                held,
+                0,
+            );
+            Went { answer, to: at }
+        }
+        b'V' | b'W' => {
+            let second = c as usize % 2;
+            let mut line = [0u8; 64];
+            runs::fill_words(
+                &mut line,
+                0,
+                8,
+                2 * (r as u64 % 4294967296) + 1 + second as u64,
+            );
+            write_in_place::write(
+                image,
+                z,
+                at,
+                page,
+                original,
+                spare,
+                bitmap,
+                last,
+                opened,
+                held,
+                0,
+                2 * pair_of(r, stay) + second,
+                line_of(r, second),
+                0,
+                64,
+                &line,
+            )
+        }
+        b'C' => operations_in_place::commit(
             image,
             z,
             at,
@@ -100,15 +124,8 @@ fn call(
             opened,
             held,
             0,
-            2 * pair_of(r, stay) + second,
-            line_of(r, second),
-            0,
-            64,
-            &line,
-        );
-    }
-    if c == b'C' {
-        return operations_in_place::commit(
+        ),
+        b'P' => operations_in_place::checkpoint(
             image,
             z,
             at,
@@ -119,37 +136,24 @@ fn call(
             last,
             opened,
             held,
-            0,
-        );
+        ),
+        _ => {
+            let p = page_after(page, at.next, c as usize);
+            operations_in_place::consolidate(
+                image,
+                z,
+                at,
+                page,
+                original,
+                spare,
+                bitmap,
+                last,
+                opened,
+                held,
+                p,
+            )
+        }
     }
-    if c == b'P' {
-        return operations_in_place::checkpoint(
-            image,
-            z,
-            at,
-            page,
-            original,
-            spare,
-            bitmap,
-            last,
-            opened,
-            held,
-        );
-    }
-    let p = page_after(page, at.next, c as usize);
-    operations_in_place::consolidate(
-        image,
-        z,
-        at,
-        page,
-        original,
-        spare,
-        bitmap,
-        last,
-        opened,
-        held,
-        p,
-    )
 }
 
 // A fresh store with n rounds played.

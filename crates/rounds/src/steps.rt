@@ -5,92 +5,26 @@ ghost use Prim.Native.Nat.{_<_, _≤_};
 // What each step calls: begin, a write to the first page of the pair (V) or the second (W), commit, checkpoint, or the consolidation of the page
 // that lies 0 to 3 slots on from the next slot to try.
 pub const CALLS: [u8; 32] = *b"BV0P01P12P23P3VW0P01P12P23P3WCPC";
-// How many steps a taken call passes over.
-const TAKEN: [usize; 32] = [
-    0,
-    13,
-    11,
-    0,
-    9,
-    8,
-    0,
-    6,
-    5,
-    0,
-    3,
-    2,
-    0,
-    0,
-    0,
-    13,
-    11,
-    0,
-    9,
-    8,
-    0,
-    6,
-    5,
-    0,
-    3,
-    2,
-    0,
-    0,
-    0,
-    2,
-    0,
-    0,
-];
-// The same of a refused one, unless room must be made for it.
-const REFUSED: [usize; 32] = [
-    0,
-    13,
-    2,
-    0,
-    0,
-    2,
-    0,
-    0,
-    2,
-    0,
-    0,
-    2,
-    0,
-    0,
-    0,
-    13,
-    2,
-    0,
-    0,
-    2,
-    0,
-    0,
-    2,
-    0,
-    0,
-    2,
-    0,
-    0,
-    0,
-    2,
-    0,
-    0,
-];
+// How many steps the round passes over after a call that was taken: @ is none, A is one.
+const TAKEN: [u8; 32] = *b"@MK@IH@FE@CB@@@MK@IH@FE@CB@@@B@@";
+// The same after one that was refused, unless room must be made for it.
+const REFUSED: [u8; 32] = *b"@MB@@B@@B@@B@@@MB@@B@@B@@B@@@B@@";
 
 // How many steps the round goes on after an answer's number.
 pub fn after(step: usize, number: usize) -> usize
     requires { ⌜ step < 32 ⌝ }
     ensures { λ r. ⌜ (1 ≤ r) × (r ≤ 32) ⌝ }
 {
+    if number == 0 {
+        let over = TAKEN;
+        return 1 + (over[step] % 32) as usize;
+    }
     if number == 15 {
         return 1;
     }
     if number == 19 {
         return 1;
     }
-    if number == 0 {
-        let over = TAKEN;
-        return 1 + over[step] % 32;
-    }
     let over = REFUSED;
-    1 + over[step] % 32
+    1 + (over[step] % 32) as usize
 }

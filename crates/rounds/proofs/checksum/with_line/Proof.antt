@@ -5,10 +5,10 @@ use Rattle.rounds.proofs.checksum.with_line.Statement.{statement}
 use Rattle.rounds.proofs.checksum.with_line.Tie as tie
 
 abbrev Inv-loop : tie.InvT-loop
-Inv-loop sum line sum₀ k₀ sum' k = k ≤ 8
+Inv-loop sum image i line sum₀ k₀ sum' k = k ≤ 8
 
 abbrev μ-loop : tie.MeasureT-loop
-μ-loop sum line sum₀ k₀ sum' k = 8 - k
+μ-loop sum image i line sum₀ k₀ sum' k = 8 - k
 
 pub with-line-spec : {M : Type 1} → statement M
 with-line-spec =
@@ -16,6 +16,9 @@ with-line-spec =
     (tie.spec
     Inv-loop
     μ-loop
+    (λ c. search needs)
+    (λ c κs. search needs)
+    (λ c. search needs)
     (λ c. search needs)
     (λ c κs. search needs)
     (λ c κs. search needs)
