@@ -1,4 +1,8 @@
-//! The store's program `slots_freed`, by the model: slots freed in chosen situations, then a walk of calls that a generator picks.
+//! The store's program `slots_freed`, by the model: calls of a table that frees slots in chosen situations, then calls that a generator picks.
+//!
+//! A call is a number. Its decimal digits are the call, its writer, its page, its first and last line, and the stores of the run after it.
+
+#![allow(clippy::inconsistent_digit_grouping)] // the groups are those fields
 
 use model::calls::{abort, begin, checkpoint, commit, consolidate, free_slot, run, write, Patch};
 use model::layout::Sizes;
@@ -9,210 +13,227 @@ use model::state::State;
 /// The largest prime below 2^32.
 const MODULUS: u64 = 4_294_967_291;
 
+const TABLE: [u64; 70] = [
+    // No slot is taken.
+    8_0_0_00_00_1000,
+    // The only taken slot is held.
+    1_0_0_00_00_0000,
+    3_0_3_00_00_1000,
+    8_0_0_00_00_1000,
+    // It is committed, with one line; then pending; then free.
+    4_0_0_00_00_1000,
+    8_0_0_00_00_0000,
+    8_0_0_00_00_1000,
+    8_0_0_00_00_1000,
+    // Bitmaps with 33, 32, 63 and 1 ones: two slots tie with one line to copy, and then the journal is full.
+    6_0_0_00_00_1000,
+    1_0_0_00_00_0000,
+    3_0_0_00_32_1000,
+    3_0_1_00_31_1000,
+    3_0_2_00_62_1000,
+    3_0_3_00_00_1000,
+    4_0_0_00_00_1000,
+    8_0_0_00_00_1000,
+    8_0_0_00_00_1000,
+    8_0_0_00_00_1000,
+    // Of the slots left one needs 31 lines and one 32; then none is taken.
+    6_0_0_00_00_1000,
+    8_0_0_00_00_1000,
+    8_0_0_00_00_1000,
+    8_0_0_00_00_1000,
+    // Bitmaps with 64 ones and, of a slot whose writer aborted, with none.
+    6_0_0_00_00_1000,
+    1_0_0_00_00_0000,
+    3_0_4_00_63_1000,
+    4_0_0_00_00_1000,
+    1_1_0_00_00_0000,
+    3_1_5_00_00_1000,
+    2_1_0_00_00_0000,
+    8_0_0_00_00_1000,
+    8_0_0_00_00_1000,
+    // A held slot with two lines is skipped for one with three.
+    6_0_0_00_00_1000,
+    1_0_0_00_00_0000,
+    3_0_0_00_01_1000,
+    3_0_1_00_02_1000,
+    4_0_0_00_00_1000,
+    1_2_0_00_00_0000,
+    3_2_0_00_00_1000,
+    8_0_0_00_00_0000,
+    // A cut before the first store, and it is not held; then one before the last store but one.
+    7_0_0_00_00_0000,
+    8_0_0_00_00_0020,
+    7_0_0_00_00_0000,
+    8_0_0_00_00_0000,
+    7_0_0_00_00_0000,
+    // All taken slots are held and the journal is full: 22 comes before 19.
+    1_0_0_00_00_0000,
+    3_0_0_00_00_1000,
+    4_0_0_00_00_1000,
+    1_0_0_00_00_0000,
+    3_0_0_00_00_1000,
+    4_0_0_00_00_1000,
+    1_0_0_00_00_0000,
+    3_0_0_00_00_1000,
+    4_0_0_00_00_1000,
+    1_0_0_00_00_0000,
+    3_0_0_00_00_1000,
+    4_0_0_00_00_1000,
+    1_3_0_00_00_0000,
+    3_3_0_00_00_1000,
+    3_3_1_00_00_1000,
+    8_0_0_00_00_1000,
+    // The journal is full; and the buffer is short.
+    2_3_0_00_00_0000,
+    8_0_0_00_00_1000,
+    9_0_0_00_00_0000,
+    // The next slot to try is 4, of 4; and the buffer is short.
+    10_0_4_04_04_0000,
+    8_0_0_00_00_0000,
+    9_0_0_00_00_0000,
+    7_0_0_00_00_0000,
+    // 17 slots.
+    10_0_0_17_17_0000,
+    8_0_0_00_00_0000,
+    7_0_0_00_00_0000,
+];
+
+/// The walk's calls; writer, page and line are added.
+const WALK: [u64; 32] = [
+    1_0_0_00_00_0000,
+    1_0_0_00_00_0000,
+    1_0_0_00_00_0000,
+    1_0_0_00_00_0000,
+    1_0_0_00_00_0000,
+    2_0_0_00_00_0000,
+    3_0_0_00_00_1000,
+    3_0_0_00_00_1000,
+    3_0_0_00_00_1000,
+    3_0_0_00_00_1000,
+    3_0_0_00_00_1000,
+    3_0_0_00_00_1000,
+    3_0_0_00_00_1000,
+    3_0_0_00_00_1000,
+    3_0_0_00_00_1000,
+    3_0_0_00_00_1000,
+    3_0_0_00_00_1000,
+    3_0_0_00_00_1000,
+    3_0_0_00_00_1000,
+    3_0_0_00_00_0000,
+    3_0_0_00_00_0007,
+    3_0_0_00_00_0009,
+    4_0_0_00_00_1000,
+    4_0_0_00_00_1000,
+    4_0_0_00_00_1000,
+    4_0_0_00_00_1000,
+    4_0_0_00_00_0004,
+    5_0_0_00_00_1000,
+    6_0_0_00_00_1000,
+    7_0_0_00_00_0000,
+    8_0_0_00_00_1000,
+    8_0_0_00_00_0009,
+];
+
 struct Store {
     state: State,
     image: Vec<u8>,
 }
 
-fn fresh() -> Store {
-    let sizes = Sizes { p: 6, s: 4, j: 6 };
-    let mut image = vec![0; sizes.image_length()];
-    let state = format(sizes, &mut image).expect("sizes in range");
-    Store { state, image }
+/// A call of the list, with a place in it from 1 on.
+struct Call {
+    place: u64,
+    kind: u64,
+    writer: u64,
+    page: u64,
+    line: u64,
+    stores: u64,
+}
+
+impl Call {
+    /// The calls that a number stands for, one for each of its lines.
+    fn all(place: u64, mut number: u64) -> Vec<Call> {
+        let mut digits = |count: u32| {
+            let value = number % 10u64.pow(count);
+            number /= 10u64.pow(count);
+            value
+        };
+        let stores = digits(4);
+        let (last, first) = (digits(2), digits(2));
+        let (page, writer, kind) = (digits(1), digits(1), digits(2));
+        (first..=last).map(|line| Call { place, kind, writer, page, line, stores }).collect()
+    }
+
+    fn frees(&self) -> bool {
+        self.kind == 8 || self.kind == 9
+    }
+
+    /// A byte to write that differs from call to call.
+    fn byte(&self) -> u8 {
+        let number = (((self.place * 100 + self.kind) * 10 + self.writer) * 10 + self.page) * 100 + self.line;
+        (number % 251) as u8
+    }
+}
+
+/// The number of the walk's call at a place.
+fn picked(place: u64) -> u64 {
+    let x = (place - 1) * 1_103_515_245 % 2_147_483_647;
+    let x = (x ^ (x >> 16)) * 48_271 % 2_147_483_647;
+    let (writer, page, line) = (x / 32 % 2, x / 64 % 6, x / 384 % 64);
+    WALK[(x % 32) as usize] + writer * 1_000_000_000 + page * 100_000_000 + line * 1_010_000
 }
 
 fn hash(bytes: &[u8]) -> u64 {
     bytes.iter().fold(0, |sum, &byte| (31 * sum + u64::from(byte)) % MODULUS)
 }
 
-/// An answer as its number and its stores.
-fn split(answer: Answer<u64>) -> (u64, u64) {
-    answer.map_or_else(|refusal| (u64::from(refusal.number()), 0), |stores| (0, stores))
-}
-
-fn line(name: &str, image: &[u8], state: &State, answer: Answer<u64>) {
-    let (number, stores) = split(answer);
-    let pages: Vec<String> = state.slots[..4].iter().map(|slot| slot.page.to_string()).collect();
-    let (head, tail) = (state.head, state.tail);
-    println!("{name},{number},{stores},{},{head},{tail},{}", pages.join(","), hash(image));
+/// The stores of a taken call, or 1,000 times a refused one's number.
+fn code(answer: Answer<u64>) -> u64 {
+    answer.unwrap_or_else(|refusal| 1000 * u64::from(refusal.number()))
 }
 
 impl Store {
-    fn show(&self, name: &str, answer: Answer<u64>) {
-        line(name, &self.image, &self.state, answer);
+    fn fresh() -> Store {
+        let sizes = Sizes { p: 6, s: 4, j: 6 };
+        let mut image = vec![0; sizes.image_length()];
+        let state = format(sizes, &mut image).expect("sizes in range");
+        Store { state, image }
     }
 
-    fn end(&mut self) {
-        let _ = run(&mut self.state, &mut self.image, 1000);
-    }
-
-    fn free(&mut self, name: &str) {
-        let answer = free_slot(&mut self.state, &self.image);
-        self.show(name, answer);
-    }
-
-    fn free_whole(&mut self, names: &[&str]) {
-        for name in names {
-            self.free(name);
-            self.end();
-        }
-    }
-
-    fn begin(&mut self, writer: u64) {
-        begin(&mut self.state, writer).expect("closed");
-    }
-
-    fn abort(&mut self, writer: u64) {
-        abort(&mut self.state, writer).expect("open");
-    }
-
-    /// The first lines of some pages: a page and a count each.
-    fn lines(&mut self, writer: u64, pages: &[(u64, u64)]) {
-        for &(page, count) in pages {
-            for line in 0..count {
-                let patch = Patch { offset: 0, length: 1, data: &[165] };
-                write(&mut self.state, &self.image, (writer, page, line), patch).expect("taken");
-                self.end();
-            }
-        }
-    }
-
-    fn commit(&mut self, writer: u64) {
-        commit(&mut self.state, &self.image, writer).expect("room");
-        self.end();
-    }
-
-    fn checkpoint(&mut self) {
-        checkpoint(&mut self.state, &self.image).expect("taken");
-        self.end();
-    }
-
-    fn mount(&mut self) {
-        self.state = mount(&self.image).expect("mounts");
-    }
-
-    fn situations(&mut self) {
-        self.free_whole(&["none taken"]);
-        self.begin(0);
-        self.lines(0, &[(3, 1)]);
-        self.free_whole(&["held"]);
-        self.commit(0);
-        self.free("one line");
-        self.free_whole(&["pending", "free again"]);
-        self.checkpoint();
-        self.begin(0);
-        self.lines(0, &[(0, 33), (1, 32), (2, 63), (3, 1)]);
-        self.commit(0);
-        self.free_whole(&["tie of one line", "the other one", "journal full"]);
-        self.checkpoint();
-        self.free_whole(&["33 ones", "32 ones", "none left"]);
-        self.checkpoint();
-        self.begin(0);
-        self.lines(0, &[(4, 64)]);
-        self.commit(0);
-        self.begin(1);
-        self.lines(1, &[(5, 1)]);
-        self.abort(1);
-        self.free_whole(&["64 ones or none", "the other of them"]);
-        self.checkpoint();
-        self.held_and_cut();
-        self.held_or_full();
-        self.turned_back();
-    }
-
-    fn held_and_cut(&mut self) {
-        self.begin(0);
-        self.lines(0, &[(0, 2), (1, 3)]);
-        self.commit(0);
-        self.begin(2);
-        self.lines(2, &[(0, 1)]);
-        self.free("held slot skipped");
-        self.mount();
-        self.free("after a cut");
-        let answer = run(&mut self.state, &mut self.image, 20);
-        self.show("cut before the last but one", answer);
-        self.mount();
-        let mounted = self.state.clone();
-        self.free("mounted");
-        self.state = mounted;
-    }
-
-    fn held_or_full(&mut self) {
-        for _ in 0..4 {
-            self.begin(0);
-            self.lines(0, &[(0, 1)]);
-            self.commit(0);
-        }
-        self.begin(3);
-        self.lines(3, &[(0, 1), (1, 1)]);
-        self.free_whole(&["held and full"]);
-        self.abort(3);
-        self.free_whole(&["full"]);
-    }
-
-    fn turned_back(&mut self) {
-        let (state, image) = (self.state.clone(), self.image.clone());
-        let turned = |name, mut state: State, length: usize| {
-            let answer = free_slot(&mut state, &image[..length]);
-            line(name, &image, &state, answer);
-        };
-        let whole = image.len();
-        turned("short", state.clone(), whole - 1);
-        turned("broken", State { next: 4, ..state.clone() }, whole);
-        turned("both", State { next: 4, ..state.clone() }, 0);
-        turned("17 slots", State { sizes: Sizes { s: 17, ..state.sizes }, ..state }, whole);
-    }
-
-    /// The call that a pick stands for, with arguments by a.
-    fn call(&mut self, pick: u64, a: u64) -> Answer<u64> {
-        let (writer, page, line) = (a / 64 % 2, a / 1024 % 6, a / 65536 % 64);
+    fn make(&mut self, call: &Call) -> Answer<u64> {
+        let &Call { writer, page, line, .. } = call;
         let Store { state, image } = self;
-        match pick {
-            0..=2 => begin(state, writer),
-            3 => abort(state, writer),
-            4..=9 => {
-                let data = [(a / 256 % 256) as u8];
-                write(state, image, (writer, page, line), Patch { offset: 0, length: 1, data: &data })
+        match call.kind {
+            1 => begin(state, writer),
+            2 => abort(state, writer),
+            3 => {
+                let patch = Patch { offset: 0, length: 1, data: &[call.byte()] };
+                write(state, image, (writer, page, line), patch)
             }
-            10..=13 => commit(state, image, writer),
-            14 => consolidate(state, image, page),
-            15 => checkpoint(state, image),
-            16 | 17 => free_slot(state, image),
-            18 if a < 1 << 28 => mount(image).map(|mounted| *state = mounted).map(|()| 0),
-            19 => run(state, image, 0),
-            20 => run(state, image, 1),
-            21 => run(state, image, 9),
-            _ => run(state, image, 1000),
-        }
-    }
-}
-
-fn next(seed: u64) -> u64 {
-    (1_103_515_245 * seed + 12_345) % (1 << 31)
-}
-
-fn walk(turns: u64) {
-    let mut store = fresh();
-    let (mut seed, mut sum) = (1, 0);
-    let mut answers = vec![];
-    for turn in 1..=turns {
-        let one = next(seed);
-        seed = next(one);
-        let pick = one / 65536 % 32;
-        let (number, stores) = split(store.call(pick, seed));
-        if pick == 16 || pick == 17 {
-            answers.push(number);
-        }
-        sum = (31 * sum + 1000 * number + stores) % MODULUS;
-        if turn % 500 == 0 {
-            let count = |wanted| answers.iter().filter(|&&number| number == wanted).count();
-            let (freed, none, full) = (count(0), count(22), count(19));
-            println!("walk,{turn},{freed},{none},{full},{sum},{}", hash(&store.image));
+            4 => commit(state, image, writer),
+            5 => consolidate(state, image, page),
+            6 => checkpoint(state, image),
+            7 => mount(image).map(|mounted| *state = mounted).map(|()| 0),
+            8 => free_slot(state, image),
+            9 => free_slot(state, &image[1..]),
+            _ => {
+                (state.next, state.sizes.s) = (page, line);
+                Ok(0)
+            }
         }
     }
 }
 
 fn main() {
-    fresh().situations();
-    walk(6000);
+    let mut store = Store::fresh();
+    let table = TABLE.iter().copied();
+    let walk = (TABLE.len() as u64 + 1..).map(picked).take(6000);
+    let mut sum = 0;
+    for call in (1..).zip(table.chain(walk)).flat_map(|(place, number)| Call::all(place, number)) {
+        let made = code(store.make(&call));
+        let ran = code(run(&mut store.state, &mut store.image, call.stores));
+        sum = (31 * (31 * sum + made) + ran) % MODULUS;
+        if call.frees() {
+            println!("{made},{},{sum}", hash(&store.image));
+        }
+    }
 }

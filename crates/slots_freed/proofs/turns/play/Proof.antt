@@ -1,17 +1,19 @@
 -- A turn a call.
 use Prim.Native.Nat.{_-_, _≤_}
+use mathlib.Core.Path.{_≡_}
+use lib.ListN.{length}
 use borrow.Author.Needs.{needs}
-use Rattle.slots_freed.proofs.walk.turns.Statement.{statement}
-use Rattle.slots_freed.proofs.walk.turns.Tie as tie
+use Rattle.slots_freed.proofs.turns.play.Statement.{statement}
+use Rattle.slots_freed.proofs.turns.play.Tie as tie
 
 abbrev Inv-loop : tie.InvT-loop
-Inv-loop image₀ n st₀ t₀ seed₀ i₀ image st t seed i = i ≤ n
+Inv-loop image₀ st₀ sum₀ call₀ -turn₀ image st sum call -turn = (-turn ≤ 6261) × (length image ≡ length image₀)
 
 abbrev μ-loop : tie.MeasureT-loop
-μ-loop image₀ n st₀ t₀ seed₀ i₀ image st t seed i = n - i
+μ-loop image₀ st₀ sum₀ call₀ -turn₀ image st sum call -turn = 6261 - -turn
 
-pub turns-spec : {M : Type 1} → statement M
-turns-spec =
+pub play-spec : {M : Type 1} → statement M
+play-spec =
     tie.close
     (tie.spec
     Inv-loop
@@ -22,10 +24,7 @@ turns-spec =
     (λ c κs. search needs)
     (λ c κs. search needs)
     (λ c κs. search needs)
-    (λ c κs. search needs)
-    (λ c κs. search needs)
     (λ c. search needs)
-    (λ c κs. search needs)
     (λ c. search needs)
     (λ c. search needs)
     (λ c. search needs)
