@@ -4,7 +4,7 @@ ghost use mathlib.Core.Path.{_≡_};
 ghost use mathlib.Core.List.{[], _∷_};
 ghost use Prim.Native.Nat.{_≤_};
 ghost use lib.ListN.{length};
-ghost use Rattle.try_sizes.specs.Program.{nothingRead, Shows, Takes, Reads, TakesSome, Closes, Responds};
+ghost use Rattle.try_sizes.specs.Program.{nothingRead, readsOn, Shows, Takes, Reads, TakesSome, Closes, Responds};
 use libc::STDIN_FILENO;
 use libc::STDOUT_FILENO;
 use trial_lines::Session;
@@ -71,6 +71,13 @@ fn take_piece(s: Reading, image: &mut [u8], line: &mut [u8], piece: &[u8]) -> Re
     s
 }
 
+// Whether a line more would be read: none is after a refused setting, nor past the last round.
+fn reads_on(lines: usize, set: bool) -> bool
+    ensures { λ r. ⌜ r ≡ readsOn lines set ⌝ }
+{
+    (lines == 0) | set & (lines <= 1000)
+}
+
 // Reads a piece of the input and takes its bytes.
 fn read_piece(s: Reading, image: &mut [u8], line: &mut [u8], input: &mut [u8]) -> Reading
     requires { ⌜ s .kept ≤ 1024 ⌝ }
@@ -80,7 +87,8 @@ fn read_piece(s: Reading, image: &mut [u8], line: &mut [u8], input: &mut [u8]) -
     let got = libc::read(STDIN_FILENO, input);
     let n = io::count(got, input);
     let mut next = take_piece(s, image, line, &input[..n]);
-    next.more = (n > 0) & (next.session.lines <= 1000);
+    let session = next.session;
+    next.more = (n > 0) & reads_on(session.lines, session.set);
     next
 }
 
