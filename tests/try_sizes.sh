@@ -1,5 +1,5 @@
 #!/usr/bin/env bash
-# The proved program try_sizes beside the model: chosen inputs, 400 random ones (settings that are taken and refused, rounds that wander, lines
+# The proved program try_sizes beside the model: chosen inputs, 200 random ones (settings that are taken and refused, rounds that wander, lines
 # that are damaged), long lines and more lines than are read. The model puts each store down by the place that it goes to, and holds the pages
 # at the end to bytes kept plainly; settings given the same rounds therefore end with equal bytes, where none is abandoned.
 set -euo pipefail
@@ -49,7 +49,7 @@ put(b"2,1,2\n0\n" + b"0" * 1021 + b"\n" + b"0" * 1022 + b"\n" + b"0" * 1023 + b"
 put(b"1" * (1 << 17))
 put(bytes(random.randrange(256) for _ in range(100000)))
 # random: rounds that wander over the pages
-for i in range(400):
+for i in range(200):
     s = random.choice([1, 1, 2, 3, 4, 6, 8])
     p = random.randint(1, 15 - s) if random.random() < 0.9 else random.randint(1, 20)
     j = s + random.choice([0, 0, 1, 2, 5, 40])

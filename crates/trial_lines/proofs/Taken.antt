@@ -5,7 +5,7 @@ use mathlib.Core.List.{List, [], _∷_, _++_}
 use mathlib.Core.Path.{_≡_, refl}
 use native.Mathlib.Omega.{arith}
 use lib.Dec.{ltb, leb, eqb}
-use lib.ListN.{length, take, replicate, length-append, length-take, length-replicate}
+use lib.ListN.{length, take, length-append, length-take, length-replicate}
 use borrow.Author.Tests.{eq-eqb, ne-eqb, ltb-false}
 use Rattle.bounded.proofs.Tests.{caseOn, or-right}
 use Rattle.text.specs.declared.Line.{Line}

@@ -1,15 +1,14 @@
 -- What is not read would change nothing.
 use Prim.Native.Nat.{ℕ}
-use mathlib.Core.Bool.{Bool, true, false, cond, not, _&&_, _||_}
+use mathlib.Core.Bool.{Bool, true, false, not, _&&_, _||_}
 use mathlib.Core.List.{List, [], _∷_, _++_}
 use mathlib.Core.Path.{_≡_, refl, ap, _∙_}
-use native.Mathlib.Omega.{arith}
 use lib.Dec.{ltb, leb, eqb}
 use lib.ListN.{length}
 use borrow.Author.Tests.{lt-ltb, leb-false}
 use Rattle.bounded.proofs.Tests.{or-left, or-right, row-keeps}
 use Rattle.cutting.specs.Feeding.{Fed, fedByte, fed, ended}
-use Rattle.trial_lines.specs.Lines.{Work, workOf, numbersOf, acted, act}
+use Rattle.trial_lines.specs.Lines.{Work, workOf, acted, act}
 use Rattle.try_sizes.specs.Program.{readsOn, NotRead}
 
 past-last : (set : Bool) (n : ℕ) → set && leb n 1000 ≡ false → not set || ltb 1000 n ≡ true

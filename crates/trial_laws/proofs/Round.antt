@@ -5,19 +5,17 @@ use mathlib.Core.List.{List, [], _∷_}
 use mathlib.Core.Path.{_≡_, refl, sym, ap, _∙_}
 use native.Mathlib.Omega.{arith}
 use lib.Dec.{ltb, leb, eqb}
-use lib.ListN.{getD}
 use borrow.Author.Tests.{eqb-true, eqb-false, ne-eqb, le-leb, le-ltb, ltb-false}
 use Rattle.bounded.proofs.Tests.{caseOn, row-keeps}
 use Rattle.words.specs.Words.{Bytes}
 use Rattle.layout.specs.declared.Sizes.{Sizes}
-use Rattle.refinement.specs.Stores.{World}
 use Rattle.refinement.specs.Reference.{Cell, none, byte, laidOver}
 use Rattle.refinement.specs.Statement.{Lent}
 use Rattle.trials.specs.declared.Ask.{Ask}
 use Rattle.trials.specs.declared.Ask.the-variants.{Begin, Write, Free, Checkpoint, Commit, Abort}
 use Rattle.trials.specs.Trials.{callOf, Tried, made, withRoom, put, putAll, committed, counted, asDone, asAbandoned, played}
-use Rattle.trial_pages.specs.Pages.{isListed, marked}
-use Rattle.trial_pages.proofs.Book.{Stands, wrote, blankSheet, stands-refused, stands-begin, stands-free, stands-checkpoint, stands-write, stands-commit, stands-as}
+use Rattle.trial_laws.specs.Pages.{isListed, marked}
+use Rattle.trial_laws.proofs.Book.{Stands, wrote, blankSheet, stands-refused, stands-begin, stands-free, stands-checkpoint, stands-write, stands-commit, stands-as}
 
 -- what holds of both answers of a test, each where it is the one
 row-splits : (P : Tried → Type 0) (b : Bool) (x y : Tried) → (b ≡ true → P x) → (b ≡ false → P y) → P (cond b x y)

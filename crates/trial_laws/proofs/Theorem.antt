@@ -1,6 +1,6 @@
 -- What rounds leave in the pages: by induction over their lines, with the reference machine beside the store.
 use Prim.Native.Nat.{ℕ, _+_, _%_, _<_, _≤_}
-use mathlib.Core.Bool.{Bool, true, false, cond, not}
+use mathlib.Core.Bool.{true, false}
 use mathlib.Core.List.{List, [], _∷_, append-nil}
 use mathlib.Core.Path.{_≡_, refl, sym, ap, subst, _∙_}
 use native.Mathlib.Omega.{arith}
@@ -27,11 +27,11 @@ use Rattle.refinement.proofs.Reached.{reached-first}
 use Rattle.refinement.proofs.RecallCall.{row-is}
 use Rattle.refinement.proofs.Sound.{related-valid, related-durable}
 use Rattle.text.specs.declared.Line.{Line}
-use Rattle.trials.specs.Trials.{Tried, formatted, played}
+use Rattle.trials.specs.Trials.{formatted, played}
 use Rattle.trial_lines.specs.Lines.{Work, first, numbersOf, sizesOf, withSetting, isRound, withRound, acted, act}
-use Rattle.trial_pages.specs.Pages.{lineShown, after, pagesOf, marked, leftBy, zeros, Given, endOf, ShownByRounds, EqualBytes}
-use Rattle.trial_pages.proofs.Book.{Stands, blankSheet}
-use Rattle.trial_pages.proofs.Round.{abandoned-some, round-done, round-stands}
+use Rattle.trial_laws.specs.Pages.{lineShown, after, pagesOf, marked, leftBy, zeros, ShownByRounds, EqualBytes}
+use Rattle.trial_laws.proofs.Book.{Stands, blankSheet}
+use Rattle.trial_laws.proofs.Round.{abandoned-some, round-done, round-stands}
 
 -- ---- the setting
 
