@@ -85,11 +85,13 @@ if ! (for piece in '3,' '2,2\n0' ',1\n2\n' '1' '\n'; do printf "$piece"; sleep 0
     differ=$((differ + 1))
     echo "try_sizes: differs on pieces"
 fi
-# past the last round the input is not read on
-ran=$((ran + 1))
-if ! (printf '3,2,2\n'; yes 1 || true) 2> /dev/null | timeout 20 target/bin/try_sizes > "$work/shown"; then
-    differ=$((differ + 1))
-    echo "try_sizes: does not end on an endless input"
-fi
+# past the last round, and after a refused setting, the input is not read on
+for setting in 3,2,2 0,2,2; do
+    ran=$((ran + 1))
+    if ! (printf '%s\n' "$setting"; yes 1 || true) 2> /dev/null | timeout 20 target/bin/try_sizes > "$work/shown"; then
+        differ=$((differ + 1))
+        echo "try_sizes: does not end on an endless input after $setting"
+    fi
+done
 echo "try_sizes: $ran inputs, $differ differ"
 [ "$differ" -eq 0 ]
