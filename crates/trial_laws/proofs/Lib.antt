@@ -1,0 +1,5 @@
+pub mod Book
+pub mod Round
+pub mod Theorem
+pub mod Needed
+pub mod Low

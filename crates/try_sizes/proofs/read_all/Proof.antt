@@ -1,0 +1,55 @@
+-- At each turn the bytes read so far have brought the program there.
+use mathlib.Core.List.{[], _++_}
+use mathlib.Core.Path.{_≡_, refl, _∙_}
+use lib.ListN.{length, take}
+use borrow.Author.Needs.{needs}
+use Rattle.try_sizes.specs.Program.{TakesSome}
+use Rattle.try_sizes.proofs.Going.{takes-none, takes-then}
+use Rattle.try_sizes.proofs.read_all.Statement.{statement}
+use Rattle.try_sizes.proofs.read_all.Tie as tie
+
+abbrev Inv-loop : tie.InvT-loop
+Inv-loop image₀ line₀ input₀ s₀ turns₀ image line input s turns =
+    (length image ≡ length image₀) × (length line ≡ length line₀) × (length input ≡ length input₀) × TakesSome s₀ image₀ line₀ s image line
+
+abbrev μ-loop : tie.MeasureT-loop
+μ-loop image₀ line₀ input₀ s₀ turns₀ image line input s turns = turns
+
+loop-holds : tie.Need-loop-holds Inv-loop μ-loop
+loop-holds c = (refl, refl, refl, record { bytes = []; goes = takes-none (c .before .before .before .pre .0) })
+
+read-piece-requires : tie.Need-read-piece-requires Inv-loop μ-loop
+read-piece-requires c κs =
+    let inv = c .before .before .before .before .before .loop .inv in
+    (inv .3 .goes .fits, inv .1 ∙ c .before .before .before .before .before .before .before .before .before .pre .1)
+
+loop-again : tie.Need-loop-again Inv-loop μ-loop
+loop-again c =
+    let done = c .before .before .before .before .before .before .read-piece in
+    let inv = c .before .before .before .before .before .before .before .before .before .before .before .before .loop .inv in
+    let read = done .ensures in (
+      done .kept .1 .0 ∙ inv .0,
+      done .kept .1 .1 .0 ∙ inv .1,
+      done .kept .1 .1 .1 .0 ∙ inv .2,
+      record { bytes = inv .3 .bytes ++ take (read .count) _; goes = takes-then (inv .3 .goes) (read .goes) },
+    )
+
+pub read-all-spec : {M : Type 1} → statement M
+read-all-spec =
+    tie.close
+    (tie.spec
+    Inv-loop
+    μ-loop
+    loop-holds
+    read-piece-requires
+    (λ c. search needs)
+    (λ c. search needs)
+    loop-again
+    (λ c. c .before .before .loop .inv .0)
+    (λ c. c .before .before .loop .inv .1)
+    (λ c. c .before .before .loop .inv .2)
+    (λ c. c .before .before .loop .inv .3)
+    (λ c. c .before .loop .inv .0)
+    (λ c. c .before .loop .inv .1)
+    (λ c. c .before .loop .inv .2)
+    (λ c. c .before .loop .inv .3))

@@ -1,0 +1,40 @@
+use mathlib.Core.Path.{sym}
+use native.Mathlib.Omega.{arith}
+use lib.Seq.{length-take-le}
+use borrow.Author.Needs.{needs}
+use Rattle.try_sizes.proofs.Going.{takes-newline, takes-full, takes-byte}
+use Rattle.try_sizes.proofs.take_byte.Statement.{statement}
+use Rattle.try_sizes.proofs.take_byte.Tie as tie
+
+slice-aggregate-take-line : tie.Need-slice-aggregate-take-line
+slice-aggregate-take-line c =
+    let s = c .before .before .before .before .before in
+    sym (length-take-le (s .args .s .kept) (s .args .line .now) (omega (arith, s .pre .0, s .pre .1)))
+
+returns : tie.Need-returns
+returns c =
+    let s = c .before .before .before .before .before .before .before .before in
+    let made = c .before .before .take-line in
+    takes-newline (s .pre .1) (s .args .b) (c .before .before .before .before .before .if1 .taken) (made .result) _ (made .ensures)
+
+returns-2 : tie.Need-returns-2
+returns-2 c = let s = c .before .before .before .before in takes-full (s .pre .1) (s .args .b) (c .before .if1 .left) (c .if2 .taken) (s .pre .0)
+
+returns-3 : tie.Need-returns-3
+returns-3 c = let s = c .before .before .before .before in takes-byte (s .pre .1) (s .args .b) (c .before .if1 .left) (c .if2 .left)
+
+pub take-byte-spec : {M : Type 1} → statement M
+take-byte-spec =
+    tie.close
+    (tie.spec
+    (λ c. search needs)
+    slice-aggregate-take-line
+    (λ c κs. search needs)
+    (λ c. search needs)
+    (λ c. search needs)
+    returns
+    returns-2
+    (λ c. search needs)
+    (λ c. search needs)
+    (λ c. search needs)
+    returns-3)
