@@ -3,3 +3,4 @@ pub mod Round
 pub mod Theorem
 pub mod Needed
 pub mod Low
+pub mod Placing
