@@ -2,7 +2,6 @@
 use Prim.Native.Nat.{ℕ, zero, suc, _+_, _-_, min}
 use mathlib.Core.Bool.{Bool, true, false, cond, not, _&&_}
 use mathlib.Core.List.{List, [], _∷_}
-use mathlib.Core.Logic.{inl, inr}
 use mathlib.Core.Path.{_≡_, refl, sym, ap, ap₂, subst, _∙_}
 use native.Mathlib.Omega.{arith}
 use lib.Dec.{ltb, leb, eqb}
@@ -17,12 +16,11 @@ use Rattle.validity.specs.Validity.{stateOk}
 use Rattle.refinement.specs.Stores.{World}
 use Rattle.refinement.specs.Calls.{stepRows, runOf}
 use Rattle.refinement.specs.Run.{Call, begin, commit, free, checkpoint, run, write, exec}
-use Rattle.refinement.specs.Reference.{Cell, none, byte, laidOver, Task, writing, committing, nothing, Work, idle, under, Reference, withWork, does, starts, continues, advances, taken, turn}
+use Rattle.refinement.specs.Reference.{Cell, none, byte, laidOver, Task, writing, committing, moving, nothing, Work, idle, under, Reference, withWork, does, starts, continues, advances, taken, turn}
 use Rattle.refinement.specs.Statement.{Lent}
 use Rattle.refinement.proofs.Copies.{durable-fits}
-use Rattle.refinement.proofs.Invariant.{Related}
+use Rattle.refinement.proofs.Between.{Between, between-valid, between-durable, between-pending}
 use Rattle.refinement.proofs.Reached.{Reached, reached-next}
-use Rattle.refinement.proofs.Sound.{busy-pending, related-valid, related-durable}
 
 -- ---- a run of what is under way
 
@@ -30,17 +28,16 @@ no-work : Work → Bool
 no-work idle = true
 no-work (under t k) = false
 
-busy : {past : List ℕ} (v : World) (b : Reference) (t : Task) (m : ℕ) → Related past v b → b .work ≡ under t m → isIdle (v .st .pending .op) ≡ false
+busy : {past : List ℕ} (v : World) (b : Reference) (t : Task) (m : ℕ) → Between past v b → b .work ≡ under t m → isIdle (v .st .pending .op) ≡ false
 unfolding no-work
-busy v b t m (inl q) u = contradicts (ap no-work (q .work)) (ap no-work u)
-busy v b t m (inr q) u = busy-pending (v .st) (v .image) b q
+busy v b t m h u = between-pending v b h (λ q. contradicts (ap no-work q) (ap no-work u))
 
-run-taken : {past : List ℕ} (v : World) (b : Reference) (t : Task) (m k : ℕ) → Related past v b → b .work ≡ under t m → exec (run k) v .number ≡ 0
+run-taken : {past : List ℕ} (v : World) (b : Reference) (t : Task) (m k : ℕ) → Between past v b → b .work ≡ under t m → exec (run k) v .number ≡ 0
 unfolding exec runOf
 run-taken {past} v b t m k h u =
-    let valid : not (stateOk (v .st)) ≡ false = ap not (related-valid (v .st) (v .image) b h) in
+    let valid : not (stateOk (v .st)) ≡ false = ap not (between-valid v b h) in
     let fits : ltb (length (v .image)) (imageLength (v .st .sizes)) ≡ false =
-    le-ltb (length (v .image)) (imageLength (v .st .sizes)) (durable-fits past (v .st) (v .image) b (related-durable (v .st) (v .image) b h)) in
+    le-ltb (length (v .image)) (imageLength (v .st .sizes)) (durable-fits past (v .st) (v .image) b (between-durable v b h)) in
     sym (row-none (stepRows (v .st) (v .image)) (valid, (fits, (busy v b t m h u, tt))))
 
 -- with nothing under way it changes nothing
@@ -54,6 +51,7 @@ idle-same b h = ap (λ (w : Work). withWork w b) h
 does-work : (t : Task) (b : Reference) → b .work ≡ idle → does t b .work ≡ idle
 does-work (writing w p l o n bytes) b h = h
 does-work (committing w) b h = h
+does-work (moving e m a) b h = caseOn (ltb e 5) (λ t. rw t h) (λ t. rw t h)
 does-work nothing b h = h
 
 -- a task of n stores, and a run of n

@@ -25,7 +25,7 @@ use Rattle.refinement.specs.Reference.{blank, recallLine}
 use Rattle.refinement.proofs.CallSound.{call-sound}
 use Rattle.refinement.proofs.Reached.{reached-first}
 use Rattle.refinement.proofs.RecallCall.{row-is}
-use Rattle.refinement.proofs.Sound.{related-valid, related-durable}
+use Rattle.refinement.proofs.Between.{between-valid, between-durable}
 use Rattle.text.specs.declared.Line.{Line}
 use Rattle.trials.specs.Trials.{formatted, played}
 use Rattle.trial_lines.specs.Lines.{Work, first, numbersOf, sizesOf, withSetting, isRound, withRound, acted, act}
@@ -139,16 +139,16 @@ over-all xs h = rw h (append-nil xs)
 module _ {z : Sizes} {past : List ℕ} {v : World} {f : ℕ → ℕ → ℕ → ℕ} (st : Stands z past v f blankSheet) (p l : ℕ) (has : p < z .pages) (low : l < 64) where
   sizes : sizesFrom (word (v .image)) ≡ z
   sizes =
-      let D = related-durable (v .st) (v .image) (st .book) (st .reached .related) in
+      let D = between-durable v (st .book) (st .reached .related) in
       ap (λ (w : View). w .sizes) (D .shows) ∙ D .sizes-same ∙ st .reached .sizes
 
   recalled : recallRow (v .image) p l (replicate 64 0) ≡ 0
   recalled =
-      let D = related-durable (v .st) (v .image) (st .book) (st .reached .related) in
+      let D = between-durable v (st .book) (st .reached .related) in
       let same : sizesFrom (word (v .image)) .pages ≡ z .pages = ap (λ (y : Sizes). y .pages) sizes in
       let inside : leb (z .pages) p ≡ false = lt-leb (z .pages) p has in
       let t : ltb 63 l ≡ false = le-ltb 63 l (omega arith) in
-      row-is (v .st) (v .image) (st .book) (related-valid (v .st) (v .image) (st .book) (st .reached .related)) D p l (replicate 64 0)
+      row-is (v .st) (v .image) (st .book) (between-valid v (st .book) (st .reached .related)) D p l (replicate 64 0)
       ∙ rw (same, inside, t)
 
   line-shown : lineShown v p l ≡ tab 64 (f p l)
