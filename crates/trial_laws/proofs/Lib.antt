@@ -4,3 +4,4 @@ pub mod Theorem
 pub mod Needed
 pub mod Low
 pub mod Placing
+pub mod Counted

@@ -5,7 +5,7 @@ use mathlib.Core.List.{List, [], _∷_}
 use mathlib.Core.Path.{_≡_, refl, sym, ap, _∙_}
 use native.Mathlib.Omega.{arith}
 use lib.Dec.{ltb, leb, eqb}
-use borrow.Author.Tests.{eqb-true, eqb-false, ne-eqb, le-leb, le-ltb, ltb-false}
+use borrow.Author.Tests.{eqb-true, eqb-false, ne-eqb, le-leb, le-ltb, lt-ltb, ltb-false}
 use Rattle.bounded.proofs.Tests.{caseOn, row-keeps}
 use Rattle.words.specs.Words.{Bytes}
 use Rattle.layout.specs.declared.Sizes.{Sizes}
@@ -22,40 +22,68 @@ row-splits : (P : Tried → Type 0) (b : Bool) (x y : Tried) → (b ≡ true →
 row-splits P true x y p q = p refl
 row-splits P false x y p q = q refl
 
--- ---- rounds abandoned so far
+-- ---- what no call changes, no round does up to its end: the counts of rounds
 
-abbrev Same : Tried → Tried → Type 0
-Same t u = u .abandoned ≡ t .abandoned
+module _ (g : Tried → ℕ) (kept : (a : Ask) (t : Tried) → g (made a t) ≡ g t) where
+  room-same : (a : Ask) (t : Tried) → g (withRoom a t) ≡ g t
+  unfolding withRoom
+  room-same a t =
+      row-keeps (λ (u : Tried). g u ≡ g t) (eqb (made a t .number) 19) (made a (made Checkpoint (made a t))) (made a t)
+      (kept a (made Checkpoint (made a t)) ∙ (kept Checkpoint (made a t) ∙ kept a t)) (kept a t)
 
-made-same : (a : Ask) (t : Tried) → Same t (made a t)
+  put-same : (b p : ℕ) (t : Tried) → g (put b p t) ≡ g t
+  unfolding put
+  put-same b p t =
+      let u = made (Write p b) t in
+      let f = withRoom Free u in
+      let e : g f ≡ g t = room-same Free u ∙ kept (Write p b) t in
+      row-keeps (λ (w : Tried). g w ≡ g t) (eqb (u .number) 15) (cond (eqb (f .number) 0) (made (Write p b) f) f) u
+      (row-keeps (λ (w : Tried). g w ≡ g t) (eqb (f .number) 0) (made (Write p b) f) f (kept (Write p b) f ∙ e) e) (kept (Write p b) t)
+
+  all-same : (b : ℕ) (ps : List ℕ) (t : Tried) → g (putAll b ps t) ≡ g t
+  unfolding putAll
+  all-same b [] t = refl
+  all-same b (p ∷ ps) t =
+      let u = put b p t in
+      row-keeps (λ (w : Tried). g w ≡ g t) (eqb (u .number) 0) (putAll b ps u) u (all-same b ps u ∙ put-same b p t) (put-same b p t)
+
+  committed-same : (t : Tried) → g (committed t) ≡ g t
+  unfolding committed
+  committed-same t = row-keeps (λ (w : Tried). g w ≡ g t) (eqb (t .number) 0) (withRoom Commit t) t (room-same Commit t) refl
+
+  round-same : (ps : List ℕ) (b : ℕ) (t : Tried) → g (committed (putAll b ps (made Begin t))) ≡ g t
+  round-same ps b t = committed-same (putAll b ps (made Begin t)) ∙ (all-same b ps (made Begin t) ∙ kept Begin t)
+
+made-done : (a : Ask) (t : Tried) → made a t .done ≡ t .done
 unfolding made
-made-same a t = refl
+made-done a t = refl
 
-room-same : (a : Ask) (t : Tried) → Same t (withRoom a t)
-unfolding withRoom
-room-same a t =
-    row-keeps (Same t) (eqb (made a t .number) 19) (made a (made Checkpoint (made a t))) (made a t)
-    (made-same a (made Checkpoint (made a t)) ∙ (made-same Checkpoint (made a t) ∙ made-same a t)) (made-same a t)
+made-abandoned : (a : Ask) (t : Tried) → made a t .abandoned ≡ t .abandoned
+unfolding made
+made-abandoned a t = refl
 
-put-same : (b p : ℕ) (t : Tried) → Same t (put b p t)
-unfolding put
-put-same b p t =
-    let u = made (Write p b) t in
-    let f = withRoom Free u in
-    let e : Same t f = room-same Free u ∙ made-same (Write p b) t in
-    row-keeps (Same t) (eqb (u .number) 15) (cond (eqb (f .number) 0) (made (Write p b) f) f) u
-    (row-keeps (Same t) (eqb (f .number) 0) (made (Write p b) f) f (made-same (Write p b) f ∙ e) e) (made-same (Write p b) t)
+-- a round more is counted, as long as there are fewer than 1,000
+counted-more : (n : ℕ) → n < 1000 → counted n ≡ n + 1
+counted-more n h = rw (lt-ltb n 1000 h)
 
-all-same : (b : ℕ) (ps : List ℕ) (t : Tried) → Same t (putAll b ps t)
-unfolding putAll
-all-same b [] t = refl
-all-same b (p ∷ ps) t =
-    let u = put b p t in
-    row-keeps (Same t) (eqb (u .number) 0) (putAll b ps u) u (all-same b ps u ∙ put-same b p t) (put-same b p t)
+pub abandoned-more : (t : Tried) → t .done + t .abandoned < 1000 → asAbandoned t .done + asAbandoned t .abandoned ≡ t .done + t .abandoned + 1
+unfolding asAbandoned
+abandoned-more t h = rw (counted-more (t .abandoned) (omega arith)) (omega arith)
 
-committed-same : (t : Tried) → Same t (committed t)
-unfolding committed
-committed-same t = row-keeps (Same t) (eqb (t .number) 0) (withRoom Commit t) t (room-same Commit t) refl
+done-more : (t : Tried) → t .done + t .abandoned < 1000 → asDone t .done + asDone t .abandoned ≡ t .done + t .abandoned + 1
+unfolding asDone
+done-more t h = rw (counted-more (t .done) (omega arith)) (omega arith)
+
+pub played-more : (ps : List ℕ) (b : ℕ) (t : Tried) → t .done + t .abandoned < 1000 → played ps b t .done + played ps b t .abandoned ≡ t .done + t .abandoned + 1
+unfolding played
+played-more ps b t h =
+    let u = committed (putAll b ps (made Begin t)) in
+    let v = made Abort u in
+    let d : u .done ≡ t .done = round-same (λ (w : Tried). w .done) made-done ps b t in
+    let a : u .abandoned ≡ t .abandoned = round-same (λ (w : Tried). w .abandoned) made-abandoned ps b t in
+    row-keeps (λ (w : Tried). w .done + w .abandoned ≡ t .done + t .abandoned + 1) (eqb (u .number) 0) (asDone u) (asAbandoned v)
+    (omega (arith, done-more u (omega (arith, d, a)), d, a))
+    (omega (arith, abandoned-more v (omega (arith, made-done Abort u, made-abandoned Abort u, d, a)), made-done Abort u, made-abandoned Abort u, d, a))
 
 counted-some : (n : ℕ) → counted n ≡ 0 → ⊥
 counted-some n e =
@@ -77,7 +105,7 @@ pub round-done : (ps : List ℕ) (b : ℕ) (t : Tried) → played ps b t .abando
 unfolding played asDone
 round-done ps b t =
     let u = committed (putAll b ps (made Begin t)) in
-    let kept : Same t u = committed-same (putAll b ps (made Begin t)) ∙ (all-same b ps (made Begin t) ∙ made-same Begin t) in
+    let kept : u .abandoned ≡ t .abandoned = round-same (λ (w : Tried). w .abandoned) made-abandoned ps b t in
     caseOn (eqb (u .number) 0)
     (λ e h.
     let k : u .abandoned ≡ 0 = rw e at h in

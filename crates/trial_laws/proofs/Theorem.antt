@@ -40,9 +40,9 @@ unfolding first formatted
 first-image img = refl
 
 -- the first line gives sizes that format takes
-record Taken (img setting : List ℕ) : Type 0 where
-  number : formatted (sizesOf (numbersOf setting)) img .number ≡ 0
-  same : act (first img) setting ≡ record { tried = formatted (sizesOf (numbersOf setting)) img; lines = 1; set = true }
+pub record Taken (img setting : List ℕ) : Type 0 where
+  pub number : formatted (sizesOf (numbersOf setting)) img .number ≡ 0
+  pub same : act (first img) setting ≡ record { tried = formatted (sizesOf (numbersOf setting)) img; lines = 1; set = true }
 
 setting-taken : (q : Line) (img : List ℕ) → withSetting q (first img) .set ≡ true
     → (formatted (sizesOf q) img .number ≡ 0) × (withSetting q (first img) ≡ record { tried = formatted (sizesOf q) img; lines = 1; set = true })
@@ -54,7 +54,7 @@ setting-taken q img =
     (eqb-true (formatted (sizesOf q) img .number) 0 k, rw (e, first-image img, k)))
     (λ e h. let k : false ≡ true = rw e at h in contradicts k refl)
 
-first-taken : (img setting : List ℕ) → act (first img) setting .set ≡ true → Taken img setting
+pub first-taken : (img setting : List ℕ) → act (first img) setting .set ≡ true → Taken img setting
 unfolding acted first
 first-taken img setting h =
     let t = setting-taken (numbersOf setting) img h in
@@ -90,12 +90,12 @@ round-of q w =
     (λ e k. absurd (abandoned-some (w .tried) (rw e at k)))
 
 -- a line more: the lines left, and where they may be
-record Left (w : Work) (lines : List (List ℕ)) : Type 0 where
-  set : w .set ≡ true
-  some : 1 ≤ w .lines
-  few : w .lines + length lines ≤ 1001
+pub record Left (w : Work) (lines : List (List ℕ)) : Type 0 where
+  pub set : w .set ≡ true
+  pub some : 1 ≤ w .lines
+  pub few : w .lines + length lines ≤ 1001
 
-left-line : (w : Work) (line : List ℕ) (lines : List (List ℕ)) → Left w (line ∷ lines) → (act w line ≡ withRound (numbersOf line) w) × Left (withRound (numbersOf line) w) lines
+pub left-line : (w : Work) (line : List ℕ) (lines : List (List ℕ)) → Left w (line ∷ lines) → (act w line ≡ withRound (numbersOf line) w) × Left (withRound (numbersOf line) w) lines
 unfolding withRound
 left-line w line lines h =
     let few = h .few in

@@ -1,5 +1,6 @@
 -- The counts of stores are machine words (trials, `sum`), but no sum that a trial makes comes near 2^64: each is exact.
 use Prim.Native.Nat.{ℕ, _+_, _≤_, _^_}
+use mathlib.Core.Bool.{true}
 use mathlib.Core.List.{List}
 use mathlib.Core.Path.{_≡_}
 use lib.ListN.{length}
@@ -35,3 +36,9 @@ CountsLow = (buffer setting : List ℕ) (rounds : List (List ℕ)) → length ro
 abbrev pub CountsExact : Type 0
 CountsExact =
     (a : Ask) (t : Tried) → Within (2 ^ 63) (t .spent) → made a t .spent ≡ exactly (t .spent) (storesFor a (exec (callOf a) (t .world) .stores))
+
+-- every round is counted, once: as done or as abandoned
+abbrev pub RoundsCounted : Type 0
+RoundsCounted =
+    (buffer setting : List ℕ) (rounds : List (List ℕ)) → act (first buffer) setting .set ≡ true → length rounds ≤ 1000
+    → (let t = after rounds (act (first buffer) setting) .tried in t .done + t .abandoned ≡ length rounds)
