@@ -78,6 +78,16 @@ for input in "$work"/in/*; do
         echo "try_sizes: differs on $(head -c 60 "$input" | tr '\n' ' ')"
     fi
 done
+# the vectors, whose outputs are worked out by hand
+for input in tests/vectors/try_sizes/*.in; do
+    ran=$((ran + 1))
+    for program in target/bin/try_sizes model/target/release/model-trials; do
+        if ! "$program" < "$input" | cmp -s - "${input%.in}.out"; then
+            differ=$((differ + 1))
+            echo "try_sizes: $program differs on $input"
+        fi
+    done
+done
 # a few bytes at a time, as a slow serial line gives them
 ran=$((ran + 1))
 printf '3,2,2\n0,1\n2\n1\n' | model/target/release/model-trials > "$work/expected"

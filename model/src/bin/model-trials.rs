@@ -110,7 +110,8 @@ impl Trial {
     fn roomy(&mut self, call: impl Fn(&mut Trial) -> Answer<u64>) -> Answer<()> {
         match self.made(&call) {
             Err(Refusal::JournalFull) => {
-                self.made(|trial| checkpoint(&mut trial.state, &trial.image)).expect("a checkpoint is always taken");
+                self.made(|trial| checkpoint(&mut trial.state, &trial.image))
+                    .expect("a checkpoint is always taken");
                 self.made(&call)
             }
             other => other,
