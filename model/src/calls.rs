@@ -36,6 +36,7 @@ pub struct Patch<'a> {
     pub data: &'a [u8],
 }
 
+/// A held line that the data leave as it is needs no stores (document 02, L3).
 pub fn write(
     state: &mut State,
     image: &[u8],
@@ -46,9 +47,14 @@ pub fn write(
     row(BadArgument, (patch.data.len() as u64) < patch.length)?;
     write_rows(state, (writer, page, line), (patch.offset, patch.length))?;
     let frame = page_frame(state, image, page)?;
-    let mut finished = line_shown(state, image, (writer, page, line), frame);
+    let shown = line_shown(state, image, (writer, page, line), frame);
+    let mut finished = shown;
     let (from, length) = (patch.offset as usize, patch.length as usize);
     finished[from..from + length].copy_from_slice(&patch.data[..length]);
+    let held = state.slot_of(page).is_some_and(|slot| state.holds(writer, slot, line));
+    if held && finished == shown {
+        return Ok(0);
+    }
     let Patch { offset, length, .. } = patch;
     Ok(ask(state, Operation::Write(Write { writer, page, line, offset, length, frame, finished })))
 }

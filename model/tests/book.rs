@@ -88,6 +88,8 @@ struct Both {
     rng: Rng,
     taken: u64,
     freed: u64,
+    /// Writes that were taken with no stores.
+    idle: u64,
     /// Only events write to page 0.
     metered: bool,
 }
@@ -100,7 +102,7 @@ impl Both {
         let mut rng = Rng::new(seed, 0);
         let (p, s) = (rng.between(1, 3), rng.between(1, 3));
         let j = rng.between(s, 4);
-        Both { store: Store::fresh(p, s, j), book: Book::default(), rng, taken: 0, freed: 0, metered }
+        Both { store: Store::fresh(p, s, j), book: Book::default(), rng, taken: 0, freed: 0, idle: 0, metered }
     }
 
     fn note(&mut self, call: Underway, answer: Result<u64, u8>) {
@@ -129,11 +131,17 @@ impl Both {
         let (writer, page) =
             (self.rng.pick(&[0, 0, 1, 2]), self.rng.between(first, self.store.state.sizes.p - 1));
         let (line, offset) = (self.rng.pick(&LINES), self.rng.pick(&[0, 3, 63]));
-        let data: Vec<u8> =
+        let mut data: Vec<u8> =
             (0..self.rng.between(1, 64 - offset)).map(|_| self.rng.below(256) as u8).collect();
+        if self.rng.percent(40) {
+            // What the writer reads there.
+            let shown = self.book.line(Some(writer), page, line);
+            data.copy_from_slice(&shown[offset as usize..][..data.len()]);
+        }
         let patch = Patch { offset, length: data.len() as u64, data: &data };
         let answer = calls::write(&mut self.store.state, &self.store.image, (writer, page, line), patch);
         let call = Underway::Write { writer: writer as usize, spot: (page, line, offset), data };
+        self.idle += u64::from(answer.is_ok_and(|needs| needs == 0));
         self.note(call, numbered(answer));
     }
 
@@ -219,7 +227,7 @@ impl Both {
 
 #[test]
 fn the_model_keeps_the_book() {
-    let (mut taken, mut freed, mut events) = (0, 0, 0);
+    let (mut taken, mut freed, mut events, mut idle) = (0, 0, 0, 0);
     for seed in 0..120 {
         let mut both = Both::new(seed, false);
         for _ in 0..120 {
@@ -229,10 +237,12 @@ fn the_model_keeps_the_book() {
         taken += both.taken;
         freed += both.freed;
         events += both.book.events.len();
+        idle += both.idle;
     }
     assert!(taken > 1_000, "only {taken} operations were taken");
     assert!(freed > 30, "only {freed} slots were freed");
     assert!(events > 30, "only {events} events were completed");
+    assert!(idle > 30, "only {idle} writes changed nothing");
 }
 
 /// Document 02: where nothing but events writes to page 0, credit is cash in minus cash out minus bet plus won over the completed events, and the other

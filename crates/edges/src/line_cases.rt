@@ -83,7 +83,7 @@ fn lay(image: &[u8; 12480], offset: usize, n: usize, s: &[u8; 64])
         s,
         n,
     );
-    eight(offset, n, w);
+    eight(offset, n, w.words);
 }
 
 fn merge(image: &[u8; 12480], offset: usize, n: usize)

@@ -126,7 +126,8 @@ fn numbered_line(image: &[u8], z: Sizes, f: usize, l: usize, v: u64) -> [u64; 8]
 {
     let mut data = [0u8; 8];
     words::put_word(&mut data, 0, v);
-    lines::merged_line(image, z, f, l, 0, &data, 8)
+    let line = lines::merged_line(image, z, f, l, 0, &data, 8);
+    line.words
 }
 
 // The second finished line: of the event's own meter, where it moves credit.

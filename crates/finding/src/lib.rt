@@ -1,17 +1,34 @@
-// What a write finds before it is taken: the row that turns it back, or the frames of its page and its line.
+// What a write finds before it is taken: the row that turns it back, or the frames of its page and its line and whether the writer holds the line.
+ghost use mathlib.Core.Path.{_≡_};
+ghost use mathlib.Core.Bool.{_&&_};
+ghost use lib.Dec.{ltb};
 ghost use Prim.Native.Nat.{_<_, _≤_};
 ghost use lib.ListN.{length as listLength};
 ghost use Rattle.layout.specs.Layout.{Legal, imageLength};
+ghost use Rattle.masks.specs.Lines.{inMask};
+ghost use Rattle.state.specs.Held.{heldAt};
 ghost use Rattle.state.specs.Parts.{stateOf};
 ghost use Rattle.finding.specs.Finding.{FramesFound, WriteFound};
 use layout::Sizes;
 use state::Pending;
 
-// The row, 0 where none turns the write back; then the page's frame and the one that the line is read from.
+// The row, 0 where none turns the write back; then the page's frame, the one that the line is read from, and whether the writer holds the line.
 pub struct Found {
     pub row: usize,
     pub frame: usize,
     pub seen: usize,
+    pub held: bool,
+}
+
+// Whether the writer holds the line, s being its page's slot, S where it has none.
+fn holds_line(z: Sizes, held: &[u64; 64], writer: usize, s: usize, line: usize) -> bool
+    requires { ⌜ Legal z × (writer < 4) × (line < 64) ⌝ }
+    ensures { λ r. ⌜ r ≡ ltb s (z .slots) && inMask (heldAt (now (held .entry)) writer s) line ⌝ }
+{
+    if z.slots <= s {
+        return false;
+    }
+    masks::has(held[16 * writer + s], line)
 }
 
 // The rows from 11 on, of a page below P.
@@ -57,10 +74,17 @@ fn frames_found<'a>(
             row,
             frame,
             seen: frame,
+            held: false,
         };
     }
     let seen = frames::seen_frame(z, original, spare, bitmap, held, writer, p, s, line, frame);
-    Found { row, frame, seen }
+    let own = holds_line(z, held, writer, s, line);
+    Found {
+        row,
+        frame,
+        seen,
+        held: own,
+    }
 }
 
 // All rows of a write.
@@ -108,6 +132,7 @@ pub fn write_found<'a>(
             row,
             frame: 0,
             seen: 0,
+            held: false,
         };
     }
     if (data.len() < length) | (p >= z.pages) {
@@ -115,6 +140,7 @@ pub fn write_found<'a>(
             row: 11,
             frame: 0,
             seen: 0,
+            held: false,
         };
     }
     frames_found(

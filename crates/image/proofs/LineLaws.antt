@@ -1,23 +1,27 @@
 -- Lines of the frames: as parts of a frame, by their words, with data laid over them, and copied.
 use mathlib.Core.Path.{_≡_, refl, sym, ap, _∙_}
+use mathlib.Core.Bool.{false, not}
 use mathlib.Core.List.{List, _++_}
 use mathlib.Core.Logic.{_⊎_}
 use Prim.Native.Nat.{ℕ, zero, suc, _+_, _-_, _*_, _≤_, _<_}
 use native.Mathlib.Omega.{arith}
+use lib.Dec.{eqb}
 use lib.ListN.{length, take, drop, getD, length-take, length-drop}
-use lib.Seq.{length-take-le, getD-take, take-all}
+use lib.Seq.{length-take-le, getD-take, take-all, ext-getD}
+use borrow.Author.Tests.{eqb-true, eq-eqb, not-false}
 use Rattle.bounded.specs.Below.{upTo}
 use Rattle.bounded.specs.Tab.{tab}
-use Rattle.bounded.proofs.Below.{split-below, up-keeps}
+use Rattle.bounded.proofs.Below.{split-below, none-at, none-made, up-keeps}
 use Rattle.bounded.proofs.Tab.{tab-ext}
+use Rattle.bounded.proofs.Tests.{caseOn}
 use Rattle.layout.specs.declared.Sizes.{Sizes}
 use Rattle.words.specs.Words.{part, over, wordAt, word, Bytes, flat}
 use Rattle.layout.specs.Layout.{frames, lineWord, imageLength}
-use Rattle.image.specs.Lines.{lineBytes, merged, lineWords, copyStore, copyStores}
+use Rattle.image.specs.Lines.{lineBytes, merged, differ, mergeChanges, lineWords, copyStore, copyStores}
 use Rattle.words.proofs.Bytes.{bytes-take}
 use Rattle.words.proofs.Parts.{length-part, part-part, length-over, bytes-over, getD-over, getD-over-other, over-whole, over-back, copied}
 use Rattle.words.proofs.WordLaws.{word-part, word-lt, word-store, word-store-other, length-store, bytes-store}
-use Rattle.words.proofs.Runs.{flat-words, words-tab}
+use Rattle.words.proofs.Runs.{length-words, flat-words, words-tab}
 use Rattle.layout.proofs.LayoutLaws.{line-apart}
 
 -- ---- a frame's bytes, cut out of the image
@@ -65,6 +69,29 @@ pub flat-line : (line : List ℕ) → Bytes line → length line ≡ 64 → flat
 unfolding part
 flat-line line b e = flat-words line b 8 0 (omega arith) ∙ take-all 64 line (omega arith)
 
+-- ---- lists that differ at no place are the same
+
+pub differ-none : (n : ℕ) (xs ys : List ℕ) → length xs ≡ n → length ys ≡ n → differ n xs ys ≡ false → xs ≡ ys
+differ-none n xs ys h k e =
+    ext-getD 0 xs ys (h ∙ sym k)
+    (λ i m. eqb-true (getD xs i 0) (getD ys i 0) (not-false (eqb (getD xs i 0) (getD ys i 0)) (none-at (λ j. not (eqb (getD xs j 0) (getD ys j 0))) n i (omega (arith, m, h)) e)))
+
+pub differ-same : (n : ℕ) (xs ys : List ℕ) → xs ≡ ys → differ n xs ys ≡ false
+differ-same n xs ys e =
+    none-made (λ i. not (eqb (getD xs i 0) (getD ys i 0))) n (λ i m. ap not (eq-eqb (getD xs i 0) (getD ys i 0) (ap (λ (l : List ℕ). getD l i 0) e)))
+
+-- lines differ where their words do
+pub differ-words : (xs ys : List ℕ) → Bytes xs → Bytes ys → length xs ≡ 64 → length ys ≡ 64 → differ 8 (lineWords xs) (lineWords ys) ≡ differ 64 xs ys
+differ-words xs ys bx by h k =
+    caseOn (differ 64 xs ys)
+    (λ t.
+    caseOn (differ 8 (lineWords xs) (lineWords ys))
+    (λ u. u ∙ sym t)
+    (λ u.
+    let e : xs ≡ ys = sym (flat-line xs bx h) ∙ ap flat (differ-none 8 (lineWords xs) (lineWords ys) (length-words xs 8 0) (length-words ys 8 0) u) ∙ flat-line ys by k in
+    u ∙ sym (differ-same 64 xs ys e)))
+    (λ t. differ-same 8 (lineWords xs) (lineWords ys) (ap lineWords (differ-none 64 xs ys h k t)) ∙ sym t)
+
 -- ---- a line with data laid over it
 
 pub bytes-merged : (line : List ℕ) (offset n : ℕ) (bytes : List ℕ) → Bytes line → Bytes bytes → Bytes (merged line offset n bytes)
@@ -87,6 +114,16 @@ module _ (line : List ℕ) (offset n : ℕ) (bytes : List ℕ) (sized : length l
 
   pub getD-merged-other : (i : ℕ) → (offset + n ≤ i) ⊎ (i < offset) → getD (merged line offset n bytes) i 0 ≡ getD line i 0
   getD-merged-other i h = getD-over-other line offset (take n bytes) laid-fits i (rw laid-length h)
+
+  -- where no byte changed, the line is as it was
+  pub merge-same : mergeChanges line offset n bytes ≡ false → merged line offset n bytes ≡ line
+  unfolding mergeChanges
+  merge-same e = differ-none 64 (merged line offset n bytes) line length-merged sized e
+
+  -- told by the words of the line and of the merged one
+  pub merge-words : Bytes line → Bytes bytes → differ 8 (lineWords (merged line offset n bytes)) (lineWords line) ≡ mergeChanges line offset n bytes
+  unfolding mergeChanges
+  merge-words h k = differ-words (merged line offset n bytes) line (bytes-merged line offset n bytes h k) h length-merged sized
 
   -- what is left of a buffer to which the line and then, from offset on, the data were copied
   pub merge-back : (d : List ℕ) {w y : List ℕ} → length d ≡ 64 → w ≡ over d 0 line

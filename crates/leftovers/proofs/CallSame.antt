@@ -1,6 +1,6 @@
 -- Every call in two images that are alike, of the same state and the same reference machine: the same answer, and images alike again.
 use Prim.Native.Nat.{ℕ, _<_, min}
-use mathlib.Core.Bool.{Bool, true, false, cond, not, _||_}
+use mathlib.Core.Bool.{Bool, true, false, cond, not, _&&_, _||_}
 use mathlib.Core.List.{List, [], _∷_}
 use mathlib.Core.Path.{_≡_, refl, sym, ap, ap₂, _∙_}
 use native.Mathlib.Omega.{arith}
@@ -12,7 +12,7 @@ use Rattle.bounded.proofs.Rows.{none-apply}
 use Rattle.bounded.proofs.Tests.{caseOn}
 use Rattle.layout.specs.declared.Sizes.{Sizes}
 use Rattle.layout.specs.Layout.{imageLength}
-use Rattle.image.specs.Lines.{lineBytes, merged, lineWords}
+use Rattle.image.specs.Lines.{merged, mergeChanges, lineWords}
 use Rattle.words.specs.Words.{word, wordAt, bytesOf}
 use Rattle.replay.specs.declared.Table.{Table}
 use Rattle.replay.specs.Table.{slotOf}
@@ -25,13 +25,13 @@ use Rattle.operations.specs.Operations.{isIdle, slotFor, slotted, frameBad, jou
 use Rattle.operations.proofs.Taken.{args-good}
 use Rattle.meters.specs.Meters.{eventKnown, movesCredit, firstMeter, ownMeter, eventNeeds, rolled, firstNumber, amountBad}
 use Rattle.meters.proofs.MeterLaws.{first-low, own-range}
-use Rattle.refinement.specs.Frames.{pageFrame, seenFrame}
+use Rattle.refinement.specs.Frames.{pageFrame, holds}
 use Rattle.refinement.specs.Freeing.{freedSlot, freedPage}
 use Rattle.refinement.specs.Mount.{quietState}
 use Rattle.refinement.specs.Outcome.{Outcome, answered}
 use Rattle.refinement.specs.Settled.{withLines}
 use Rattle.refinement.specs.Stores.{World, stepped, steppedBy, left}
-use Rattle.refinement.specs.Calls.{rowState, rowPending, rowNotPending, worldOf, asked, beginOf, abortOf, writeCallRows, finishedLine, writeOf, commitOf, consolidateOf, freeOf, checkpointOf, eventLine, eventSecond, eventCallRows, eventOf, readRows, readRow, readBytes, stepRows, stepRow, stepOf, stepBytes, runOf, runBytes}
+use Rattle.refinement.specs.Calls.{rowState, rowPending, rowNotPending, withPending, worldOf, asked, beginOf, abortOf, writeCallRows, seenLine, changesNothing, writeOf, commitOf, consolidateOf, freeOf, checkpointOf, eventLine, eventSecond, eventCallRows, eventOf, readRows, readRow, readBytes, stepRows, stepRow, stepOf, stepBytes, runOf, runBytes}
 use Rattle.refinement.specs.Recall.{recallRow, recallBytes}
 use Rattle.refinement.specs.Run.{Call, Result, mount, checkpoint, free, step, begin, abort, commit, consolidate, run, write, read, recall, event, exec, result}
 use Rattle.refinement.specs.Reference.{Reference}
@@ -56,18 +56,10 @@ use Rattle.leftovers.proofs.SameRows.{same-refusal}
 by-outcome : {o p : Outcome} {x y : List ℕ} → o ≡ p → Same (result o x) (result p y)
 by-outcome e = record { number = ap (λ (o : Outcome). o .number) e; stores = ap (λ (o : Outcome). o .stores) e; target = refl; state = ap (λ (o : Outcome). o .state) e }
 
--- an operation asked for: the finished line and the frame matter where it is taken
-asked-same : (st : State) (row : ℕ) (op : Op) (line line′ : List ℕ) (frame frame′ : ℕ) → (row ≡ 0 → (line ≡ line′) × (frame ≡ frame′))
-    → asked row st op line frame ≡ asked row st op line′ frame′
-asked-same st row op line line′ frame frame′ f =
-    caseOn (eqb row 0)
-    (λ t. let q = f (eqb-true row 0 t) in ap₂ (λ (l : List ℕ) (g : ℕ). asked row st op l g) (q .0) (q .1))
-    (λ t. rw t)
-
--- a call answered: the state after it matters where it is taken
-answered-same : (st : State) (row row′ n : ℕ) (after after′ : State) → row ≡ row′ → (row ≡ 0 → after ≡ after′) → answered row st n after ≡ answered row′ st n after′
-answered-same st row row′ n after after′ e f =
-    caseOn (eqb row 0) (λ t. ap (answered row st n) (f (eqb-true row 0 t))) (λ t. rw t) ∙ ap (λ (r : ℕ). answered r st n after′) e
+-- a call answered: the stores and the state after it matter where it is taken
+answered-same : (st : State) (row row′ n n′ : ℕ) (after after′ : State) → row ≡ row′ → (row ≡ 0 → (n ≡ n′) × (after ≡ after′)) → answered row st n after ≡ answered row′ st n′ after′
+answered-same st row row′ n n′ after after′ e f =
+    caseOn (eqb row 0) (λ t. let q = f (eqb-true row 0 t) in ap₂ (answered row st) (q .0) (q .1)) (λ t. rw t) ∙ ap (λ (r : ℕ). answered r st n′ after′) e
 
 -- images or targets that a taken call changes
 when-taken : {A : Type 0} (P : A → A → Type 0) (row row′ : ℕ) (a b c d : A) → row ≡ row′ → (row ≡ 0 → P a c) → P b d → P (cond (eqb row 0) a b) (cond (eqb row′ 0) c d)
@@ -134,26 +126,35 @@ module _ {past past′ : List ℕ} (st : State) (x y : List ℕ) (b : Reference)
 
   -- ---- operations asked for
 
+  -- a line as a writer reads it
+  seen-same : not (isIdle (st .pending .op)) ≡ false → (w p l : ℕ) → w < 4 → p < z .pages → l < 64 → seenLine st x w p l ≡ seenLine st y w p l
+  seen-same q w p l writer page line =
+      let X : Quiet past st x b = between-quiet v b h q in
+      let Y : Quiet past′ st y b = between-quiet u b k q in
+      seen-line st x b Never (X .durable) (X .writers) w p l writer page line (λ c. c)
+      ∙ sym (seen-line st y b Never (Y .durable) (Y .writers) w p l writer page line (λ c. c))
+
+  -- a write taken, by the line as the writer reads it
+  abbrev idle : ℕ → ℕ → ℕ → ℕ → ℕ → List ℕ → List ℕ → Bool
+  idle w p l o n bytes line = holds st w p l && not (mergeChanges line o n bytes)
+
+  abbrev asks : ℕ → ℕ → ℕ → ℕ → ℕ → List ℕ → List ℕ → ℕ → State
+  asks w p l o n bytes line f = cond (idle w p l o n bytes line) st (withPending st (Write w p l o n) (lineWords (merged line o n bytes)) f)
+
   write-same : (w p l o n : ℕ) (bytes : List ℕ) → writeOf st x w p l o n bytes ≡ writeOf st y w p l o n bytes
-  unfolding writeOf
+  unfolding writeOf changesNothing
   write-same w p l o n bytes =
       let row : ℕ = refusal (writeCallRows st x w p l o n bytes) in
-      let op : Op = Write w p l o n in
       let e : row ≡ refusal (writeCallRows st y w p l o n bytes) =
       same-refusal (writeCallRows st x w p l o n bytes) (writeCallRows st y w p l o n bytes)
       (refl, refl, λ _. (short, refl, λ _. (refl, refl, λ _. (refl, refl, λ _. (refl, refl, λ f. (refl, refl, λ _. (refl, refl, λ _. (refl, refl, λ _. (bad-same p (args-good z w p l o n f .page-low), refl, λ _. tt))))))))) in
-      asked-same st row op (finishedLine st x w p l o n bytes) (finishedLine st y w p l o n bytes) (pageFrame st x p) (pageFrame st y p)
+      answered-same st row (refusal (writeCallRows st y w p l o n bytes)) (cond (idle w p l o n bytes (seenLine st x w p l)) 0 8) (cond (idle w p l o n bytes (seenLine st y w p l)) 0 8)
+      (asks w p l o n bytes (seenLine st x w p l) (pageFrame st x p)) (asks w p l o n bytes (seenLine st y w p l) (pageFrame st y p)) e
       (λ q.
       let rows = none-apply (writeCallRows st x w p l o n bytes) (omega arith) q in
       let a = args-good z w p l o n (rows .1 .1 .1 .1 .0) in
-      let X : Quiet past st x b = between-quiet v b h (rows .1 .1 .0) in
-      let Y : Quiet past′ st y b = between-quiet u b k (rows .1 .1 .0) in (
-        ap (λ (line : List ℕ). lineWords (merged line o n bytes))
-            (seen-line st x b Never (X .durable) (X .writers) w p l (a .writer-low) (a .page-low) (a .line-low) (λ c. c)
-            ∙ sym (seen-line st y b Never (Y .durable) (Y .writers) w p l (a .writer-low) (a .page-low) (a .line-low) (λ c. c))),
-        frame p (a .page-low),
-      ))
-      ∙ ap (λ (r : ℕ). asked r st op (finishedLine st y w p l o n bytes) (pageFrame st y p)) e
+      let line = seen-same (rows .1 .1 .0) w p l (a .writer-low) (a .page-low) (a .line-low) in
+      (ap (λ (s : List ℕ). cond (idle w p l o n bytes s) 0 8) line, ap₂ (asks w p l o n bytes) line (frame p (a .page-low))))
 
   -- the others read the image's length alone
   rest-same : (rows : List Row) (op : Op)
@@ -166,16 +167,9 @@ module _ {past past′ : List ℕ} (st : State) (x y : List ℕ) (b : Reference)
   page : 0 < z .pages
   page = omega (arith, durable-legal past st x b D .pages-low)
 
-  -- a line of page 0 as writer 1 reads it
-  abbrev seen : List ℕ → ℕ → List ℕ
-  seen img l = lineBytes img z (seenFrame st 1 0 l (pageFrame st img 0)) l
-
-  seen-same : not (isIdle (st .pending .op)) ≡ false → (l : ℕ) → l < 64 → seen x l ≡ seen y l
-  seen-same q l low =
-      let X : Quiet past st x b = between-quiet v b h q in
-      let Y : Quiet past′ st y b = between-quiet u b k q in
-      seen-line st x b Never (X .durable) (X .writers) 1 0 l (omega arith) page low (λ c. c)
-      ∙ sym (seen-line st y b Never (Y .durable) (Y .writers) 1 0 l (omega arith) page low (λ c. c))
+  -- a meter's line as writer 1 reads it
+  meter-same : not (isIdle (st .pending .op)) ≡ false → (l : ℕ) → l < 64 → seenLine st x 1 0 l ≡ seenLine st y 1 0 l
+  meter-same q l low = seen-same q 1 0 l (omega arith) page low
 
   event-same : (i m a : ℕ) → eventOf st x i m a ≡ eventOf st y i m a
   unfolding eventOf
@@ -209,7 +203,7 @@ module _ {past past′ : List ℕ} (st : State) (x y : List ℕ) (b : Reference)
                       bad-same 0 page,
                       refl,
                       λ _.
-                          (ap (λ (line : List ℕ). amountBad i m (wordAt line 0) a) (seen-same q first (omega (arith, first-low i m (not-false (eventKnown i m) g)))), refl, λ _. (refl, refl, λ _. tt)),
+                          (ap (λ (line : List ℕ). amountBad i m (wordAt line 0) a) (meter-same q first (omega (arith, first-low i m (not-false (eventKnown i m) g)))), refl, λ _. (refl, refl, λ _. tt)),
                     ),
                   ),
                 ),
@@ -218,17 +212,17 @@ module _ {past past′ : List ℕ} (st : State) (x y : List ℕ) (b : Reference)
           ),
         ),
       ) in
-      answered-same st row (refusal (eventCallRows st y i m a)) (eventNeeds i) (withLines st (Event i m a) (eventLine st x i m a) (eventSecond st x i m a) (pageFrame st x 0)) _ e
+      answered-same st row (refusal (eventCallRows st y i m a)) (eventNeeds i) (eventNeeds i) (withLines st (Event i m a) (eventLine st x i m a) (eventSecond st x i m a) (pageFrame st x 0)) _ e
       (λ t.
       let rows = none-apply (eventCallRows st x i m a) (omega arith) t in
       let q = rows .1 .1 .0 in
       let known : eventKnown i m ≡ true = not-false (eventKnown i m) (rows .1 .1 .1 .0) in
       let line : eventLine st x i m a ≡ eventLine st y i m a =
-      ap (λ (l : List ℕ). lineWords (merged l 0 8 (bytesOf 8 (firstNumber i m (wordAt l 0) a)))) (seen-same q first (omega (arith, first-low i m known))) in
+      ap (λ (l : List ℕ). lineWords (merged l 0 8 (bytesOf 8 (firstNumber i m (wordAt l 0) a)))) (meter-same q first (omega (arith, first-low i m known))) in
       let second : eventSecond st x i m a ≡ eventSecond st y i m a =
-      ap (λ (l : List ℕ). cond (movesCredit i) (lineWords (merged l 0 8 (bytesOf 8 (rolled own (wordAt l 0) a)))) (replicate 8 0)) (seen-same q own (omega (arith, own-range i m known .1))) in
+      ap (λ (l : List ℕ). cond (movesCredit i) (lineWords (merged l 0 8 (bytesOf 8 (rolled own (wordAt l 0) a)))) (replicate 8 0)) (meter-same q own (omega (arith, own-range i m known .1))) in
       let f = frame 0 page in
-      λ j. withLines st (Event i m a) (line j) (second j) (f j))
+      (refl, λ j. withLines st (Event i m a) (line j) (second j) (f j)))
 
   -- ---- read, recall
 

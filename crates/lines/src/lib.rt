@@ -4,7 +4,7 @@ ghost use Prim.Native.Nat.{_+_, _≤_, _<_};
 ghost use lib.ListN.{length};
 ghost use Rattle.words.specs.Words.{over};
 ghost use Rattle.layout.specs.Layout.{Legal, frames, imageLength};
-ghost use Rattle.image.specs.Lines.{lineBytes, merged, lineWords, copyStores};
+ghost use Rattle.image.specs.Lines.{lineBytes, merged, differ, mergeChanges, lineWords, copyStores};
 use layout::Sizes;
 
 // Copies line l from one frame to another.
@@ -27,7 +27,27 @@ pub fn read_line(image: &[u8], z: Sizes, f: usize, l: usize, target: &mut [u8])
     runs::copy_words(image::frame(image, z, f), 64 * l, target, 0, 8);
 }
 
-// The words of line l of frame f with the first n bytes of data laid over it from offset on.
+// Whether two lines differ, told by their words.
+fn words_differ<'a>(a: &'a [u64; 8], b: &'a [u64; 8]) -> bool
+    ensures { λ r. ⌜ r ≡ differ 8 (now (a .entry)) (now (b .entry)) ⌝ }
+{
+    (a[0] != b[0])
+        | (a[1] != b[1])
+        | (a[2] != b[2])
+        | (a[3] != b[3])
+        | (a[4] != b[4])
+        | (a[5] != b[5])
+        | (a[6] != b[6])
+        | (a[7] != b[7])
+}
+
+// The words of a line that data were laid over, and whether any byte changed.
+pub struct Merged {
+    pub words: [u64; 8],
+    pub changed: bool,
+}
+
+// Line l of frame f with the first n bytes of data laid over it from offset on.
 pub fn merged_line(
     image: &[u8],
     z: Sizes,
@@ -36,12 +56,16 @@ pub fn merged_line(
     offset: usize,
     data: &[u8],
     n: usize,
-) -> [u64; 8]
+) -> Merged
     requires { ⌜ Legal z × (f < frames z) × (l < 64) × (imageLength z ≤ length (now image)) × (offset + n ≤ 64) × (n ≤ length (now «data»)) ⌝ }
-    ensures { λ r. ⌜ r ≡ lineWords (merged (lineBytes (now (image .entry)) z f l) offset n (now («data» .entry))) ⌝ }
+    ensures words { λ r. ⌜ r .words ≡ lineWords (merged (lineBytes (now (image .entry)) z f l) offset n (now («data» .entry))) ⌝ }
+    ensures changed { λ r. ⌜ r .changed ≡ mergeChanges (lineBytes (now (image .entry)) z f l) offset n (now («data» .entry)) ⌝ }
 {
     let mut line = [0u8; 64];
     read_line(image, z, f, l, &mut line);
+    let before = runs::words_of(&line);
     bytes::copy(&data[0..n], &mut line[offset..offset + n]);
-    runs::words_of(&line)
+    let words = runs::words_of(&line);
+    let changed = words_differ(&words, &before);
+    Merged { words, changed }
 }

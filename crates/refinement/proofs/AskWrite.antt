@@ -1,6 +1,6 @@
 -- A write asked for: the finished line is the reference machine's line with the data laid over it.
 use Prim.Native.Nat.{ℕ, _+_, _-_, _<_, _≤_}
-use mathlib.Core.Bool.{_&&_, cond}
+use mathlib.Core.Bool.{true, _&&_, cond}
 use mathlib.Core.List.{List}
 use mathlib.Core.Logic.{_⊎_, inl, inr}
 use mathlib.Core.Path.{_≡_, refl, sym, ap, _∙_, subst}
@@ -20,17 +20,20 @@ use Rattle.image.proofs.LineLaws.{length-merged, getD-merged, getD-merged-other
 use Rattle.words.proofs.Parts.{bytes-part}
 use Rattle.state.specs.declared.State.{State}
 use Rattle.state.specs.declared.Op.the-variants.{Write}
-use Rattle.operations.specs.Operations.{needs, writeRows}
+use Rattle.operations.specs.Operations.{needs, slotFor, writeRows}
 use Rattle.operations.proofs.Taken.{ArgsGood, write-taken}
 use Rattle.refinement.specs.Frames.{pageFrame, seenFrame}
-use Rattle.refinement.specs.Stores.{World}
-use Rattle.refinement.specs.Calls.{writeCallRows, writeOf, finishedLine, withPending}
+use Rattle.refinement.specs.Stores.{World, steppedBy}
+use Rattle.refinement.specs.Calls.{writeCallRows, changesNothing, writeOf, finishedLine, withPending, worldOf}
 use Rattle.refinement.specs.Run.{write, exec}
-use Rattle.refinement.specs.Reference.{Reference, byte, laidOver, writing, under, withWork, written, readLine}
+use Rattle.refinement.specs.Reference.{Reference, byte, laidOver, idle, writing, under, withWork, written, readLine}
 use Rattle.refinement.proofs.Invariant.{Never, Quiet, Busy, Related}
-use Rattle.refinement.proofs.Asked.{all-left, asked-busy, asked-after}
+use Rattle.refinement.proofs.Asked.{all-left, asked-busy}
+use Rattle.refinement.proofs.Copies.{durable-fits}
+use Rattle.refinement.proofs.Rewritten.{has-slot, world-back}
 use Rattle.refinement.proofs.Seen.{seen-line}
-use Rattle.refinement.proofs.Sound.{Sound, is-quiet}
+use Rattle.refinement.proofs.Sound.{Sound, answered-kept, is-quiet}
+use Rattle.refinement.proofs.StepCall.{work-same, run-related}
 
 -- the bytes laid over the line, one by one
 pub merged-read : (b : Reference) (w p l o n : ℕ) (bytes : List ℕ) → o + n ≤ 64 → n ≤ length bytes
@@ -84,27 +87,38 @@ module _ {past : List ℕ} (st : State) (img : List ℕ) (b : Reference) (w p l 
       asked-busy st img b (Write w p l o n) (finishedLine st img w p l o n bytes) (pageFrame st img p) (writing w p l o n bytes) q eight row
       (bytes, lent, given, all-left st (Write w p l o n) (finishedLine st img w p l o n bytes) (pageFrame st img p) (writing w p l o n bytes), finished, same-frame, line-bytes)
 
+  -- the same where nothing changes: what is left is what the run of its eight stores would leave
+  write-idle : changesNothing st img w p l o n bytes ≡ true → Related past (worldOf st img) (written w p l o n bytes b)
+  unfolding needs
+  write-idle none =
+      let low = q .writers .held-low w (slotFor st p) (args .writer-low) (ltb-true (slotFor st p) (st .sizes .slots) (has-slot st img w p l o n bytes (q .valid) (durable-fits past st img b (q .durable)) (q .durable .bytes) row given none)) in
+      let asks = withPending st (Write w p l o n) (finishedLine st img w p l o n bytes) (pageFrame st img p) in
+      let ran : Related past (steppedBy 8 (worldOf asks img)) (written w p l o n bytes (withWork idle b)) = run-related 8 (worldOf asks img) (withWork (under (writing w p l o n bytes) 8) b) write-busy in
+      subst (λ (v : World). Related past v (written w p l o n bytes b)) (world-back st img w p l o n bytes (q .valid) (durable-fits past st img b (q .durable)) (q .durable .bytes) row given none (q .pending) low)
+      (subst (λ (c : Reference). Related past (steppedBy 8 (worldOf asks img)) (written w p l o n bytes c)) (work-same b idle (q .work)) ran)
+
 -- the rows after the first four
-op-row : (st : State) (img : List ℕ) (w p l o n : ℕ) (bytes : List ℕ) → refusal (writeCallRows st img w p l o n bytes) ≡ 0
+pub op-row : (st : State) (img : List ℕ) (w p l o n : ℕ) (bytes : List ℕ) → refusal (writeCallRows st img w p l o n bytes) ≡ 0
     → refusal (writeRows st w p l o n (pageFrame st img p)) ≡ 0
 op-row st img w p l o n bytes e =
     let rows = none-apply (writeCallRows st img w p l o n bytes) (omega arith) e in
     sym (row-none (writeRows st w p l o n (pageFrame st img p)) (rows .1 .1 .1 .1))
 
 pub write-sound : {past : List ℕ} (w p l o n : ℕ) (bytes : List ℕ) → Bytes bytes → (v : World) (b : Reference) → Related past v b → Sound past (write w p l o n bytes) v b
-unfolding exec writeOf
-write-sound w p l o n bytes lent v b h =
+unfolding exec writeOf needs
+write-sound {past = past} w p l o n bytes lent v b h =
     let st = v .st in
     let img = v .image in
-    let rows = none-apply (writeCallRows st img w p l o n bytes) (omega arith) in
+    let nothing = changesNothing st img w p l o n bytes in
+    let asks = withPending st (Write w p l o n) (finishedLine st img w p l o n bytes) (pageFrame st img p) in
     let a =
-    asked-after (write w p l o n bytes) v b (refusal (writeCallRows st img w p l o n bytes)) (Write w p l o n) (finishedLine st img w p l o n bytes) (pageFrame st img p) (writing w p l o n bytes) (λ k. refl) h
-    (λ e z.
-    let q = is-quiet st img b h (rows e .1 .1 .0) in
-    absurd (omega (arith, z, eight st img b w p l o n bytes q lent (ltb-false (length bytes) n (rows e .1 .1 .1 .0)) (op-row st img w p l o n bytes e))))
-    (λ e z.
-    record {
-      sizes = refl;
-      related = inr (write-busy st img b w p l o n bytes (is-quiet st img b h (rows e .1 .1 .0)) lent (ltb-false (length bytes) n (rows e .1 .1 .1 .0)) (op-row st img w p l o n bytes e));
-    }) in
+    answered-kept (write w p l o n bytes) v b (refusal (writeCallRows st img w p l o n bytes)) (cond nothing 0 8) (cond nothing st asks) h
+    (λ e.
+    let rows = none-apply (writeCallRows st img w p l o n bytes) (omega arith) e in
+    let q : Quiet past st img b = is-quiet st img b h (rows .1 .1 .0) in
+    let given : n ≤ length bytes = ltb-false (length bytes) n (rows .1 .1 .1 .0) in
+    let row = op-row st img w p l o n bytes e in
+    caseOn nothing
+    (λ t. rw t (record { sizes = refl; related = write-idle st img b w p l o n bytes q lent given row t }))
+    (λ t. rw t (record { sizes = refl; related = inr (write-busy st img b w p l o n bytes q lent given row) }))) in
     record { right = tt; sizes = a .sizes; related = a .related }

@@ -9,7 +9,7 @@ use lib.ListN.{length, replicate}
 use borrow.Author.Tests.{eqb-true, eq-eqb, not-false}
 use Rattle.bounded.specs.Rows.{Row, refusal, Numbered}
 use Rattle.bounded.proofs.Rows.{none-apply}
-use Rattle.bounded.proofs.Tests.{caseOn}
+use Rattle.bounded.proofs.Tests.{caseOn, row-keeps}
 use Rattle.layout.specs.declared.Sizes.{Sizes}
 use Rattle.layout.specs.Layout.{sizesOk}
 use Rattle.words.specs.Words.{Bytes}
@@ -28,7 +28,7 @@ use Rattle.refinement.specs.Stores.{World, steppedBy, stepped, left}
 use Rattle.refinement.proofs.Sized.{Sized}
 use Rattle.refinement.proofs.Steps.{run-valid, run-sized, step-valid, step-sized}
 use Rattle.refinement.specs.Outcome.{answered}
-use Rattle.refinement.specs.Calls.{quietRows, withWriters, beginRows, abortRows, beginOf, abortOf, asked, finishedLine, writeCallRows, commitCallRows, consolidateCallRows, freeCallRows, checkpointCallRows, writeOf, commitOf, consolidateOf, freeOf, checkpointOf, stepRow, stepRows, worldOf, runOf, stepOf, eventLine, eventSecond, eventCallRows, eventOf}
+use Rattle.refinement.specs.Calls.{quietRows, withWriters, beginRows, abortRows, beginOf, abortOf, asked, withPending, finishedLine, changesNothing, writeCallRows, commitCallRows, consolidateCallRows, freeCallRows, checkpointCallRows, writeOf, commitOf, consolidateOf, freeOf, checkpointOf, stepRow, stepRows, worldOf, runOf, stepOf, eventLine, eventSecond, eventCallRows, eventOf}
 use Rattle.refinement.specs.Mount.{mountedState, mountCall, noState, freshState, formatCall}
 use Rattle.refinement.specs.Run.{Call, mount, checkpoint, free, step, begin, abort, commit, consolidate, run, write, read, recall, exec, event}
 use Rattle.meters.specs.Meters.{eventNeeds}
@@ -36,7 +36,7 @@ use Rattle.refinement.specs.Settled.{withLines}
 use Rattle.refinement.proofs.EventRows.{event-some, event-needs, event-op-row}
 use Rattle.refinement.proofs.LinesAsked.{lines-valid}
 use Rattle.refinement.proofs.Begun.{opening, begin-valid, begin-sized, abort-valid, abort-sized}
-use Rattle.refinement.proofs.CallAsked.{askedState, asked-valid, asked-sized}
+use Rattle.refinement.proofs.CallAsked.{askedState, pending-valid, pending-sized, asked-valid, asked-sized}
 use Rattle.refinement.proofs.CallMounted.{mounted-valid, mounted-sized, fresh-valid, fresh-sized}
 
 pub record Good (st : State) : Type 0 where
@@ -82,10 +82,18 @@ module _ (st : State) (img : List ℕ) (g : Good st) where
       (λ e. record { is-valid = abort-valid st w e; sized = abort-sized st w (g .sized) })
 
   write-good : (w p l o n : ℕ) (bytes : List ℕ) → Good (writeOf st img w p l o n bytes .state)
-  unfolding writeOf
+  unfolding writeOf needs
   write-good w p l o n bytes =
-      asked-good st (refusal (writeCallRows st img w p l o n bytes)) (Write w p l o n) (finishedLine st img w p l o n bytes) (pageFrame st img p) g
-      (λ e. past-rows (quietRows st (length img) ++ ((ltb (length bytes) n, 11) ∷ [])) (writeRows st w p l o n (pageFrame st img p)) (omega arith) e)
+      let line = finishedLine st img w p l o n bytes in
+      let frame = pageFrame st img p in
+      let nothing = changesNothing st img w p l o n bytes in
+      answered-good (refusal (writeCallRows st img w p l o n bytes)) st (cond nothing 0 8) (cond nothing st (withPending st (Write w p l o n) line frame)) g
+      (λ e.
+      row-keeps Good nothing st (withPending st (Write w p l o n) line frame) g
+      (record {
+        is-valid = pending-valid st line frame (Write w p l o n) (g .is-valid) (past-rows (quietRows st (length img) ++ ((ltb (length bytes) n, 11) ∷ [])) (writeRows st w p l o n frame) (omega arith) e) (omega arith);
+        sized = pending-sized st line frame (Write w p l o n) (g .sized);
+      }))
 
   commit-good : (w : ℕ) → Good (commitOf st img w .state)
   unfolding commitOf

@@ -1,6 +1,6 @@
 -- What holds of the store and the reference machine between two calls.
 use Prim.Native.Nat.{ℕ, _-_, _^_, _<_, _≤_}
-use mathlib.Core.Bool.{Bool, true, false, _&&_}
+use mathlib.Core.Bool.{true, false}
 use mathlib.Core.List.{List}
 use mathlib.Core.Logic.{_⊎_}
 use mathlib.Core.Path.{_≡_}
@@ -15,18 +15,18 @@ use Rattle.replay.specs.Table.{slotIn, lastIn, slotOf}
 use Rattle.mount.proofs.View.{View, Shows}
 use Rattle.mount.proofs.Verdict.{Taken}
 use Rattle.replay.proofs.Tables.{Sixteen}
-use Rattle.masks.specs.Lines.{inMask}
 use Rattle.state.specs.declared.State.{State}
 use Rattle.state.specs.declared.Op.{Op}
 use Rattle.state.specs.declared.Op.the-variants.{Idle, Write, Commit, Consolidate, Checkpoint, Event}
 use Rattle.state.specs.Held.{heldAt}
-use Rattle.operations.specs.Operations.{slotFor, slotted, needs}
+use Rattle.operations.specs.Operations.{slotFor, needs}
 use Rattle.validity.specs.Validity.{stateOk}
 use Rattle.refinement.specs.Frames.{otherFrame, pageFrame}
 use Rattle.refinement.specs.Settled.{noPending}
 use Rattle.refinement.specs.Stores.{World, storeAt, storeValue}
 use Rattle.refinement.specs.Recall.{frameOf}
 use Rattle.refinement.specs.Reference.{Reference, none, idle, under, writing, committing, nothing, written, readLine, recallLine}
+pub use Rattle.refinement.specs.Frames.{holds}
 
 -- slot s of the state's table t is what a mount finds in d; or a write took it and nothing is committed yet, so that it is still free
 -- in the image, whose page words are read through r
@@ -54,10 +54,6 @@ pub record Durable (past : List ℕ) (st : State) (img : List ℕ) (b : Referenc
   pub tail-same : view .tail ≡ st .tail
   pub behind : Behind (word img) (st .sizes) (view .table) (st .table)
   pub committed : (p l : ℕ) → p < st .sizes .pages → l < 64 → lineBytes img (st .sizes) (frameOf (word img) (st .sizes) (st .table) p l) l ≡ recallLine b p l
-
--- whether writer w holds line l of page p
-abbrev pub holds : State → ℕ → ℕ → ℕ → Bool
-holds st w p l = slotted st p && inMask (heldAt (st .writers .held) w (slotFor st p)) l
 
 -- of the writers: held lines are masks of 64 bits; the other copy of a held line is the writer's, unless it is being written; a line
 -- that is not held has no unfinished writes

@@ -46,6 +46,7 @@ pub mod MountCall
 pub mod RecallCall
 pub mod Start
 pub mod Asked
+pub mod Rewritten
 pub mod AskWrite
 pub mod AskCommit
 pub mod AskCheckpoint
@@ -93,3 +94,4 @@ pub mod CommitWhole
 pub mod CheckpointRoom
 pub mod Demand
 pub mod FreedSlot
+pub mod AsBefore

@@ -18,7 +18,7 @@ use Rattle.journal.specs.declared.Slot.{Slot}
 use Rattle.journal.specs.Slots.{noPage}
 use Rattle.masks.specs.Lines.{inMask, withLine, disjoint}
 use Rattle.masks.proofs.Bits.{in-and, in-ext}
-use Rattle.masks.proofs.Members.{in-none, in-with-other}
+use Rattle.masks.proofs.Members.{in-none, in-with-same, in-with-other, with-lt, same-members}
 use Rattle.masks.proofs.Disjoint.{disjoint-at, disjoint-sym}
 use Rattle.state.specs.Held.{isOpen, heldAt}
 use Rattle.refinement.proofs.StateValid.{HeldFine}
@@ -49,6 +49,15 @@ disjoint-join a b i e n =
     caseOn (eqb i j)
     (λ q. ap (inMask b) (sym (eqb-true i j q)) ∙ n)
     (λ q. disjoint-at a b e j (sym (in-with-other a i j (eqb-false i j q)) ∙ t)))
+
+-- a line that is in a joins it again
+pub with-again : (a i : ℕ) → a < 2 ^ 64 → i < 64 → inMask a i ≡ true → withLine a i ≡ a
+with-again a i h k e =
+    same-members (withLine a i) a (with-lt a i h k) h
+    (λ j _.
+    caseOn (eqb i j)
+    (λ q. ap (inMask (withLine a i)) (sym (eqb-true i j q)) ∙ in-with-same a i ∙ sym e ∙ ap (inMask a) (eqb-true i j q))
+    (λ q. in-with-other a i j (eqb-false i j q)))
 
 -- ---- one mask of a writer and a slot changes
 

@@ -6,7 +6,7 @@ use lib.Dec.{ltb, leb, eqb}
 use lib.ListN.{length, set, replicate}
 use Rattle.bounded.specs.Rows.{Row, refusal}
 use Rattle.layout.specs.Layout.{imageLength}
-use Rattle.image.specs.Lines.{lineBytes, merged, lineWords}
+use Rattle.image.specs.Lines.{lineBytes, merged, mergeChanges, lineWords}
 use Rattle.words.specs.Words.{over, bytesOf, wordAt}
 use Rattle.meters.specs.Meters.{movesCredit, firstMeter, ownMeter, eventNeeds, rolled, firstNumber, amountBad}
 use Rattle.state.specs.declared.State.{State}
@@ -18,7 +18,7 @@ use Rattle.operations.specs.Operations.{isIdle, slotFor, frameBad, journalFull,
 use Rattle.validity.specs.Validity.{stateOk}
 use Rattle.refinement.specs.Settled.{withLines}
 use Rattle.refinement.specs.Commit.{closedWriter}
-use Rattle.refinement.specs.Frames.{pageFrame, seenFrame}
+use Rattle.refinement.specs.Frames.{pageFrame, seenFrame, holds}
 use Rattle.refinement.specs.Freeing.{freedSlot, freedPage}
 use Rattle.refinement.specs.Stores.{World, completed, stepped, steppedBy, left}
 use Rattle.refinement.specs.Outcome.{Outcome, answered}
@@ -66,18 +66,27 @@ abbrev pub asked : ℕ → State → Op → List ℕ → ℕ → Outcome
 asked row st op line frame =
     answered row st (needs st op) (cond (eqb (needs st op) 0) (completed st op) (withPending st op line frame))
 
--- the line as the writer reads it, with the data's first n bytes laid over
+-- the line as the writer reads it, and with the data's first n bytes laid over
+abbrev pub seenLine : State → List ℕ → ℕ → ℕ → ℕ → List ℕ
+seenLine st img w p l = lineBytes img (st .sizes) (seenFrame st w p l (pageFrame st img p)) l
+
 abbrev pub finishedLine : State → List ℕ → ℕ → ℕ → ℕ → ℕ → ℕ → List ℕ → List ℕ
-finishedLine st img w p l o n bytes =
-    lineWords (merged (lineBytes img (st .sizes) (seenFrame st w p l (pageFrame st img p)) l) o n bytes)
+finishedLine st img w p l o n bytes = lineWords (merged (seenLine st img w p l) o n bytes)
 
 abbrev pub writeCallRows : State → List ℕ → ℕ → ℕ → ℕ → ℕ → ℕ → List ℕ → List Row
 writeCallRows st img w p l o n bytes =
     rowState st ∷ rowShort st (length img) ∷ rowPending st ∷ (ltb (length bytes) n, 11) ∷ writeRows st w p l o n (pageFrame st img p)
 
+-- the writer holds the line and the data change none of its bytes (document 02, L3)
+unfoldable pub changesNothing : State → List ℕ → ℕ → ℕ → ℕ → ℕ → ℕ → List ℕ → Bool
+changesNothing st img w p l o n bytes = holds st w p l && not (mergeChanges (seenLine st img w p l) o n bytes)
+
+-- then the write is taken with no stores, and the state is as it was: the line is held and its page has a slot; else 8 stores are pending
 unfoldable pub writeOf : State → List ℕ → ℕ → ℕ → ℕ → ℕ → ℕ → List ℕ → Outcome
 writeOf st img w p l o n bytes =
-    asked (refusal (writeCallRows st img w p l o n bytes)) st (Write w p l o n) (finishedLine st img w p l o n bytes) (pageFrame st img p)
+    let idle = changesNothing st img w p l o n bytes in
+    answered (refusal (writeCallRows st img w p l o n bytes)) st (cond idle 0 8)
+    (cond idle st (withPending st (Write w p l o n) (finishedLine st img w p l o n bytes) (pageFrame st img p)))
 
 abbrev pub commitCallRows : State → List ℕ → ℕ → List Row
 commitCallRows st img w = rowState st ∷ rowShort st (length img) ∷ rowPending st ∷ commitRows st w
@@ -109,7 +118,7 @@ checkpointOf st img = asked (refusal (checkpointCallRows st img)) st Checkpoint 
 
 -- the stored number of meter m as writer 1, who is closed, reads it; and its finished line, with number v
 abbrev pub meterIn : State → List ℕ → ℕ → ℕ
-meterIn st img m = wordAt (lineBytes img (st .sizes) (seenFrame st 1 0 m (pageFrame st img 0)) m) 0
+meterIn st img m = wordAt (seenLine st img 1 0 m) 0
 
 abbrev pub meterLine : State → List ℕ → ℕ → ℕ → List ℕ
 meterLine st img m v = finishedLine st img 1 0 m 0 8 (bytesOf 8 v)
@@ -148,7 +157,7 @@ readRow st img w p l target = refusal (readRows st img w p l target)
 
 unfoldable pub readBytes : State → List ℕ → ℕ → ℕ → ℕ → List ℕ → List ℕ
 readBytes st img w p l target =
-    cond (eqb (readRow st img w p l target) 0) (over target 0 (lineBytes img (st .sizes) (seenFrame st w p l (pageFrame st img p)) l)) target
+    cond (eqb (readRow st img w p l target) 0) (over target 0 (seenLine st img w p l)) target
 
 -- ---- step, run: the outcome, and the image after it
 

@@ -1,7 +1,7 @@
 -- Where the copies of a line lie: bit l of a slot's bitmap is 0 where line l's committed copy is in the original
 -- frame, 1 where it is in the spare.
 use Prim.Native.Nat.{ℕ}
-use mathlib.Core.Bool.{Bool, cond}
+use mathlib.Core.Bool.{Bool, _&&_, cond}
 use mathlib.Core.List.{List}
 use lib.Dec.{ltb}
 use lib.ListN.{getD}
@@ -14,7 +14,7 @@ use Rattle.replay.specs.Table.{slotIn, slotOf}
 use Rattle.masks.specs.Lines.{inMask}
 use Rattle.state.specs.declared.State.{State}
 use Rattle.state.specs.Held.{heldAt}
-use Rattle.operations.specs.Operations.{slotFor}
+use Rattle.operations.specs.Operations.{slotFor, slotted}
 
 -- the slot of a slotted page
 abbrev pub pageSlotIn : Sizes → Table → ℕ → Slot
@@ -49,3 +49,7 @@ seenAt z t mine s l f = cond (ltb s (z .slots)) (cond (inMask mine l) (otherFram
 -- the frame that writer w reads line l of page p from
 unfoldable pub seenFrame : State → ℕ → ℕ → ℕ → ℕ → ℕ
 seenFrame st w p l f = seenAt (st .sizes) (pageSlot st p) (heldAt (st .writers .held) w (slotFor st p)) (slotFor st p) l f
+
+-- whether writer w holds line l of page p
+abbrev pub holds : State → ℕ → ℕ → ℕ → Bool
+holds st w p l = slotted st p && inMask (heldAt (st .writers .held) w (slotFor st p)) l

@@ -17,4 +17,5 @@ pub mod Statement
 pub mod Beside
 pub mod Demand
 pub mod Freed
+pub mod Before
 pub mod Totals

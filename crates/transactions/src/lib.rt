@@ -7,7 +7,7 @@ use answers::Done;
 use state::Op;
 use state::State;
 
-// Asks for a write of the data's first length bytes.
+// Asks for a write of the data's first length bytes. It needs no stores if the writer holds the line and no byte of it changes.
 pub fn write(
     st: State,
     image: &[u8],
@@ -45,7 +45,10 @@ pub fn write(
     if found.row != 0 {
         return answers::refused(found.row, next);
     }
-    let words = lines::merged_line(image, next.sizes, found.seen, line, offset, data, length);
+    let merged = lines::merged_line(image, next.sizes, found.seen, line, offset, data, length);
+    if found.held & !merged.changed {
+        return answers::taken(0, next);
+    }
     let op = Op::Write {
         writer,
         page,
@@ -53,7 +56,7 @@ pub fn write(
         offset,
         length,
     };
-    let pending = asking::pending_from(op, words, [0; 8], found.frame);
+    let pending = asking::pending_from(op, merged.words, [0; 8], found.frame);
     next.pending = pending;
     answers::taken(8, next)
 }

@@ -12,7 +12,7 @@ use Rattle.bounded.proofs.Tests.{caseOn, row-keeps, or-right}
 use Rattle.validity.specs.Validity.{stateOk}
 use Rattle.refinement.specs.Stores.{World}
 use Rattle.refinement.specs.Freeing.{freedPage}
-use Rattle.refinement.specs.Calls.{beginRows, beginOf, abortRows, abortOf, writeCallRows, writeOf, commitCallRows, commitOf, freeCallRows, freeOf, checkpointCallRows, checkpointOf}
+use Rattle.refinement.specs.Calls.{beginRows, beginOf, abortRows, abortOf, writeCallRows, changesNothing, writeOf, commitCallRows, commitOf, freeCallRows, freeOf, checkpointCallRows, checkpointOf}
 use Rattle.refinement.specs.Run.{exec}
 use Rattle.text.specs.declared.Line.{Line}
 use Rattle.trials.specs.declared.Ask.{Ask}
@@ -22,7 +22,7 @@ use Rattle.trials.specs.Trials.{callOf, nothing, storesFor, plus, Tried, format
 use Rattle.trial_lines.specs.Lines.{Work, first, numbersOf, sizesOf, withSetting, isRound, withRound, acted, act}
 use Rattle.trial_laws.specs.Pages.{after}
 use Rattle.trial_laws.specs.Counts.{Within, CountsLow, CountsExact}
-use Rattle.trial_laws.proofs.Needed.{answered-low, taken-valid, write-low, consolidate-low, commit-low, checkpoint-low}
+use Rattle.trial_laws.proofs.Needed.{answered-low, taken-valid, consolidate-low, commit-low, checkpoint-low}
 
 -- ---- a call
 
@@ -30,7 +30,8 @@ stores-low : (a : Ask) (v : World) → exec (callOf a) v .stores ≤ 262
 unfolding exec beginOf abortOf writeOf commitOf freeOf checkpointOf
 stores-low Begin v = answered-low (refusal (beginRows (v .st) 0)) 0 262 (λ e. omega arith)
 stores-low (Write p b) v =
-    answered-low (refusal (writeCallRows (v .st) (v .image) 0 p 0 0 1 (b ∷ []))) _ 262 (λ e. write-low (v .st) 0 p 0 0 1)
+    answered-low (refusal (writeCallRows (v .st) (v .image) 0 p 0 0 1 (b ∷ []))) _ 262
+    (λ e. row-keeps (λ (n : ℕ). n ≤ 262) (changesNothing (v .st) (v .image) 0 p 0 0 1 (b ∷ [])) 0 8 (omega arith) (omega arith))
 stores-low Free v = answered-low (refusal (freeCallRows (v .st) (v .image))) _ 262 (λ e. consolidate-low (v .st) (freedPage (v .st)))
 stores-low Checkpoint v =
     answered-low (refusal (checkpointCallRows (v .st) (v .image))) _ 262 (λ e. checkpoint-low (v .st) (taken-valid (stateOk (v .st)) (drop 1 (checkpointCallRows (v .st) (v .image))) e))

@@ -14,7 +14,7 @@ use Rattle.bounded.proofs.Tests.{caseOn}
 use Rattle.masks.specs.Lines.{countLines}
 use Rattle.replay.specs.Table.{noPosition}
 use Rattle.state.specs.declared.State.{State}
-use Rattle.state.specs.declared.Op.the-variants.{Write, Commit, Consolidate, Checkpoint}
+use Rattle.state.specs.declared.Op.the-variants.{Commit, Consolidate, Checkpoint}
 use Rattle.state.specs.Held.{heldAt, heldSlots}
 use Rattle.state.specs.Slots.{slotOfPage}
 use Rattle.operations.specs.Operations.{needs, copyCount, recordedSlots}
@@ -29,10 +29,6 @@ answered-low row n b f = caseOn (eqb row 0) (λ t. rw t (f (eqb-true row 0 t))) 
 pub taken-valid : (ok : Bool) (rs : List Row) → refusal ((not ok, 8) ∷ rs) ≡ 0 → ok ≡ true
 taken-valid true rs e = refl
 taken-valid false rs e = absurd (let z : _≡_ {A = ℕ} 8 0 = e in omega arith)
-
-pub write-low : (st : State) (w p l o n : ℕ) → needs st (Write w p l o n) ≤ 262
-unfolding needs
-write-low st w p l o n = omega arith
 
 copy-low : (m : ℕ) → copyCount m ≤ 32
 unfolding copyCount

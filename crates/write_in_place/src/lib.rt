@@ -7,7 +7,7 @@ use layout::Sizes;
 use state::Op;
 use stores::Places;
 
-// Writes the data's first length bytes.
+// Writes the data's first length bytes. It makes no stores if the writer holds the line and no byte of it changes.
 pub fn write(
     image: &mut [u8],
     z: Sizes,
@@ -54,7 +54,11 @@ pub fn write(
         let answer = answers::answer_of(found.row, 0);
         return Went { answer, to: at };
     }
-    let words = lines::merged_line(image, z, found.seen, line, offset, data, length);
+    let merged = lines::merged_line(image, z, found.seen, line, offset, data, length);
+    if found.held & !merged.changed {
+        let answer = Answer::Taken(0);
+        return Went { answer, to: at };
+    }
     let op = Op::Write {
         writer,
         page: p,
@@ -62,7 +66,7 @@ pub fn write(
         offset,
         length,
     };
-    let pending = asking::pending_from(op, words, [0; 8], found.frame);
+    let pending = asking::pending_from(op, merged.words, [0; 8], found.frame);
     let to = in_place::make_all(
         image,
         z,

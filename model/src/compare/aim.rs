@@ -176,8 +176,10 @@ impl Aim<'_> {
             _ => length,
         };
         let mut said = format!("W,{writer},{page},{line},{offset},{length}");
+        // One byte over and over, out of two, in a third of the writes: some of them change nothing.
+        let one = self.rng.percent(33).then(|| self.rng.pick(&[0, 0, 7]));
         for _ in 0..bytes.min(64) {
-            said.push_str(&format!(",{}", self.rng.below(256)));
+            said.push_str(&format!(",{}", one.unwrap_or_else(|| self.rng.below(256))));
         }
         said
     }

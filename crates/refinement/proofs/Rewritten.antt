@@ -1,0 +1,125 @@
+-- A write that changes no byte of a line that its writer holds: if its eight stores were made, each would put back the word that is there, as the
+-- line is seen in the frame that they go to, and the state at their end would be the one before them.
+use Prim.Native.Nat.{ℕ, _+_, _*_, _^_, _<_, _≤_}
+use mathlib.Core.Bool.{true, not}
+use mathlib.Core.List.{List}
+use mathlib.Core.Path.{_≡_, refl, sym, ap, _∙_}
+use native.Mathlib.Omega.{arith}
+use lib.Dec.{eqb}
+use lib.ListN.{length, getD, set}
+use lib.Seq.{set-getD}
+use borrow.Author.Tests.{not-true}
+use Rattle.bounded.specs.Rows.{refusal}
+use Rattle.bounded.proofs.Below.{up-keeps}
+use Rattle.bounded.proofs.Tests.{and-left, and-right}
+use Rattle.layout.specs.declared.Sizes.{Sizes}
+use Rattle.layout.specs.Layout.{frames, lineWord, imageLength}
+use Rattle.layout.proofs.LayoutLaws.{line-end}
+use Rattle.words.specs.Words.{Bytes, word, wordAt, store}
+use Rattle.words.proofs.WordLaws.{store-same, word-part}
+use Rattle.image.specs.Lines.{lineWords, mergeChanges}
+use Rattle.image.proofs.LineLaws.{length-line, merge-same}
+use Rattle.masks.specs.Lines.{inMask, withLine}
+use Rattle.state.specs.declared.State.{State}
+use Rattle.state.specs.declared.Op.the-variants.{Write}
+use Rattle.state.specs.Held.{heldAt}
+use Rattle.operations.specs.Operations.{slotFor, slotted, writeRows, needs}
+use Rattle.operations.proofs.Taken.{WriteTaken, write-taken}
+use Rattle.validity.specs.Validity.{stateOk}
+use Rattle.refinement.specs.Frames.{pageFrame, seenFrame, holds}
+use Rattle.refinement.specs.Settled.{noPending}
+use Rattle.refinement.specs.Write.{writeSlot, writeAt, writeValue}
+use Rattle.refinement.specs.Stores.{storeMade, storesMade, completed, steppedBy, left}
+use Rattle.refinement.specs.Calls.{withPending, worldOf, seenLine, finishedLine, changesNothing}
+use Rattle.refinement.proofs.Going.{ranges-of, shapes-of}
+use Rattle.refinement.proofs.LinePut.{with-again}
+use Rattle.refinement.proofs.SeenFrames.{seen-low}
+use Rattle.refinement.proofs.Steps.{run-all, run-image}
+use Rattle.refinement.proofs.WriteMid.{line-word}
+
+module _ (st : State) (img : List ℕ) (w p l o n : ℕ) (bytes : List ℕ) (ok : stateOk st ≡ true) (long : imageLength (st .sizes) ≤ length img) (sound : Bytes img)
+    (row : refusal (writeRows st w p l o n (pageFrame st img p)) ≡ 0) (given : n ≤ length bytes) (idle : changesNothing st img w p l o n bytes ≡ true) where
+  abbrev z : Sizes
+  z = st .sizes
+
+  -- the frame that the line is seen in, and the state with the write pending
+  abbrev f : ℕ
+  f = seenFrame st w p l (pageFrame st img p)
+
+  abbrev asks : State
+  asks = withPending st (Write w p l o n) (finishedLine st img w p l o n bytes) (pageFrame st img p)
+
+  T : WriteTaken st w p l o n (pageFrame st img p)
+  T = write-taken st w p l o n (pageFrame st img p) row
+
+  line-held : holds st w p l ≡ true
+  unfolding changesNothing
+  line-held = and-left (holds st w p l) (not (mergeChanges (seenLine st img w p l) o n bytes)) idle
+
+  pub has-slot : slotted st p ≡ true
+  has-slot = and-left (slotted st p) (inMask (heldAt (st .writers .held) w (slotFor st p)) l) line-held
+
+  mine : inMask (heldAt (st .writers .held) w (slotFor st p)) l ≡ true
+  mine = and-right (slotted st p) (inMask (heldAt (st .writers .held) w (slotFor st p)) l) line-held
+
+  frame-low : f < frames z
+  frame-low = seen-low st w p l (pageFrame st img p) (ranges-of st ok .legal) (T .args .page-low) (shapes-of st ok) (T .frame-good)
+
+  line-low : 8 * lineWord z f l + 64 ≤ length img
+  line-low = omega (arith, line-end z f l frame-low (T .args .line-low))
+
+  -- ---- the stores
+
+  finished : finishedLine st img w p l o n bytes ≡ lineWords (seenLine st img w p l)
+  unfolding changesNothing
+  finished =
+      ap lineWords
+      (merge-same (seenLine st img w p l) o n bytes (length-line img z f l frame-low (T .args .line-low) long) (T .args .fits) given
+      (not-true (mergeChanges (seenLine st img w p l) o n bytes) (and-right (holds st w p l) (not (mergeChanges (seenLine st img w p l) o n bytes)) idle)))
+
+  goes : (i : ℕ) → writeAt asks p l i ≡ lineWord z f l + i
+  unfolding writeSlot seenFrame
+  goes i = rw (has-slot, mine)
+
+  value : (i : ℕ) → i < 8 → writeValue asks i ≡ word img (lineWord z f l + i)
+  value i m =
+      let e : 8 * lineWord z f l + 8 * i ≡ 8 * (lineWord z f l + i) = omega arith in
+      ap (λ (ws : List ℕ). getD ws i 0) finished
+      ∙ line-word (seenLine st img w p l) i m
+      ∙ word-part img (8 * lineWord z f l) 64 (8 * i) (omega arith) line-low
+      ∙ ap (wordAt img) e
+
+  back : (i : ℕ) → i < 8 → store img (writeAt asks p l i) (writeValue asks i) ≡ img
+  back i m = rw (goes i, value i m) (store-same img (lineWord z f l + i) sound (omega (arith, line-low)))
+
+  -- after any of them the image is as it was
+  pub stores-back : (k : ℕ) → k ≤ 8 → storesMade asks k img ≡ img
+  stores-back k h =
+      up-keeps (λ (x : List ℕ). x ≡ img) (λ i x. storeMade asks x (Write w p l o n) (0 + i)) k img
+      (λ i x m e. let j : 0 + i ≡ i = omega arith in ap (λ (y : List ℕ). storeMade asks y (Write w p l o n) (0 + i)) e ∙ ap (storeMade asks img (Write w p l o n)) j ∙ back i (omega arith)) refl
+
+  pub run-back : (k : ℕ) → k ≤ 8 → steppedBy k (worldOf asks img) .image ≡ img
+  unfolding needs
+  run-back k h = run-image k (worldOf asks img) h ∙ stores-back k h
+
+  -- ---- the state
+
+  module _ (none : st .pending ≡ noPending) (low : heldAt (st .writers .held) w (slotFor st p) < 2 ^ 64) where
+    held-back : set (st .writers .held) (16 * w + slotFor st p) (withLine (heldAt (st .writers .held) w (slotFor st p)) l) ≡ st .writers .held
+    held-back =
+        ap (set (st .writers .held) (16 * w + slotFor st p)) (with-again (heldAt (st .writers .held) w (slotFor st p)) l low (T .args .line-low) mine)
+        ∙ set-getD (st .writers .held) (16 * w + slotFor st p) 0
+
+    completed-back : completed asks (Write w p l o n) ≡ st
+    unfolding writeSlot
+    completed-back =
+        rw has-slot
+        (λ i.
+        record { sizes = st .sizes; head = st .head; tail = st .tail; next = st .next; table = st .table; writers = record { opened = st .writers .opened; held = held-back i }; pending = sym none i })
+
+    -- after all eight the world is as it was
+    pub world-back : steppedBy 8 (worldOf asks img) ≡ worldOf st img
+    unfolding needs
+    world-back =
+        let e : steppedBy 8 (worldOf asks img) .st ≡ st = run-all (worldOf asks img) refl (omega arith) ∙ completed-back in
+        λ i. record { st = e i; image = run-back 8 (omega arith) i }
