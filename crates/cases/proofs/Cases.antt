@@ -17,11 +17,11 @@ use Rattle.refinement.specs.Consolidate.{freeingRecord, consolidateAt, consolid
 use Rattle.refinement.specs.Frames.{pageFrame, seenFrame}
 use Rattle.refinement.specs.Stores.{stepped, steppedBy}
 use Rattle.refinement.specs.Write.{writeSlot}
-use Rattle.refinement.specs.Calls.{beginOf, abortOf, writeOf, commitOf, consolidateOf, checkpointOf, readRow, readBytes, runOf, runBytes, stepOf, stepBytes}
+use Rattle.refinement.specs.Calls.{beginOf, abortOf, changesNothing, writeOf, commitOf, consolidateOf, checkpointOf, readRow, readBytes, runOf, runBytes, stepOf, stepBytes}
 use Rattle.refinement.specs.Mount.{formatCall}
 use Rattle.refinement.specs.Run.{exec, after}
 use Rattle.cases.specs.Cases.{words, seen, formats, gives, copies, case, cases, computedAll, statedAll}
 
 pub every-case : computedAll cases ≡ statedAll cases
-unfolding allBelow someBelow firstBelow one countBelow those upTo countOf eachOnce tab filled leOf bytesOf part over wordAt putWord wordsAt flat freshWords formatted freshTable replay inMask withLine exclusiveOr disjoint others linesIn countLines linesNotIn heldOk othersHold someHold heldSlots copyCount recordedSlots needs freeAfter frameOfSlot framesApart slotsOk lastsOk pendingOk stateOk checkpointAtOf checkpointValueOf commitRecordOf commitAtOf commitValueOf closedWriter freeingRecord consolidateAt consolidateValue pageFrame seenFrame stepped steppedBy writeSlot beginOf abortOf writeOf commitOf consolidateOf checkpointOf readRow readBytes runOf runBytes stepOf stepBytes formatCall exec after words seen formats gives copies case cases computedAll statedAll
+unfolding allBelow someBelow firstBelow one countBelow those upTo countOf eachOnce tab filled leOf bytesOf part over wordAt putWord wordsAt flat freshWords formatted freshTable replay inMask withLine exclusiveOr disjoint others linesIn countLines linesNotIn heldOk othersHold someHold heldSlots copyCount recordedSlots needs freeAfter frameOfSlot framesApart slotsOk lastsOk pendingOk stateOk checkpointAtOf checkpointValueOf commitRecordOf commitAtOf commitValueOf closedWriter freeingRecord consolidateAt consolidateValue pageFrame seenFrame stepped steppedBy writeSlot beginOf abortOf changesNothing writeOf commitOf consolidateOf checkpointOf readRow readBytes runOf runBytes stepOf stepBytes formatCall exec after words seen formats gives copies case cases computedAll statedAll
 every-case = refl
