@@ -49,6 +49,7 @@ pub fn write(
     if found.held & !merged.changed {
         return answers::taken(0, next);
     }
+    let words = merged.words;
     let op = Op::Write {
         writer,
         page,
@@ -56,7 +57,7 @@ pub fn write(
         offset,
         length,
     };
-    let pending = asking::pending_from(op, merged.words, [0; 8], found.frame);
+    let pending = asking::pending_from(op, words, [0; 8], found.frame);
     next.pending = pending;
     answers::taken(8, next)
 }

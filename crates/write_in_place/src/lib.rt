@@ -59,6 +59,7 @@ pub fn write(
         let answer = Answer::Taken(0);
         return Went { answer, to: at };
     }
+    let words = merged.words;
     let op = Op::Write {
         writer,
         page: p,
@@ -66,7 +67,7 @@ pub fn write(
         offset,
         length,
     };
-    let pending = asking::pending_from(op, merged.words, [0; 8], found.frame);
+    let pending = asking::pending_from(op, words, [0; 8], found.frame);
     let to = in_place::make_all(
         image,
         z,

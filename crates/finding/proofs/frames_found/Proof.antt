@@ -21,9 +21,14 @@ returns c =
 seen-frame-requires : tie.Need-seen-frame-requires
 seen-frame-requires c κs = (c .before .before .before .before .before .pre .0, good1 c .writer-low, good1 c .line-low)
 
+holds-line-requires : tie.Need-holds-line-requires
+holds-line-requires c κs = (c .before .before .before .before .before .before .pre .0, good1 (c .before) .writer-low, good1 (c .before) .line-low)
+
 returns-2 : tie.Need-returns-2
 returns-2 c =
-    (rw (c .before .before .before .page-frame .ensures, c .before .before .before .before .slot-of .ensures) at (c .before .before .write-row .ensures), rw (c .before .before .before .before .slot-of .ensures) at (c .before .before .before .page-frame .ensures), λ z. rw (c .before .before .before .page-frame .ensures, c .before .before .before .before .slot-of .ensures) at (c .seen-frame .ensures))
+    let slot = c .before .before .before .before .before .slot-of .ensures in
+    let frame = c .before .before .before .before .page-frame .ensures in
+    (rw (frame, slot) at (c .before .before .before .write-row .ensures), rw slot at frame, λ z. (rw (frame, slot) at (c .before .seen-frame .ensures), rw slot at (c .holds-line .ensures)))
 
 pub frames-found-spec : {M : Type 1} → statement M
 frames-found-spec =
@@ -34,4 +39,5 @@ frames-found-spec =
     (λ c κs. search needs)
     returns
     seen-frame-requires
+    holds-line-requires
     returns-2)

@@ -64,7 +64,7 @@ unfolding pageFrame seenFrame
 returns-3 c =
     let s = c .before .before .before .before .before .before .before in
     let f = c .frames-found .ensures in
-    (rows-then (first s ++ ((short s, 11) ∷ [])) (rows s) _ (past2 (c .before)) (f .0), λ z. (f .1, rw (f .1) (f .2 z)))
+    (rows-then (first s ++ ((short s, 11) ∷ [])) (rows s) _ (past2 (c .before)) (f .0), λ z. (f .1, rw (f .1) (f .2 z .0), f .2 z .1))
 
 pub write-found-spec : {M : Type 1} → statement M
 write-found-spec =

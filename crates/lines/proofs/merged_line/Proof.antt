@@ -64,8 +64,8 @@ returns c =
     let bytes = bytes-part (x .image .now) _ 64 (λ i. m .before .before .before .before .before .before .before .before .before .before .before .shared-slice-known .given i .fits) in (
       new,
       c .words-differ .ensures
-      ∙ ap₂ (differ 8) new old
-      ∙ merge-words (line m) (x .offset) (x .n) (x .«data» .now) (sized m) (omega arith) (omega arith) bytes (λ i. m .before .before .before .before .before .before .before .before .before .before .shared-slice-known2 .given i .fits),
+          ∙ ap₂ (differ 8) new old
+          ∙ merge-words (line m) (x .offset) (x .n) (x .«data» .now) (sized m) (omega arith) (omega arith) bytes (λ i. m .before .before .before .before .before .before .before .before .before .before .shared-slice-known2 .given i .fits),
     )
 
 pub merged-line-spec : {M : Type 1} → statement M

@@ -7,7 +7,7 @@ use Rattle.refinement.proofs.SeenFrames.{seen-low}
 use Rattle.refinement.proofs.Going.{ranges-of, shapes-of}
 use Rattle.answers.proofs.Answered.{row-known}
 use Rattle.refinement.specs.Calls.{writeCallRows}
-use Rattle.transactions.proofs.Writing.{write-none, write-refused, write-asked}
+use Rattle.transactions.proofs.Writing.{write-none, write-refused, write-nothing, write-asked}
 use Rattle.transactions.proofs.write.Statement.{statement}
 use Rattle.transactions.proofs.write.Tie as tie
 
@@ -38,8 +38,17 @@ merged-line-requires c κs =
 
 returns-2 : tie.Need-returns-2
 returns-2 c =
-    let a = c .before .before .before .before .before .before .before .before .before .before .before .before .before .before .before .before .before .before .before .args in
-    write-asked (a .st) (a .image .now) (a .writer) (a .page) (a .line) (a .offset) (a .length) (a .«data» .now) (c .taken .result) _ (c .before .before .before .before .before .before .write-found .ensures) _ _ (c .before .before .before .before .if1 .left) (c .before .before .merged-line .ensures) (c .before .pending-from .ensures) (c .taken .ensures)
+    let a = c .before .before .before .before .before .before .before .before .before .before .before .before .before .before .before .before .before .before .before .before .before .args in
+    let merged = c .before .before .before .before .merged-line .ensures in
+    write-nothing (a .st) (a .image .now) (a .writer) (a .page) (a .line) (a .offset) (a .length) (a .«data» .now) (c .taken .result) _ (c .before .before .before .before .before .before .before .before .write-found .ensures) _ _
+    (c .before .before .before .before .before .before .if1 .left) (merged .0) (merged .1) (c .before .if2 .taken) (c .taken .ensures)
+
+returns-3 : tie.Need-returns-3
+returns-3 c =
+    let a = c .before .before .before .before .before .before .before .before .before .before .before .before .before .before .before .before .before .before .before .before .before .before .before .args in
+    let merged = c .before .before .before .before .before .before .merged-line .ensures in
+    write-asked (a .st) (a .image .now) (a .writer) (a .page) (a .line) (a .offset) (a .length) (a .«data» .now) (c .taken2 .result) _ (c .before .before .before .before .before .before .before .before .before .before .write-found .ensures) _ _
+    (c .before .before .before .before .before .before .before .before .if1 .left) (merged .0) (merged .1) _ (c .before .before .before .if2 .left) (c .before .pending-from .ensures) (c .taken2 .ensures)
 
 pub write-spec : {M : Type 1} → statement M
 write-spec =
@@ -50,5 +59,7 @@ write-spec =
     returns
     merged-line-requires
     (λ c κs. search needs)
+    returns-2
     (λ c κs. search needs)
-    returns-2)
+    (λ c κs. search needs)
+    returns-3)
