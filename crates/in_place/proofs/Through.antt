@@ -21,6 +21,13 @@ use Rattle.refinement.proofs.CallAsked.{needs-asked, pending-valid}
 use Rattle.refinement.proofs.Steps.{run-all, run-image}
 use Rattle.in_place.specs.Through.{throughOf, throughBytes, Through}
 
+-- a call with the rows rs is turned back, row being the one that the code found
+pub through-refused : (st : State) (img : List ℕ) (rs : List Row) (row n : ℕ) (after : State) → row ≡ refusal rs → (row ≡ 0 → ⊥) → (done : Outcome) → done ≡ answered row st 0 st
+    → Through done img (answered (refusal rs) st n after) img
+through-refused st img rs row n after e z done h =
+    let f : eqb (refusal rs) 0 ≡ false = ne-eqb (refusal rs) 0 (λ q. z (e ∙ q)) in
+    (rw f (rw (e, f) at h), rw f)
+
 -- an operation that may be taken and needs stores
 pub record Ready (st : State) (img : List ℕ) (op : Op) (frame : ℕ) : Type 0 where
   pub ok : stateOk st ≡ true
@@ -56,11 +63,6 @@ module _ (st : State) (img : List ℕ) (op : Op) (line : List ℕ) (frame : ℕ)
 
   -- rs are the rows of the call, and row the one that the code found
   module _ (rs : List Row) (row : ℕ) (e : row ≡ refusal rs) where
-    pub through-refused : (row ≡ 0 → ⊥) → (done : Outcome) → done ≡ answered row st 0 st → Through done img (asked (refusal rs) st op line frame) img
-    through-refused n done h =
-        let f : eqb (refusal rs) 0 ≡ false = ne-eqb (refusal rs) 0 (λ q. n (e ∙ q)) in
-        (rw f (rw (e, f) at h), rw f)
-
     -- no row applies
     module _ (z : row ≡ 0) where
       pub through-done : needs st op ≡ 0 → (done : Outcome) (after : State) → after ≡ completed st op → done ≡ answered 0 after 0 after → Through done img (asked (refusal rs) st op line frame) img

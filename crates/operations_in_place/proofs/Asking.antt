@@ -39,7 +39,7 @@ zeros = replicate 8 0
 
 module _ (st : State) (img : List ℕ) (op : Op) (row : ℕ) (e : row ≡ refusal (quietRows st (length img) ++ opRows st op 0)) where
   pub ask-refused : (row ≡ 0 → ⊥) → (done : Outcome) → done ≡ answered row st 0 st → Through done img (askedOf st (length img) op) img
-  ask-refused n done h = through-refused st img op zeros 0 (quietRows st (length img) ++ opRows st op 0) row e n done h
+  ask-refused n done h = through-refused st img (quietRows st (length img) ++ opRows st op 0) row _ _ e n done h
 
   module _ (z : row ≡ 0) (i : isIdle op ≡ false) where
     none : (stateOk st ≡ true) × (refusal (opRows st op 0) ≡ 0)

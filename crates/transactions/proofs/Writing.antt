@@ -37,6 +37,12 @@ write-none st img w p l o n bytes e =
       write-taken st w p l o n (pageFrame st img p) (sym (row-none rows (h .1 .1 .1 .1))),
     )
 
+-- whether it changes nothing, as the code tests it
+pub idle-is : (st : State) (img : List ℕ) (w p l o n : ℕ) (bytes : List ℕ) (found : Found) → WriteFound st img w p l o n bytes found → found .row ≡ 0
+    → (changed : Bool) → changed ≡ mergeChanges (lineBytes img (st .sizes) (found .seen) l) o n bytes → found .held && not changed ≡ changesNothing st img w p l o n bytes
+unfolding changesNothing
+idle-is st img w p l o n bytes found f z changed c = let g = f .1 z in rw (g .2, c, g .1, g .0)
+
 module _ (st : State) (img : List ℕ) (w p l o n : ℕ) (bytes : List ℕ) (d : Done) (found : Found) (f : WriteFound st img w p l o n bytes found) where
   abbrev idle : Bool
   idle = changesNothing st img w p l o n bytes
@@ -51,18 +57,17 @@ module _ (st : State) (img : List ℕ) (w p l o n : ℕ) (bytes : List ℕ) (d :
   -- no row applies; words and changed are what the code has of the merged line
   module _ (words : List ℕ) (changed : Bool) (z : found .row ≡ 0) (m : words ≡ lineWords (merged (lineBytes img (st .sizes) (found .seen) l) o n bytes))
       (c : changed ≡ mergeChanges (lineBytes img (st .sizes) (found .seen) l) o n bytes) where
-    pub idle-is : found .held && not changed ≡ idle
-    unfolding changesNothing
-    idle-is = let g = f .1 z in rw (g .2, c, g .1, g .0)
+    is : found .held && not changed ≡ idle
+    is = idle-is st img w p l o n bytes found f z changed c
 
     pub write-nothing : found .held && not changed ≡ true → outcomeOf d ≡ answered 0 st 0 st → outcomeOf d ≡ writeOf st img w p l o n bytes
     unfolding writeOf
-    write-nothing t h = rw (← (sym z ∙ f .0), sym idle-is ∙ t) h
+    write-nothing t h = rw (← (sym z ∙ f .0), sym is ∙ t) h
 
     pub write-asked : (q : Pending) → found .held && not changed ≡ false → q ≡ pendingFrom (Write w p l o n) words (found .frame)
         → outcomeOf d ≡ answered 0 (pendingWith st q) 8 (pendingWith st q) → outcomeOf d ≡ writeOf st img w p l o n bytes
     unfolding writeOf
     write-asked q t e h =
         let g = f .1 z in
-        let is : q ≡ pendingFrom (Write w p l o n) (finishedLine st img w p l o n bytes) (pageFrame st img p) = rw (m, g .1, g .0) at e in
-        rw (← (sym z ∙ f .0), sym idle-is ∙ t) (h ∙ ap (λ (x : Pending). answered 0 (pendingWith st x) 8 (pendingWith st x)) is)
+        let own : q ≡ pendingFrom (Write w p l o n) (finishedLine st img w p l o n bytes) (pageFrame st img p) = rw (m, g .1, g .0) at e in
+        rw (← (sym z ∙ f .0), sym is ∙ t) (h ∙ ap (λ (x : Pending). answered 0 (pendingWith st x) 8 (pendingWith st x)) own)

@@ -9,8 +9,8 @@ use Rattle.events.proofs.numbered_line.Tie as tie
 
 returns : tie.Need-returns
 returns c =
-    let a = c .before .before .before .before .before .before .args in
-    c .merged-line .ensures ∙ ap (λ (d : List ℕ). lineWords (merged (lineBytes (a .image .now) (a .z) (a .f) (a .l)) 0 8 d)) (number-bytes (a .v) _ _ refl (c .before .before .before .put-word .ensures))
+    let a = c .before .before .before .before .before .before .before .args in
+    c .before .merged-line .ensures .0 ∙ ap (λ (d : List ℕ). lineWords (merged (lineBytes (a .image .now) (a .z) (a .f) (a .l)) 0 8 d)) (number-bytes (a .v) _ _ refl (c .before .before .before .before .put-word .ensures))
 
 pub numbered-line-spec : {M : Type 1} → statement M
 numbered-line-spec = tie.close (tie.spec (λ c. search needs) (λ c κs. search needs) (λ c. search needs) (λ c κs. search needs) returns)

@@ -1,3 +1,4 @@
+use mathlib.Core.Bool.{not, _&&_}
 use mathlib.Core.Path.{_≡_, refl, sym, ap, _∙_, subst}
 use native.Mathlib.Omega.{arith}
 use lib.ListN.{length}
@@ -6,14 +7,14 @@ use Rattle.state.specs.declared.State.{State}
 use Rattle.state.specs.declared.Pending.{Pending}
 use Rattle.state.specs.Parts.{stateOf}
 use Rattle.refinement.specs.Frames.{pageFrame}
-use Rattle.refinement.specs.Calls.{writeCallRows}
+use Rattle.refinement.specs.Calls.{writeCallRows, changesNothing}
 use Rattle.refinement.proofs.SeenFrames.{seen-low}
 use Rattle.refinement.proofs.Going.{ranges-of, shapes-of}
 use Rattle.answers.proofs.Answered.{row-known, refused-known}
 use Rattle.finding.specs.Finding.{WriteFound}
-use Rattle.transactions.proofs.Writing.{write-none}
+use Rattle.transactions.proofs.Writing.{write-none, idle-is}
 use Rattle.in_place.specs.Through.{quietAt}
-use Rattle.write_in_place.proofs.Writing.{write-refused, write-pends, write-through}
+use Rattle.write_in_place.proofs.Writing.{write-refused, write-nothing, write-pends, write-through}
 use Rattle.write_in_place.proofs.write.Statement.{statement}
 use Rattle.write_in_place.proofs.write.Tie as tie
 
@@ -55,18 +56,33 @@ merged-line-requires c κs =
       q .1,
     )
 
-make-all-requires : tie.Need-make-all-requires
-make-all-requires c κs =
-    let s = c .before .before .before .before .before .before .before .before .before .before .before .before .before .before .before .before .before .before .before .before .before .before .before .before .before in
+-- whether the write changes nothing, as the code tests it
+nothing : (c : tie.After-struct-known3) → let s = c .before .before .before .before .before .before .before .before .before .before .before .before .before .before .before .before .before .before in let a = s .args in
+    c .before .before .before .before .before .before .write-found .result .held && not (c .before .before .merged-line .result .changed) ≡ changesNothing (st s) (a .image .now) (a .writer) (a .p) (a .line) (a .offset) (a .length) (a .«data» .now)
+nothing c =
+    let s = c .before .before .before .before .before .before .before .before .before .before .before .before .before .before .before .before .before .before in
     let a = s .args in
-    write-pends (st s) (a .image .now) (a .writer) (a .p) (a .line) (a .offset) (a .length) (a .«data» .now) _ (found (c .before .before .before .before .before .before .before .before .before .before .before .before .before)) (c .before .before .before .before .before .before .before .before .before .before .before .if1 .left) _ _ (c .before .before .before .before .before .before .before .before .before .merged-line .ensures) (c .before .before .before .before .before .before .before .before .pending-from .ensures)
+    idle-is (st s) (a .image .now) (a .writer) (a .p) (a .line) (a .offset) (a .length) (a .«data» .now) _ (found (c .before .before .before .before .before .before)) (c .before .before .before .before .if1 .left) _ (c .before .before .merged-line .ensures .1)
 
 returns-2 : tie.Need-returns-2
 returns-2 c =
-    let s = c .before .before .before .before .before .before .before .before .before .before .before .before .before .before .before .before .before .before .before .before .before .before .before .before .before .before .before .before in
+    let s = c .before .before .before .before .before .before .before .before .before .before .before .before .before .before .before .before .before .before .before in
+    let a = s .args in
+    write-nothing (st s) (a .image .now) (a .writer) (a .p) (a .line) (a .offset) (a .length) (a .«data» .now) _ (found (c .before .before .before .before .before .before .before)) (c .before .before .before .before .before .if1 .left) (sym (nothing (c .before)) ∙ c .if2 .taken) _ refl
+
+make-all-requires : tie.Need-make-all-requires
+make-all-requires c κs =
+    let s = c .before .before .before .before .before .before .before .before .before .before .before .before .before .before .before .before .before .before .before .before .before .before .before .before .before .before .before .before .before in
+    let a = s .args in
+    write-pends (st s) (a .image .now) (a .writer) (a .p) (a .line) (a .offset) (a .length) (a .«data» .now) _ (found (c .before .before .before .before .before .before .before .before .before .before .before .before .before .before .before .before .before)) (c .before .before .before .before .before .before .before .before .before .before .before .before .before .before .before .if1 .left) _ _ (c .before .before .before .before .before .before .before .before .before .before .before .before .before .merged-line .ensures .0) (c .before .before .before .before .before .before .before .before .pending-from .ensures)
+
+returns-3 : tie.Need-returns-3
+returns-3 c =
+    let s = c .before .before .before .before .before .before .before .before .before .before .before .before .before .before .before .before .before .before .before .before .before .before .before .before .before .before .before .before .before .before .before .before in
     let a = s .args in
     let e = c .before .before .make-all .ensures in
-    write-through (st s) (a .image .now) (a .writer) (a .p) (a .line) (a .offset) (a .length) (a .«data» .now) _ (found (c .before .before .before .before .before .before .before .before .before .before .before .before .before .before .before .before)) (c .before .before .before .before .before .before .before .before .before .before .before .before .before .before .if1 .left) _ _ (c .before .before .before .before .before .before .before .before .before .before .before .before .merged-line .ensures) (c .before .before .before .before .before .before .before .before .before .before .before .pending-from .ensures) _ _ _ (e .0) (e .1) refl
+    write-through (st s) (a .image .now) (a .writer) (a .p) (a .line) (a .offset) (a .length) (a .«data» .now) _ (found (c .before .before .before .before .before .before .before .before .before .before .before .before .before .before .before .before .before .before .before .before)) (c .before .before .before .before .before .before .before .before .before .before .before .before .before .before .before .before .before .before .if1 .left) _ _ (c .before .before .before .before .before .before .before .before .before .before .before .before .before .before .before .before .merged-line .ensures .0) (c .before .before .before .before .before .before .before .before .before .before .before .pending-from .ensures)
+    (sym (nothing (c .before .before .before .before .before .before .before .before .before .before .before .before .before .before)) ∙ c .before .before .before .before .before .before .before .before .before .before .before .before .before .if2 .left) _ _ _ (e .0) (e .1) refl
 
 pub write-spec : {M : Type 1} → statement M
 write-spec =
@@ -78,7 +94,9 @@ write-spec =
     (λ c. search needs)
     returns
     merged-line-requires
+    (λ c. search needs)
+    returns-2
     (λ c κs. search needs)
     make-all-requires
     (λ c. search needs)
-    returns-2)
+    returns-3)
