@@ -88,7 +88,8 @@ struct Both {
     rng: Rng,
     taken: u64,
     freed: u64,
-    /// Writes that were taken with no stores.
+    /// Where the last write went, and how many were taken with no stores.
+    written: Option<(u64, u64, u64)>,
     idle: u64,
     /// Only events write to page 0.
     metered: bool,
@@ -102,7 +103,16 @@ impl Both {
         let mut rng = Rng::new(seed, 0);
         let (p, s) = (rng.between(1, 3), rng.between(1, 3));
         let j = rng.between(s, 4);
-        Both { store: Store::fresh(p, s, j), book: Book::default(), rng, taken: 0, freed: 0, idle: 0, metered }
+        Both {
+            store: Store::fresh(p, s, j),
+            book: Book::default(),
+            rng,
+            taken: 0,
+            freed: 0,
+            written: None,
+            idle: 0,
+            metered,
+        }
     }
 
     fn note(&mut self, call: Underway, answer: Result<u64, u8>) {
@@ -130,14 +140,18 @@ impl Both {
         }
         let (writer, page) =
             (self.rng.pick(&[0, 0, 1, 2]), self.rng.between(first, self.store.state.sizes.p - 1));
-        let (line, offset) = (self.rng.pick(&LINES), self.rng.pick(&[0, 3, 63]));
-        let mut data: Vec<u8> =
-            (0..self.rng.between(1, 64 - offset)).map(|_| self.rng.below(256) as u8).collect();
-        if self.rng.percent(40) {
-            // What the writer reads there.
-            let shown = self.book.line(Some(writer), page, line);
-            data.copy_from_slice(&shown[offset as usize..][..data.len()]);
-        }
+        let place = (writer, page, self.rng.pick(&LINES));
+        // In a third of them the bytes that the writer of the last one reads there.
+        let again = self.written.filter(|_| self.rng.percent(33));
+        let (writer, page, line) = again.unwrap_or(place);
+        self.written = Some((writer, page, line));
+        let offset = self.rng.pick(&[0, 3, 63]);
+        let length = self.rng.between(1, 64 - offset) as usize;
+        let data: Vec<u8> = if again.is_some() {
+            self.book.line(Some(writer), page, line)[offset as usize..][..length].to_vec()
+        } else {
+            (0..length).map(|_| self.rng.below(256) as u8).collect()
+        };
         let patch = Patch { offset, length: data.len() as u64, data: &data };
         let answer = calls::write(&mut self.store.state, &self.store.image, (writer, page, line), patch);
         let call = Underway::Write { writer: writer as usize, spot: (page, line, offset), data };
