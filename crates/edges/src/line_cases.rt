@@ -83,7 +83,8 @@ fn lay(image: &[u8; 12480], offset: usize, n: usize, s: &[u8; 64])
         s,
         n,
     );
-    eight(offset, n, w.words);
+    let words = w.words;
+    eight(offset, n, words);
 }
 
 fn merge(image: &[u8; 12480], offset: usize, n: usize)
