@@ -54,7 +54,7 @@ module _ (st : State) (img : List ℕ) (w p l o n : ℕ) (bytes : List ℕ) (ok 
 
   line-held : holds st w p l ≡ true
   unfolding changesNothing
-  line-held = and-left (holds st w p l) (not (mergeChanges (seenLine st img w p l) o n bytes)) idle
+  line-held = and-left (holds st w p l) _ idle
 
   pub has-slot : slotted st p ≡ true
   has-slot = and-left (slotted st p) (inMask (heldAt (st .writers .held) w (slotFor st p)) l) line-held
