@@ -41,6 +41,7 @@ module _ (st : State) (p : ℕ) where
     pub apart : copyTo (pageSlot st p) ≡ copyFrom (pageSlot st p) → ⊥
     pub none-held : (w : ℕ) → w < 4 → heldAt (st .writers .held) w (slotFor st p) ≡ 0
     pub room : live st + 1 ≤ st .sizes .places
+    pub alone : 4 ≤ st .writers .prepared
 
   pub freed : stateOk st ≡ true → Sixteen (st .table) → ConsolidateTaken st p → Freed
   freed ok full h =
@@ -57,6 +58,7 @@ module _ (st : State) (p : ℕ) where
         apart = apart;
         none-held = unheld st p ok full h;
         room = h .fits;
+        alone = ltb-false (st .writers .prepared) 4 (h .none-prepared);
       } in
       caseOn (isFew t)
       (λ f. made (rw f (o .original-low)) (rw f (o .spare-low)) (rw f (o .apart)))

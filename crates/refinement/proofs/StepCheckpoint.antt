@@ -35,6 +35,7 @@ use Rattle.refinement.proofs.Copies.{durable-legal, durable-fits}
 use Rattle.refinement.proofs.Invariant.{TakenOnly, Behind, Durable, Writing, Never, Changing, Doing, Quiet, Busy, Related}
 use Rattle.refinement.proofs.CheckpointMid.{recorded, slot-stored, at-slot, value-slot, at-tail, value-tail, checkpoint-mid}
 use Rattle.refinement.proofs.HeaderStore.{header-fits, header-page, header-line, header-copy}
+use Rattle.refinement.proofs.Records.{stored-kept}
 use Rattle.refinement.proofs.Stepping.{needs-made, step-mid}
 use Rattle.refinement.proofs.StepLast.{step-last}
 
@@ -118,6 +119,10 @@ module _ (past : List ℕ) (st : State) (img : List ℕ) (b : Reference) (D : Du
         held-low = W .held-low;
         own-copy = λ w p l lw lp ll out h. header-line img z tailWord (st .head) (omega arith) whole _ l ∙ W .own-copy w p l lw lp ll out h;
         no-writes = W .no-writes;
+        ready =
+            λ l.
+            stored-kept z (st .head) (st .table) (st .writers .held) img (st .writers .prepared) tailWord (st .head) (durable-legal past st img b D)
+            (header-fits img z tailWord (st .head) (omega arith) whole) (inl (omega arith)) (W .ready l);
       }
 
 -- ---- a store of it
