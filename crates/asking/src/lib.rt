@@ -41,11 +41,12 @@ pub fn ask_row<'a>(
     last: &'a [usize; 16],
     opened: &'a [bool; 4],
     held: &'a [u64; 64],
+    prepared: usize,
     pending: Pending,
     op: Op,
     n: usize,
 ) -> usize
-    ensures { λ r. ⌜ r ≡ refusal (quietRows (stateOf z head tail next (now (page .entry)) (now (original .entry)) (now (spare .entry)) (now (bitmap .entry)) (now (last .entry)) (now (opened .entry)) (now (held .entry)) pending) n ++ opRows (stateOf z head tail next (now (page .entry)) (now (original .entry)) (now (spare .entry)) (now (bitmap .entry)) (now (last .entry)) (now (opened .entry)) (now (held .entry)) pending) op 0) ⌝ }
+    ensures { λ r. ⌜ r ≡ refusal (quietRows (stateOf z head tail next (now (page .entry)) (now (original .entry)) (now (spare .entry)) (now (bitmap .entry)) (now (last .entry)) (now (opened .entry)) (now (held .entry)) prepared pending) n ++ opRows (stateOf z head tail next (now (page .entry)) (now (original .entry)) (now (spare .entry)) (now (bitmap .entry)) (now (last .entry)) (now (opened .entry)) (now (held .entry)) prepared pending) op 0) ⌝ }
 {
     let row = rows::first_row(
         z,
@@ -59,6 +60,7 @@ pub fn ask_row<'a>(
         last,
         opened,
         held,
+        prepared,
         pending,
         n,
         false,
@@ -136,6 +138,7 @@ pub fn ask(st: State, n: usize, op: Op) -> Done
         &next.table.last,
         &next.writers.opened,
         &next.writers.held,
+        next.writers.prepared,
         next.pending,
         op,
         n,

@@ -76,6 +76,7 @@ pub fn write_found<'a>(
     last: &'a [usize; 16],
     opened: &'a [bool; 4],
     held: &'a [u64; 64],
+    prepared: usize,
     pending: Pending,
     image: &[u8],
     writer: usize,
@@ -85,7 +86,7 @@ pub fn write_found<'a>(
     length: usize,
     data: &[u8],
 ) -> Found
-    ensures { λ r. ⌜ WriteFound (stateOf z head tail next (now (page .entry)) (now (original .entry)) (now (spare .entry)) (now (bitmap .entry)) (now (last .entry)) (now (opened .entry)) (now (held .entry)) pending) (now (image .entry)) writer p line offset length (now («data» .entry)) r ⌝ }
+    ensures { λ r. ⌜ WriteFound (stateOf z head tail next (now (page .entry)) (now (original .entry)) (now (spare .entry)) (now (bitmap .entry)) (now (last .entry)) (now (opened .entry)) (now (held .entry)) prepared pending) (now (image .entry)) writer p line offset length (now («data» .entry)) r ⌝ }
 {
     let row = rows::first_row(
         z,
@@ -99,6 +100,7 @@ pub fn write_found<'a>(
         last,
         opened,
         held,
+        prepared,
         pending,
         image.len(),
         false,

@@ -27,6 +27,7 @@ pub fn free_slot(st: State, image: &[u8]) -> Done
         &next.table.last,
         &next.writers.opened,
         &next.writers.held,
+        next.writers.prepared,
         next.pending,
         image.len(),
         false,

@@ -31,13 +31,14 @@ pub fn go_on(
     last: &mut [usize; 16],
     opened: &mut [bool; 4],
     held: &mut [u64; 64],
+    prepared: usize,
     pending: Pending,
     k: usize,
 ) -> Gone
     requires { ⌜ Lengths (now page) (now original) (now spare) (now bitmap) (now last) (now opened) (now held) ⌝ }
     ensures row { λ r. ⌜ r .made .row ≤ 22 ⌝ }
-    ensures outcome { λ r. ⌜ answered (r .made .row) (stateOf z (r .to .head) (r .to .tail) (r .to .next) (now (page .exit)) (now (original .exit)) (now (spare .exit)) (now (bitmap .exit)) (now (last .exit)) (now (opened .exit)) (now (held .exit)) (r .pending)) (r .made .stores) (stateOf z (r .to .head) (r .to .tail) (r .to .next) (now (page .exit)) (now (original .exit)) (now (spare .exit)) (now (bitmap .exit)) (now (last .exit)) (now (opened .exit)) (now (held .exit)) (r .pending)) ≡ runOf (stateOf z head tail next (now (page .entry)) (now (original .entry)) (now (spare .entry)) (now (bitmap .entry)) (now (last .entry)) (now (opened .entry)) (now (held .entry)) pending) (now (image .entry)) k ⌝ }
-    ensures bytes { λ _. ⌜ now (image .exit) ≡ runBytes (stateOf z head tail next (now (page .entry)) (now (original .entry)) (now (spare .entry)) (now (bitmap .entry)) (now (last .entry)) (now (opened .entry)) (now (held .entry)) pending) (now (image .entry)) k ⌝ }
+    ensures outcome { λ r. ⌜ answered (r .made .row) (stateOf z (r .to .head) (r .to .tail) (r .to .next) (now (page .exit)) (now (original .exit)) (now (spare .exit)) (now (bitmap .exit)) (now (last .exit)) (now (opened .exit)) (now (held .exit)) (r .pending)) (r .made .stores) (stateOf z (r .to .head) (r .to .tail) (r .to .next) (now (page .exit)) (now (original .exit)) (now (spare .exit)) (now (bitmap .exit)) (now (last .exit)) (now (opened .exit)) (now (held .exit)) (r .pending)) ≡ runOf (stateOf z head tail next (now (page .entry)) (now (original .entry)) (now (spare .entry)) (now (bitmap .entry)) (now (last .entry)) (now (opened .entry)) (now (held .entry)) prepared pending) (now (image .entry)) k ⌝ }
+    ensures bytes { λ _. ⌜ now (image .exit) ≡ runBytes (stateOf z head tail next (now (page .entry)) (now (original .entry)) (now (spare .entry)) (now (bitmap .entry)) (now (last .entry)) (now (opened .entry)) (now (held .entry)) prepared pending) (now (image .entry)) k ⌝ }
 {
     let made = stores::making::make_left(
         image,
@@ -52,6 +53,7 @@ pub fn go_on(
         last,
         opened,
         held,
+        prepared,
         pending,
         k,
     );
@@ -73,6 +75,7 @@ pub fn go_on(
         last,
         opened,
         held,
+        prepared,
         pending,
     );
     let pending = settled::no_pending();

@@ -59,12 +59,13 @@ pub fn make_all(
     last: &mut [usize; 16],
     opened: &mut [bool; 4],
     held: &mut [u64; 64],
+    prepared: usize,
     pending: Pending,
     needed: usize,
 ) -> Places
-    requires { ⌜ (stateOk (stateOf z (at .head) (at .tail) (at .next) (now page) (now original) (now spare) (now bitmap) (now last) (now opened) (now held) pending) ≡ true) × (isIdle (pending .op) ≡ false) × (needed ≡ left (stateOf z (at .head) (at .tail) (at .next) (now page) (now original) (now spare) (now bitmap) (now last) (now opened) (now held) pending)) × (imageLength z ≤ length (now image)) ⌝ }
-    ensures state { λ r. ⌜ stateOf z (r .head) (r .tail) (r .next) (now (page .exit)) (now (original .exit)) (now (spare .exit)) (now (bitmap .exit)) (now (last .exit)) (now (opened .exit)) (now (held .exit)) noPending ≡ completed (stateOf z (at .head) (at .tail) (at .next) (now (page .entry)) (now (original .entry)) (now (spare .entry)) (now (bitmap .entry)) (now (last .entry)) (now (opened .entry)) (now (held .entry)) pending) (pending .op) ⌝ }
-    ensures bytes { λ _. ⌜ now (image .exit) ≡ storesMade (stateOf z (at .head) (at .tail) (at .next) (now (page .entry)) (now (original .entry)) (now (spare .entry)) (now (bitmap .entry)) (now (last .entry)) (now (opened .entry)) (now (held .entry)) pending) needed (now (image .entry)) ⌝ }
+    requires { ⌜ (stateOk (stateOf z (at .head) (at .tail) (at .next) (now page) (now original) (now spare) (now bitmap) (now last) (now opened) (now held) prepared pending) ≡ true) × (isIdle (pending .op) ≡ false) × (needed ≡ left (stateOf z (at .head) (at .tail) (at .next) (now page) (now original) (now spare) (now bitmap) (now last) (now opened) (now held) prepared pending)) × (imageLength z ≤ length (now image)) ⌝ }
+    ensures state { λ r. ⌜ stateOf z (r .head) (r .tail) (r .next) (now (page .exit)) (now (original .exit)) (now (spare .exit)) (now (bitmap .exit)) (now (last .exit)) (now (opened .exit)) (now (held .exit)) noPending ≡ completed (stateOf z (at .head) (at .tail) (at .next) (now (page .entry)) (now (original .entry)) (now (spare .entry)) (now (bitmap .entry)) (now (last .entry)) (now (opened .entry)) (now (held .entry)) prepared pending) (pending .op) ⌝ }
+    ensures bytes { λ _. ⌜ now (image .exit) ≡ storesMade (stateOf z (at .head) (at .tail) (at .next) (now (page .entry)) (now (original .entry)) (now (spare .entry)) (now (bitmap .entry)) (now (last .entry)) (now (opened .entry)) (now (held .entry)) prepared pending) needed (now (image .entry)) ⌝ }
 {
     let _pages = sixteen(page);
     let _originals = sixteen(original);
@@ -86,6 +87,7 @@ pub fn make_all(
         last,
         opened,
         held,
+        prepared,
         pending,
         needed,
     );
@@ -101,6 +103,7 @@ pub fn make_all(
         last,
         opened,
         held,
+        prepared,
         pending,
     )
 }

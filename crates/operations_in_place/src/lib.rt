@@ -65,6 +65,7 @@ fn ask(
             last,
             opened,
             held,
+            prepared,
             pending,
         );
         return Went {
@@ -83,6 +84,7 @@ fn ask(
         last,
         opened,
         held,
+        prepared,
         pending,
         needed,
     );

@@ -6,6 +6,7 @@ use mathlib.Core.List.{List}
 use mathlib.Core.Path.{_≡_, sym, ap, _∙_}
 use native.Mathlib.Omega.{arith}
 use lib.ListN.{length}
+use borrow.Author.Tests.{ltb-false}
 use Rattle.bounded.proofs.Tests.{caseOn}
 use Rattle.layout.specs.Layout.{Legal, frames, pageWord, recordWord, lineWord, imageLength}
 use Rattle.words.specs.Words.{store, Bytes}

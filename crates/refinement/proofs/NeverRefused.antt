@@ -8,6 +8,7 @@ use native.Mathlib.Omega.{arith}
 use lib.Dec.{ltb}
 use lib.ListN.{length}
 use borrow.Author.Tests.{le-ltb}
+use Rattle.bounded.specs.Rows.{refusal}
 use Rattle.layout.specs.Layout.{imageLength}
 use Rattle.state.specs.declared.State.{State}
 use Rattle.operations.specs.Operations.{slotFor, frameBad}

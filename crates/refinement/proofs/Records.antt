@@ -101,6 +101,9 @@ module _ (z : Sizes) (head : ℕ) (t t′ : Table) (held held′ : List ℕ) (w 
   unfolding commitAtOf
   at-same i = ap (λ (l : List ℕ). cond (ltb i (4 * length l)) (recordWord z (position z head (i / 4)) + i % 4) headWord) same
 
+  abbrev recordOf : ℕ → Record
+  recordOf s = record { first = head; slot = s; now = committedSlot t′ held′ w s }
+
   record-same : (j : ℕ) → j < length (heldSlots z held w) → commitRecordOf z head t′ held′ w j ≡ commitRecordOf z head t held w j
   unfolding commitRecordOf heldSlots
   record-same j l =
@@ -108,11 +111,8 @@ module _ (z : Sizes) (head : ℕ) (t t′ : Table) (held held′ : List ℕ) (w 
       let c = chosen test (z .slots) j 0 (omega (arith, l, length-those test (z .slots))) in
       let s : ℕ = getD (heldSlots z held w) j 0 in
       let holds : heldAt held w s ≡ 0 → ⊥ = eqb-false (heldAt held w s) 0 (not-true (eqb (heldAt held w s) 0) (c .passes)) in
-      ap (λ (x : List ℕ). recordIn (getD x j 0)) same
+      ap (λ (x : List ℕ). recordOf (getD x j 0)) same
       ∙ ap₂ (λ (u : Slot) (m : ℕ). record { first = head; slot = s; now = record { page = u .page; original = u .original; spare = u .spare; bitmap = exclusiveOr (u .bitmap) m } }) (slots s (c .below) holds) (masks s (c .below))
-    where
-      abbrev recordIn : ℕ → Record
-      recordIn s = record { first = head; slot = s; now = committedSlot t′ held′ w s }
 
   value-same : (i : ℕ) → i < 4 * length (heldSlots z held w) → commitValueOf z head t′ held′ w i ≡ commitValueOf z head t held w i
   unfolding commitValueOf

@@ -25,6 +25,7 @@ use Rattle.state.specs.declared.State.{State}
 use Rattle.state.specs.declared.Op.{Op}
 use Rattle.state.specs.declared.Op.the-variants.{Checkpoint}
 use Rattle.operations.specs.Operations.{needs}
+use Rattle.refinement.specs.Commit.{commitRecordOf, commitValueOf}
 use Rattle.refinement.specs.Checkpoint.{checkpointAt, checkpointValue, withoutLasts}
 use Rattle.refinement.specs.Stores.{stepped, completed, storeAt, storeValue, storeMade}
 use Rattle.refinement.proofs.Pending.{pends}
@@ -112,6 +113,7 @@ module _ (past : List ℕ) (st : State) (img : List ℕ) (b : Reference) (D : Du
       }
 
   checkpointed-writing : Writing st img b Never → Writing (completed st Checkpoint) after (withWork idle b) Never
+  unfolding commitValueOf commitRecordOf
   checkpointed-writing W =
       record {
         four = W .four;

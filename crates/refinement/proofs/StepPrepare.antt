@@ -16,7 +16,7 @@ use Rattle.state.specs.declared.Op.the-variants.{Prepare, Confirm}
 use Rattle.operations.specs.Operations.{needs}
 use Rattle.operations.proofs.Taken.{CommitTaken, commit-taken, confirm-taken}
 use Rattle.refinement.specs.Commit.{commitHead}
-use Rattle.refinement.specs.Stores.{stepped, storeAt, storeValue, storeMade}
+use Rattle.refinement.specs.Stores.{stepped, completed, storeAt, storeValue, storeMade}
 use Rattle.refinement.specs.Calls.{worldOf}
 use Rattle.refinement.specs.Reference.{Reference, idle, under, nothing, committing, withWork, advances}
 use Rattle.refinement.proofs.AskPrepare.{now-prepared}
@@ -55,7 +55,7 @@ module _ (past : List ℕ) (st : State) (img : List ℕ) (b : Reference) (B : Bu
       (ap (λ (n : ℕ). under nothing (n - (m + 1))) (sym (needs-made st (m + 1) (Prepare w))))
 
   -- with the last store all records are there
-  complete : m + 1 ≡ needs st (Prepare w) → Quiet past _ after (withWork idle b)
+  complete : m + 1 ≡ needs st (Prepare w) → Quiet past (completed st (Prepare w)) after (withWork idle b)
   complete q =
       let M = prepare-mid past st img b B w e m prepare-left in
       let D = mid-durable past st img b (B .durable) (Prepare w) m M in

@@ -14,7 +14,7 @@ use Rattle.layout.specs.declared.Sizes.{Sizes}
 use Rattle.layout.specs.Layout.{Legal}
 use Rattle.journal.specs.declared.Slot.{Slot}
 use Rattle.replay.specs.declared.Table.{Table}
-use Rattle.replay.specs.Table.{pagesApart}
+use Rattle.replay.specs.Table.{pagesApart, slotIn}
 use Rattle.replay.proofs.Tables.{Sixteen, slot-other}
 use Rattle.masks.specs.Lines.{inMask, withLine}
 use Rattle.masks.proofs.Members.{in-none, in-with-same, in-with-other, with-lt}

@@ -20,7 +20,7 @@ use Rattle.replay.specs.Table.{slotIn, withSlot}
 use Rattle.journal.proofs.SlotWords.{Owning, Free, shape, owning-shaped}
 use Rattle.replay.proofs.Tables.{Sixteen, slot-same, slot-other}
 use Rattle.mount.proofs.View.{slot-none}
-use Rattle.masks.specs.Lines.{inMask}
+use Rattle.masks.specs.Lines.{inMask, withLine}
 use Rattle.masks.proofs.Members.{in-none}
 use Rattle.state.specs.declared.State.{State}
 use Rattle.state.specs.declared.Op.the-variants.{Write}

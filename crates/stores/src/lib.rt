@@ -32,10 +32,11 @@ pub fn complete(
     last: &mut [usize; 16],
     opened: &mut [bool; 4],
     held: &mut [u64; 64],
+    prepared: usize,
     pending: Pending,
 ) -> Places
-    requires { ⌜ Ranged (stateOf z head tail next (now page) (now original) (now spare) (now bitmap) (now last) (now opened) (now held) pending) × (refusal (opRows (stateOf z head tail next (now page) (now original) (now spare) (now bitmap) (now last) (now opened) (now held) pending) (pending .op) (pending .frame)) ≡ 0) × (isIdle (pending .op) ≡ false) ⌝ }
-    ensures { λ r. ⌜ stateOf z (r .head) (r .tail) (r .next) (now (page .exit)) (now (original .exit)) (now (spare .exit)) (now (bitmap .exit)) (now (last .exit)) (now (opened .exit)) (now (held .exit)) noPending ≡ completedOf (stateOf z head tail next (now (page .entry)) (now (original .entry)) (now (spare .entry)) (now (bitmap .entry)) (now (last .entry)) (now (opened .entry)) (now (held .entry)) pending) (pending .op) ⌝ }
+    requires { ⌜ Ranged (stateOf z head tail next (now page) (now original) (now spare) (now bitmap) (now last) (now opened) (now held) prepared pending) × (refusal (opRows (stateOf z head tail next (now page) (now original) (now spare) (now bitmap) (now last) (now opened) (now held) prepared pending) (pending .op) (pending .frame)) ≡ 0) × (isIdle (pending .op) ≡ false) ⌝ }
+    ensures { λ r. ⌜ stateOf z (r .head) (r .tail) (r .next) (now (page .exit)) (now (original .exit)) (now (spare .exit)) (now (bitmap .exit)) (now (last .exit)) (now (opened .exit)) (now (held .exit)) noPending ≡ completedOf (stateOf z head tail next (now (page .entry)) (now (original .entry)) (now (spare .entry)) (now (bitmap .entry)) (now (last .entry)) (now (opened .entry)) (now (held .entry)) prepared pending) (pending .op) ⌝ }
 {
     let op = pending.op;
     match op {
@@ -103,6 +104,7 @@ pub fn complete(
                 last,
                 opened,
                 held,
+                prepared,
                 pending,
                 kind,
                 meter,

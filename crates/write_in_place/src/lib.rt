@@ -74,6 +74,7 @@ pub fn write(
         last,
         opened,
         held,
+        prepared,
         pending,
         8,
     );
