@@ -7,6 +7,7 @@ ghost use Rattle.layout.specs.Layout.{Legal, imageLength};
 ghost use Rattle.replay.specs.Table.{slotsOfArrays, slotsShaped};
 ghost use Rattle.meters.specs.Meters.{eventKnown, eventNeeds};
 ghost use Rattle.state.specs.Parts.{stateOf};
+ghost use Rattle.state.specs.Held.{noWriter};
 ghost use Rattle.refinement.specs.Settled.{noPending};
 ghost use Rattle.refinement.specs.Event.{lineStores as lineStoresOf, eventDone};
 ghost use Rattle.event_stores.specs.Taken.{Taken};
@@ -130,7 +131,7 @@ fn hold_lines<'a>(
     meter: usize,
 ) -> usize
     requires { ⌜ Legal z × (next < z .slots) × (eventKnown kind meter ≡ true) ⌝ }
-    ensures { λ r. ⌜ stateOf z head tail r (now (page .exit)) (now (original .exit)) (now (spare .entry)) (now (bitmap .exit)) (now (last .entry)) (now (opened .entry)) (now (held .exit)) noPending ≡ linesAfter (stateOf z head tail next (now (page .entry)) (now (original .entry)) (now (spare .entry)) (now (bitmap .entry)) (now (last .entry)) (now (opened .entry)) (now (held .entry)) noPending) kind meter pending ⌝ }
+    ensures { λ r. ⌜ stateOf z head tail r (now (page .exit)) (now (original .exit)) (now (spare .entry)) (now (bitmap .exit)) (now (last .entry)) (now (opened .entry)) (now (held .exit)) prepared noPending ≡ linesAfter (stateOf z head tail next (now (page .entry)) (now (original .entry)) (now (spare .entry)) (now (bitmap .entry)) (now (last .entry)) (now (opened .entry)) (now (held .entry)) prepared noPending) kind meter pending ⌝ }
 {
     let l = meters::first_meter(kind, meter);
     let o = meters::own_meter(kind, meter);
@@ -161,7 +162,7 @@ pub fn complete_event(
     meter: usize,
 ) -> Moved
     requires { ⌜ Legal z × (head < 2 * z .places) × (next < z .slots) × (eventKnown kind meter ≡ true) ⌝ }
-    ensures { λ r. ⌜ stateOf z (r .head) tail (r .next) (now (page .exit)) (now (original .exit)) (now (spare .exit)) (now (bitmap .exit)) (now (last .exit)) (now (opened .exit)) (now (held .exit)) noPending ≡ eventDone (stateOf z head tail next (now (page .entry)) (now (original .entry)) (now (spare .entry)) (now (bitmap .entry)) (now (last .entry)) (now (opened .entry)) (now (held .entry)) prepared pending) kind meter ⌝ }
+    ensures { λ r. ⌜ stateOf z (r .head) tail (r .next) (now (page .exit)) (now (original .exit)) (now (spare .exit)) (now (bitmap .exit)) (now (last .exit)) (now (opened .exit)) (now (held .exit)) noWriter noPending ≡ eventDone (stateOf z head tail next (now (page .entry)) (now (original .entry)) (now (spare .entry)) (now (bitmap .entry)) (now (last .entry)) (now (opened .entry)) (now (held .entry)) prepared pending) kind meter ⌝ }
 {
     state::held::set_open(opened, 1, true);
     let after = hold_lines(
@@ -230,6 +231,7 @@ fn make_event_commit<'a>(
         last,
         &opening,
         &mut holding,
+        prepared,
         pending,
         kind,
         meter,

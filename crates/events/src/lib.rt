@@ -93,6 +93,7 @@ fn event_found<'a>(
         spare,
         opened,
         held,
+        prepared,
         kind,
         meter,
         s,

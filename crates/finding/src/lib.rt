@@ -24,6 +24,7 @@ fn frames_found<'a>(
     bitmap: &'a [u64; 16],
     opened: &'a [bool; 4],
     held: &'a [u64; 64],
+    prepared: usize,
     image: &[u8],
     writer: usize,
     p: usize,
@@ -32,7 +33,7 @@ fn frames_found<'a>(
     length: usize,
 ) -> Found
     requires { ⌜ Legal z × (next < z .slots) × (p < z .pages) × (imageLength z ≤ listLength (now image)) ⌝ }
-    ensures { λ r. ⌜ FramesFound z next (now (page .entry)) (now (original .entry)) (now (spare .entry)) (now (bitmap .entry)) (now (opened .entry)) (now (held .entry)) (now (image .entry)) writer p line offset length r ⌝ }
+    ensures { λ r. ⌜ FramesFound z next (now (page .entry)) (now (original .entry)) (now (spare .entry)) (now (bitmap .entry)) (now (opened .entry)) (now (held .entry)) prepared (now (image .entry)) writer p line offset length r ⌝ }
 {
     let s = state::slots::slot_of(z, page, p);
     let frame = frames::page_frame(z, original, image, p, s);
@@ -44,6 +45,7 @@ fn frames_found<'a>(
         spare,
         opened,
         held,
+        prepared,
         writer,
         p,
         s,
@@ -128,6 +130,7 @@ pub fn write_found<'a>(
         bitmap,
         opened,
         held,
+        prepared,
         image,
         writer,
         p,

@@ -35,6 +35,9 @@ pub fn free_slot(st: State, image: &[u8]) -> Done
     if row != 0 {
         return answers::refused(row, next);
     }
+    if next.writers.prepared < 4 {
+        return answers::refused(23, next);
+    }
     let s = choosing::slot_to_free(z, &next.table.page, &next.table.bitmap, &next.writers.held);
     if z.slots <= s {
         return answers::no_slot_to_free(next);

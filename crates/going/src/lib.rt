@@ -10,7 +10,7 @@ use state::Pending;
 use stores::Places;
 use stores::making::Made;
 
-// What a run came to, where head, tail and the next slot then are, and what is then pending.
+// What a run came to, where head, tail and the next slot then are, who is prepared, and what is then pending.
 pub struct Gone {
     pub made: Made,
     pub to: Places,
@@ -36,8 +36,8 @@ pub fn go_on(
     k: usize,
 ) -> Gone
     requires { ⌜ Lengths (now page) (now original) (now spare) (now bitmap) (now last) (now opened) (now held) ⌝ }
-    ensures row { λ r. ⌜ r .made .row ≤ 22 ⌝ }
-    ensures outcome { λ r. ⌜ answered (r .made .row) (stateOf z (r .to .head) (r .to .tail) (r .to .next) (now (page .exit)) (now (original .exit)) (now (spare .exit)) (now (bitmap .exit)) (now (last .exit)) (now (opened .exit)) (now (held .exit)) (r .pending)) (r .made .stores) (stateOf z (r .to .head) (r .to .tail) (r .to .next) (now (page .exit)) (now (original .exit)) (now (spare .exit)) (now (bitmap .exit)) (now (last .exit)) (now (opened .exit)) (now (held .exit)) (r .pending)) ≡ runOf (stateOf z head tail next (now (page .entry)) (now (original .entry)) (now (spare .entry)) (now (bitmap .entry)) (now (last .entry)) (now (opened .entry)) (now (held .entry)) prepared pending) (now (image .entry)) k ⌝ }
+    ensures row { λ r. ⌜ r .made .row ≤ 24 ⌝ }
+    ensures outcome { λ r. ⌜ answered (r .made .row) (stateOf z (r .to .head) (r .to .tail) (r .to .next) (now (page .exit)) (now (original .exit)) (now (spare .exit)) (now (bitmap .exit)) (now (last .exit)) (now (opened .exit)) (now (held .exit)) (r .to .prepared) (r .pending)) (r .made .stores) (stateOf z (r .to .head) (r .to .tail) (r .to .next) (now (page .exit)) (now (original .exit)) (now (spare .exit)) (now (bitmap .exit)) (now (last .exit)) (now (opened .exit)) (now (held .exit)) (r .to .prepared) (r .pending)) ≡ runOf (stateOf z head tail next (now (page .entry)) (now (original .entry)) (now (spare .entry)) (now (bitmap .entry)) (now (last .entry)) (now (opened .entry)) (now (held .entry)) prepared pending) (now (image .entry)) k ⌝ }
     ensures bytes { λ _. ⌜ now (image .exit) ≡ runBytes (stateOf z head tail next (now (page .entry)) (now (original .entry)) (now (spare .entry)) (now (bitmap .entry)) (now (last .entry)) (now (opened .entry)) (now (held .entry)) prepared pending) (now (image .entry)) k ⌝ }
 {
     let made = stores::making::make_left(
@@ -60,7 +60,12 @@ pub fn go_on(
     if !made.whole {
         let mut pending = pending;
         pending.made = made.total;
-        let to = Places { head, tail, next };
+        let to = Places {
+            head,
+            tail,
+            next,
+            prepared,
+        };
         return Gone { made, to, pending };
     }
     let to = stores::complete(

@@ -42,6 +42,7 @@ fn ask(
         last,
         opened,
         held,
+        at.prepared,
         idle,
         op,
         n,
@@ -65,7 +66,7 @@ fn ask(
             last,
             opened,
             held,
-            prepared,
+            at.prepared,
             pending,
         );
         return Went {
@@ -84,7 +85,6 @@ fn ask(
         last,
         opened,
         held,
-        prepared,
         pending,
         needed,
     );

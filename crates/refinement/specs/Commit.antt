@@ -82,6 +82,10 @@ commitDone st w =
 
 -- ---- in two parts (document 02, L8)
 
+-- n stores of a confirm, which has one: that of head
+abbrev pub confirmStores : Sizes → ℕ → List ℕ → ℕ → ℕ → List ℕ → List ℕ
+confirmStores z head held w n img = upTo n (λ i m. store m headWord (position z head (length (heldSlots z held w)))) img
+
 -- prepare stores the records alone; then the writer is prepared, and nothing else has changed
 abbrev pub prepareDone : State → ℕ → State
 prepareDone st w = settled st (st .head) (st .tail) (st .next) (st .table) (withPrepared (st .writers) w)

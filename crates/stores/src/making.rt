@@ -109,6 +109,20 @@ pub fn make_stores<'a>(
             meter,
             n,
         ),
+        Op::Prepare { writer } => commits::make_commit_stores(
+            image,
+            z,
+            head,
+            page,
+            original,
+            spare,
+            bitmap,
+            held,
+            writer,
+            made,
+            n,
+        ),
+        Op::Confirm { writer } => commits::make_confirm_stores(image, z, head, held, writer, n),
     }
 }
 

@@ -41,6 +41,7 @@ pub fn write(
         last,
         opened,
         held,
+        at.prepared,
         idle,
         image,
         writer,
@@ -74,7 +75,6 @@ pub fn write(
         last,
         opened,
         held,
-        prepared,
         pending,
         8,
     );

@@ -10,7 +10,7 @@ use layout::Sizes;
 use state::Pending;
 use state::State;
 
-// The first row that turns back begin, which wants the writer closed, or abort, which wants it open.
+// The first row that turns back begin, which wants the writer closed, or abort, which wants it open and not prepared.
 pub fn writer_row<'a>(
     z: Sizes,
     head: usize,
@@ -60,6 +60,9 @@ pub fn writer_row<'a>(
     }
     if wanted & !open {
         return 13;
+    }
+    if wanted & (prepared == writer) {
+        return 23;
     }
     0
 }

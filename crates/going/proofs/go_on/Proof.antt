@@ -10,7 +10,7 @@ use Rattle.going.proofs.go_on.Tie as tie
 abbrev st : tie.Start → State
 st c =
     let a = c .args in
-    stateOf (a .z) (a .head) (a .tail) (a .next) (a .page .now) (a .original .now) (a .spare .now) (a .bitmap .now) (a .last .now) (a .opened .now) (a .held .now) (a .pending)
+    stateOf (a .z) (a .head) (a .tail) (a .next) (a .page .now) (a .original .now) (a .spare .now) (a .bitmap .now) (a .last .now) (a .opened .now) (a .held .now) (a .prepared) (a .pending)
 
 make-left-requires : tie.Need-make-left-requires
 make-left-requires c κs = c .before .before .before .before .before .before .before .before .before .pre

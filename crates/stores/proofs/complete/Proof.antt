@@ -19,7 +19,7 @@ use Rattle.stores.proofs.complete.Tie as tie
 abbrev st : tie.Start → State
 st c =
     let a = c .args in
-    stateOf (a .z) (a .head) (a .tail) (a .next) (a .page .now) (a .original .now) (a .spare .now) (a .bitmap .now) (a .last .now) (a .opened .now) (a .held .now) (a .pending)
+    stateOf (a .z) (a .head) (a .tail) (a .next) (a .page .now) (a .original .now) (a .spare .now) (a .bitmap .now) (a .last .now) (a .opened .now) (a .held .now) (a .prepared) (a .pending)
 
 complete-write-requires : tie.Need-complete-write-requires
 complete-write-requires c κs = let s = c .before .before .before .before .before .before .before in
@@ -57,7 +57,7 @@ returns-4 c = let s = c .before .before .before .before .before .before .before 
 returns-5 : tie.Need-returns-5
 returns-5 c = let s = c .before .before .before .before in
     let a = s .args in
-    ap (λ (l : List ℕ). stateOf (a .z) (a .head) (a .head) (a .next) (a .page .now) (a .original .now) (a .spare .now) (a .bitmap .now) l (a .opened .now) (a .held .now) noPending) (c .complete-checkpoint .ensures)
+    ap (λ (l : List ℕ). stateOf (a .z) (a .head) (a .head) (a .next) (a .page .now) (a .original .now) (a .spare .now) (a .bitmap .now) l (a .opened .now) (a .held .now) (a .prepared) noPending) (c .complete-checkpoint .ensures)
     ∙ sym (ap (completed (st s)) (c .before .before .enum-told2 .given .1))
 
 complete-event-requires : tie.Need-complete-event-requires

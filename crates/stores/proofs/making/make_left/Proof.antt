@@ -16,7 +16,7 @@ use Rattle.stores.proofs.making.make_left.Tie as tie
 abbrev st : tie.Start → State
 st c =
     let a = c .args in
-    stateOf (a .z) (a .head) (a .tail) (a .next) (a .page .now) (a .original .now) (a .spare .now) (a .bitmap .now) (a .last .now) (a .opened .now) (a .held .now) (a .pending)
+    stateOf (a .z) (a .head) (a .tail) (a .next) (a .page .now) (a .original .now) (a .spare .now) (a .bitmap .now) (a .last .now) (a .opened .now) (a .held .now) (a .prepared) (a .pending)
 
 -- no row applies: something is pending
 busy1 : (c : tie.Else1) → Busy (st (c .before .before .before)) (length (c .before .before .before .args .image .now))

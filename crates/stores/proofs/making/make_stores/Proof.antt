@@ -15,7 +15,7 @@ use Rattle.stores.proofs.making.make_stores.Tie as tie
 abbrev st : tie.Start → State
 st c =
     let a = c .args in
-    stateOf (a .z) (a .head) (a .tail) (a .next) (a .page .now) (a .original .now) (a .spare .now) (a .bitmap .now) (a .last .now) (a .opened .now) (a .held .now) (a .t13)
+    stateOf (a .z) (a .head) (a .tail) (a .next) (a .page .now) (a .original .now) (a .spare .now) (a .bitmap .now) (a .last .now) (a .opened .now) (a .held .now) (a .prepared) (a .t14)
 
 make-write-stores-requires : tie.Need-make-write-stores-requires
 make-write-stores-requires c κs = let s = c .before .before .before .before .before .before .before in
