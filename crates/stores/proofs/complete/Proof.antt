@@ -8,7 +8,7 @@ use Rattle.state.specs.Parts.{stateOf}
 use Rattle.operations.specs.Operations.{isIdle}
 use Rattle.refinement.specs.Settled.{noPending}
 use Rattle.refinement.specs.Stores.{completed}
-use Rattle.refinement.proofs.Going.{write-of, commit-of, consolidate-of, event-of}
+use Rattle.refinement.proofs.Going.{write-of, commit-of, confirm-of, consolidate-of, event-of}
 use Rattle.writes.proofs.WriteMade.{write-done}
 use Rattle.commits.proofs.CommitMade.{commit-done}
 use Rattle.consolidations.proofs.ConsolidateMade.{consolidate-done}
@@ -68,6 +68,19 @@ returns-6 : tie.Need-returns-6
 returns-6 c = let s = c .before .before .before .before .before .before .before .before .before .before .before in
     c .complete-event .ensures ∙ sym (ap (completed (st s)) (c .before .before .before .before .before .before .before .before .before .op4 .given .1))
 
+returns-7 : tie.Need-returns-7
+returns-7 c = let s = c .before .before .before in sym (ap (completed (st s)) (c .before .op5 .given .1))
+
+complete-commit-requires-2 : tie.Need-complete-commit-requires-2
+complete-commit-requires-2 c κs = let s = c .before .before .before .before .before .before .before in
+    (s .pre .0 .legal, s .pre .0 .head-low, confirm-of (st s) (s .pre .1) (c .before .before .before .before .before .op6 .given .1) .writer-low)
+
+returns-8 : tie.Need-returns-8
+returns-8 c = let s = c .before .before .before .before .before .before .before .before in
+    let e = c .complete-commit2 .ensures in
+    commit-done (st s) _ _ _ _ _ _ _ _ refl (e .0) (e .1 .0) (e .1 .1 .0) (e .1 .1 .1 .1) (e .1 .1 .1 .0) refl
+    ∙ sym (ap (completed (st s)) (c .before .before .before .before .before .before .op6 .given .1))
+
 pub complete-spec : {M : Type 1} → statement M
 complete-spec =
     tie.close
@@ -83,9 +96,14 @@ complete-spec =
     (λ c κs. search needs)
     (λ c. search needs)
     complete-event-requires
+    (λ c. search needs)
+    (λ c. search needs)
+    complete-commit-requires-2
     returns
     returns-2
     returns-3
     returns-4
     returns-5
-    returns-6)
+    returns-6
+    returns-7
+    returns-8)
