@@ -137,7 +137,14 @@ pub fn make_commit_stores<'a>(
 }
 
 // Makes n stores of a confirm: none, or that of head.
-pub fn make_confirm_stores(image: &mut [u8], z: Sizes, head: usize, held: &[u64; 64], w: usize, n: usize)
+pub fn make_confirm_stores(
+    image: &mut [u8],
+    z: Sizes,
+    head: usize,
+    held: &[u64; 64],
+    w: usize,
+    n: usize,
+)
     requires { ⌜ Legal z × (head < 2 * z .places) × (w < 4) × (n ≤ 1) × (imageLength z ≤ length (now image)) ⌝ }
     ensures { λ _. ⌜ now (image .exit) ≡ confirmStores z head (now (held .entry)) w n (now (image .entry)) ⌝ }
 {

@@ -67,11 +67,11 @@ pub fn complete(
                 line,
             );
             Places {
-            head,
-            tail,
-            next,
-            prepared,
-        }
+                head,
+                tail,
+                next,
+                prepared,
+            }
         }
         Op::Commit { writer } => {
             let head = commits::complete_commit(z, head, bitmap, last, opened, held, writer);
@@ -94,11 +94,11 @@ pub fn complete(
                 p,
             );
             Places {
-            head,
-            tail,
-            next,
-            prepared,
-        }
+                head,
+                tail,
+                next,
+                prepared,
+            }
         }
         Op::Checkpoint => {
             checkpoints::complete_checkpoint(last, z);

@@ -30,7 +30,7 @@ complete-requires c κs = let s = c .before .before .before .before .before .bef
 returns-2 : tie.Need-returns-2
 returns-2 c = let s = c .before .before .before .before .before .before .before .before .before .before .before .before .before .before .before .before .before .before .before .before .before .before .before in
     let e = c .before .before .before .before .before .before .before .before .before .before .before .before .before .make-left .ensures in
-    (row-low (st s) (s .args .image .now) (s .args .k) _ (e .0), (went-whole (st s) (s .args .image .now) (s .args .k) _ (e .0) (not-false _ (c .before .before .before .before .before .before .before .before .before .if1 .left)) _ (put-together _ _ _ _ _ _ _ _ _ _ _ _ _ (c .no-pending .ensures) (c .before .complete .ensures)), e .1))
+    (row-low (st s) (s .args .image .now) (s .args .k) _ (e .0), (went-whole (st s) (s .args .image .now) (s .args .k) _ (e .0) (not-false _ (c .before .before .before .before .before .before .before .before .before .if1 .left)) _ (put-together _ _ _ _ _ _ _ _ _ _ _ _ _ _ (c .no-pending .ensures) (c .before .complete .ensures)), e .1))
 
 pub go-on-spec : {M : Type 1} → statement M
 go-on-spec =
