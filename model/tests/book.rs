@@ -88,6 +88,7 @@ struct Both {
     rng: Rng,
     taken: u64,
     freed: u64,
+    confirmed: u64,
     /// Only events write to page 0.
     metered: bool,
 }
@@ -100,7 +101,7 @@ impl Both {
         let mut rng = Rng::new(seed, 0);
         let (p, s) = (rng.between(1, 3), rng.between(1, 3));
         let j = rng.between(s, 4);
-        Both { store: Store::fresh(p, s, j), book: Book::default(), rng, taken: 0, freed: 0, metered }
+        Both { store: Store::fresh(p, s, j), book: Book::default(), rng, taken: 0, freed: 0, confirmed: 0, metered }
     }
 
     fn note(&mut self, call: Underway, answer: Result<u64, u8>) {
@@ -109,7 +110,7 @@ impl Both {
                 self.taken += 1;
                 self.book.taken(call, needs);
             }
-            Err(number) => assert!((9..=22).contains(&number) && number != 16, "{number} on such a list"),
+            Err(number) => assert!((9..=24).contains(&number) && number != 16, "{number} on such a list"),
         }
     }
 
@@ -139,7 +140,7 @@ impl Both {
 
     fn turn(&mut self) {
         let writer = self.rng.pick(&[0, 0, 0, 1, 1, 2, 3]);
-        match self.rng.below(20) {
+        match self.rng.below(23) {
             0..=2 => self.store.begin(writer).map_or((), |_| ()),
             3 => {
                 if self.store.abort(writer).is_ok() {
@@ -150,6 +151,20 @@ impl Both {
             4..=8 => self.write(),
             9..=11 => {
                 let answer = self.store.ask_commit(writer);
+                self.note(Underway::Commit { writer: writer as usize }, answer);
+            }
+            20 => {
+                let answer = self.store.ask_prepare(writer);
+                self.note(Underway::Other, answer);
+            }
+            21 | 22 if self.rng.percent(25) => {
+                let answer = self.store.withdraw(writer);
+                self.note(Underway::Other, answer);
+            }
+            21 | 22 => {
+                let writer = self.store.state.prepared.unwrap_or(writer);
+                let answer = self.store.ask_confirm(writer);
+                self.confirmed += u64::from(answer.is_ok());
                 self.note(Underway::Commit { writer: writer as usize }, answer);
             }
             12 => {
@@ -219,7 +234,7 @@ impl Both {
 
 #[test]
 fn the_model_keeps_the_book() {
-    let (mut taken, mut freed, mut events) = (0, 0, 0);
+    let (mut taken, mut freed, mut confirmed, mut events) = (0, 0, 0, 0);
     for seed in 0..120 {
         let mut both = Both::new(seed, false);
         for _ in 0..120 {
@@ -228,10 +243,12 @@ fn the_model_keeps_the_book() {
         }
         taken += both.taken;
         freed += both.freed;
+        confirmed += both.confirmed;
         events += both.book.events.len();
     }
     assert!(taken > 1_000, "only {taken} operations were taken");
     assert!(freed > 30, "only {freed} slots were freed");
+    assert!(confirmed > 50, "only {confirmed} transactions were confirmed");
     assert!(events > 30, "only {events} events were completed");
 }
 
@@ -240,7 +257,7 @@ fn the_model_keeps_the_book() {
 #[test]
 fn the_meters_add_up() {
     let mut events = 0;
-    for seed in 0..120 {
+    for seed in 0..160 {
         let mut both = Both::new(seed, true);
         for _ in 0..120 {
             both.turn();
