@@ -152,8 +152,8 @@ pub fn make_confirm_stores(
         return;
     }
     let c = state::held::held_count(z, held, w);
-    let h = journal::records::position(z, head, c);
-    image_words::store_word(image, 4, h as u64);
+    let end = journal::records::position(z, head, c);
+    image_words::store_word(image, 4, end as u64);
 }
 
 // The bitmaps after a commit of n slots.
