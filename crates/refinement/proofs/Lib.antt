@@ -94,5 +94,6 @@ pub mod Totals
 pub mod MetersAddUp
 pub mod CommitWhole
 pub mod CheckpointRoom
+pub mod Refused
 pub mod Demand
 pub mod FreedSlot
