@@ -7,7 +7,7 @@ use crate::meters::Asked;
 use crate::plan::{complete, plan};
 use crate::refusal::{row, Answer, Refusal::*};
 use crate::rows::{
-    abort_rows, begin_rows, commit_rows, consolidate_rows, event_rows, frame_row, free_rows, place_rows,
+    abort_rows, begin_rows, commit_rows, confirm_rows, consolidate_rows, event_rows, frame_row, free_rows, place_rows,
     room_row, write_rows,
 };
 use crate::state::{Event, Operation, Pending, State, Write};
@@ -65,6 +65,28 @@ pub fn commit(state: &mut State, image: &[u8], writer: u64) -> Answer<u64> {
     Ok(ask(state, Operation::Commit { writer }))
 }
 
+/// Stores a writer's records, and no head.
+pub fn prepare(state: &mut State, image: &[u8], writer: u64) -> Answer<u64> {
+    idle_rows(state, image)?;
+    commit_rows(state, writer)?;
+    Ok(ask(state, Operation::Prepare { writer }))
+}
+
+/// Stores head behind the prepared records.
+pub fn confirm(state: &mut State, image: &[u8], writer: u64) -> Answer<u64> {
+    idle_rows(state, image)?;
+    confirm_rows(state, writer)?;
+    Ok(ask(state, Operation::Confirm { writer }))
+}
+
+/// The transaction goes on.
+pub fn withdraw(state: &mut State, image: &[u8], writer: u64) -> Answer<u64> {
+    idle_rows(state, image)?;
+    confirm_rows(state, writer)?;
+    state.prepared = None;
+    Ok(0)
+}
+
 pub fn consolidate(state: &mut State, image: &[u8], page: u64) -> Answer<u64> {
     idle_rows(state, image)?;
     consolidate_rows(state, page)?;
@@ -83,7 +105,7 @@ pub fn checkpoint(state: &mut State, image: &[u8]) -> Answer<u64> {
     Ok(ask(state, Operation::Checkpoint))
 }
 
-/// An event of document 02: its meters' lines and the record that commits them. Rows 20, 12, 14, 15, 16, 21, 19.
+/// An event of document 02: its meters' lines and the record that commits them. Rows 20, 12, 23, 14, 15, 16, 21, 19.
 pub fn event(state: &mut State, image: &[u8], asked: Asked) -> Answer<u64> {
     idle_rows(state, image)?;
     event_rows(state, asked)?;

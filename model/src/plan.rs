@@ -38,6 +38,8 @@ pub fn plan(state: &State, operation: &Operation) -> Vec<Store> {
         Operation::Consolidate { page } => consolidate_plan(state, *page),
         Operation::Checkpoint => checkpoint_plan(state),
         Operation::Event(event) => event_plan(state, event),
+        Operation::Prepare { writer } => commit_records(state, *writer),
+        Operation::Confirm { writer } => head_store(state, *writer),
     }
 }
 
@@ -49,6 +51,11 @@ pub fn complete(state: &mut State, operation: &Operation) {
         Operation::Consolidate { page } => complete_consolidate(state, *page),
         Operation::Checkpoint => complete_checkpoint(state),
         Operation::Event(event) => complete_event(state, event),
+        Operation::Prepare { writer } => state.prepared = Some(*writer),
+        Operation::Confirm { writer } => {
+            complete_commit(state, *writer);
+            state.prepared = None;
+        }
     }
 }
 
@@ -94,19 +101,28 @@ fn record_stores(sizes: Sizes, position: u64, record: Record) -> Vec<Store> {
 }
 
 fn commit_plan(state: &State, writer: u64) -> Vec<Store> {
-    let slots = state.slots_held(writer);
-    if slots.is_empty() {
-        return vec![];
-    }
+    let mut stores = commit_records(state, writer);
+    stores.extend(head_store(state, writer));
+    stores
+}
+
+/// A record for each slot with lines held.
+fn commit_records(state: &State, writer: u64) -> Vec<Store> {
     let mut stores = vec![];
-    for (i, &slot) in slots.iter().enumerate() {
+    for (i, slot) in state.slots_held(writer).into_iter().enumerate() {
         let position = position_after(state.sizes, state.head, i as u64);
         let new = committed_slot(state, writer, slot);
         let record = Record { first: state.head, slot_number: slot as u64, slot: new };
         stores.extend(record_stores(state.sizes, position, record));
     }
-    stores.push(put(HEAD_AT, position_after(state.sizes, state.head, slots.len() as u64)));
     stores
+}
+
+/// Head behind those records, if there are any.
+fn head_store(state: &State, writer: u64) -> Vec<Store> {
+    let new = state.slots_held(writer).len() as u64;
+    let head = put(HEAD_AT, position_after(state.sizes, state.head, new));
+    (new > 0).then_some(head).into_iter().collect()
 }
 
 fn complete_commit(state: &mut State, writer: u64) {

@@ -27,6 +27,9 @@ pub enum Refusal {
     AmountOutOfRange = 21,
     /// Document 02, "Make a slot free".
     NoSlotToFree = 22,
+    /// Document 02, "Prepare, then confirm".
+    TransactionPrepared = 23,
+    WriterNotPrepared = 24,
 }
 
 impl Refusal {

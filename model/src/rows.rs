@@ -23,7 +23,17 @@ pub fn begin_rows(state: &State, writer: u64) -> Answer<()> {
 
 pub fn abort_rows(state: &State, writer: u64) -> Answer<()> {
     writer_row(writer)?;
-    row(WriterClosed, !state.is_open(writer))
+    row(WriterClosed, !state.is_open(writer))?;
+    own_row(state, writer)
+}
+
+/// Row 23 for what the prepared writer itself may not do, and for what nobody may do while one is prepared.
+fn own_row(state: &State, writer: u64) -> Answer<()> {
+    row(TransactionPrepared, state.prepared == Some(writer))
+}
+
+fn alone_row(state: &State) -> Answer<()> {
+    row(TransactionPrepared, state.prepared.is_some())
 }
 
 /// Row 11 on a line's place, for write and read.
@@ -43,6 +53,7 @@ pub fn write_rows(
     row(BadArgument, length == 0)?;
     row(BadArgument, u128::from(offset) + u128::from(length) > 64)?;
     row(WriterClosed, !state.is_open(writer))?;
+    own_row(state, writer)?;
     row(LineHeld, held_by_another(state, writer, page, line))?;
     row(NoFreeSlot, state.slot_of(page).is_none() && state.first_free().is_none())
 }
@@ -58,30 +69,41 @@ pub fn frame_row(state: &State, frame: u64) -> Answer<()> {
     row(BadPageWord, frame >= state.sizes.frames() || of_a_slot)
 }
 
+/// For commit and prepare.
 pub fn commit_rows(state: &State, writer: u64) -> Answer<()> {
     writer_row(writer)?;
     row(WriterClosed, !state.is_open(writer))?;
+    alone_row(state)?;
     room_row(state, state.slots_held(writer).len() as u64)
+}
+
+/// For confirm and withdraw.
+pub fn confirm_rows(state: &State, writer: u64) -> Answer<()> {
+    writer_row(writer)?;
+    row(WriterNotPrepared, state.prepared != Some(writer))
 }
 
 pub fn consolidate_rows(state: &State, page: u64) -> Answer<()> {
     page_row(state, page)?;
+    alone_row(state)?;
     let Some(slot) = state.slot_of(page) else { return Err(PageWithoutSlot) };
     row(PageHeld, state.writers.iter().any(|writer| writer.held[slot] != 0))?;
     room_row(state, 1)
 }
 
-/// Rows 20, 12, 14 and 15 of an event, which is writer 1's, on page 0.
+/// Rows 20, 12, 23, 14 and 15 of an event, which is writer 1's, on page 0.
 pub fn event_rows(state: &State, asked: Asked) -> Answer<()> {
     row(UnknownEvent, asked.meters().is_empty())?;
     row(WriterOpen, state.is_open(1))?;
+    alone_row(state)?;
     row(LineHeld, asked.meters().iter().any(|&line| held_by_another(state, 1, 0, line)))?;
     row(NoFreeSlot, state.slot_of(0).is_none() && state.first_free().is_none())
 }
 
-/// Rows 22 and 19, and the page to consolidate: of the slots with a page of which nobody holds a line, sorted by the lines that
+/// Rows 23, 22 and 19, and the page to consolidate: of the slots with a page of which nobody holds a line, sorted by the lines that
 /// leaving them would copy and then by their number, the first one's.
 pub fn free_rows(state: &State) -> Answer<u64> {
+    alone_row(state)?;
     let mut freeable: Vec<(u32, usize, u64)> = state
         .slots_used()
         .iter()

@@ -19,6 +19,8 @@ pub struct State {
     /// For each slot the position of its last live record.
     pub last: [Option<u64>; MOST_SLOTS],
     pub writers: [Writer; WRITERS],
+    /// The writer whose records are stored and wait for their confirm.
+    pub prepared: Option<u64>,
     pub pending: Option<Pending>,
 }
 
@@ -43,6 +45,8 @@ pub enum Operation {
     Consolidate { page: u64 },
     Checkpoint,
     Event(Event),
+    Prepare { writer: u64 },
+    Confirm { writer: u64 },
 }
 
 #[derive(Clone, Debug, PartialEq, Eq)]
@@ -69,7 +73,7 @@ pub struct Event {
 }
 
 impl State {
-    /// Nothing open, held, pending or live; every place past S at 0.
+    /// Nothing open, held, prepared, pending or live; every place past S at 0.
     pub fn empty(sizes: Sizes) -> State {
         State {
             sizes,
@@ -79,6 +83,7 @@ impl State {
             slots: [Slot::default(); MOST_SLOTS],
             last: [None; MOST_SLOTS],
             writers: [Writer::default(); WRITERS],
+            prepared: None,
             pending: None,
         }
     }

@@ -2,7 +2,7 @@
 
 use crate::journal::{bounds_hold, live_positions};
 use crate::plan::plan;
-use crate::rows::{commit_rows, consolidate_rows, event_rows, frame_row, room_row, write_rows};
+use crate::rows::{commit_rows, confirm_rows, consolidate_rows, event_rows, frame_row, room_row, write_rows};
 use crate::slots::{frames_named, page_twice};
 use crate::state::{Operation, Pending, State, WRITERS};
 
@@ -20,6 +20,8 @@ pub enum Breach {
     NextSlot,
     LastNotLive,
     LastTwice,
+    PreparedClosed,
+    PreparedTooLong,
     PendingRefused(u8),
     PendingFrame,
     PendingMade,
@@ -41,6 +43,7 @@ pub fn breach(state: &State) -> Option<Breach> {
     slots_breach(state)
         .or_else(|| held_breach(state))
         .or_else(|| last_breach(state))
+        .or_else(|| state.prepared.and_then(|writer| prepared_breach(state, writer)))
         .or_else(|| state.pending.as_ref().and_then(|pending| pending_breach(state, pending)))
 }
 
@@ -89,13 +92,23 @@ fn last_breach(state: &State) -> Option<Breach> {
     twice.then_some(Breach::LastTwice)
 }
 
+/// A prepared writer is open and its records fit.
+fn prepared_breach(state: &State, writer: u64) -> Option<Breach> {
+    if !state.is_open(writer) {
+        return Some(Breach::PreparedClosed);
+    }
+    let new = state.slots_held(writer).len() as u64;
+    room_row(state, new).is_err().then_some(Breach::PreparedTooLong)
+}
+
 /// A pending call that a row from 11 on would turn back, or that has no store left to make.
 fn pending_breach(state: &State, pending: &Pending) -> Option<Breach> {
     let rows = match &pending.operation {
         Operation::Write(write) => {
             write_rows(state, (write.writer, write.page, write.line), (write.offset, write.length))
         }
-        Operation::Commit { writer } => commit_rows(state, *writer),
+        Operation::Commit { writer } | Operation::Prepare { writer } => commit_rows(state, *writer),
+        Operation::Confirm { writer } => confirm_rows(state, *writer),
         Operation::Consolidate { page } => consolidate_rows(state, *page),
         Operation::Checkpoint => Ok(()),
         // row 21 is left out, as document 02 says

@@ -91,6 +91,7 @@ struct Both {
     /// Where the last write went, and how many were taken with no stores.
     written: Option<(u64, u64, u64)>,
     idle: u64,
+    confirmed: u64,
     /// Only events write to page 0.
     metered: bool,
 }
@@ -111,6 +112,7 @@ impl Both {
             freed: 0,
             written: None,
             idle: 0,
+            confirmed: 0,
             metered,
         }
     }
@@ -121,7 +123,7 @@ impl Both {
                 self.taken += 1;
                 self.book.taken(call, needs);
             }
-            Err(number) => assert!((9..=22).contains(&number) && number != 16, "{number} on such a list"),
+            Err(number) => assert!((9..=24).contains(&number) && number != 16, "{number} on such a list"),
         }
     }
 
@@ -161,7 +163,7 @@ impl Both {
 
     fn turn(&mut self) {
         let writer = self.rng.pick(&[0, 0, 0, 1, 1, 2, 3]);
-        match self.rng.below(20) {
+        match self.rng.below(23) {
             0..=2 => self.store.begin(writer).map_or((), |_| ()),
             3 => {
                 if self.store.abort(writer).is_ok() {
@@ -172,6 +174,20 @@ impl Both {
             4..=8 => self.write(),
             9..=11 => {
                 let answer = self.store.ask_commit(writer);
+                self.note(Underway::Commit { writer: writer as usize }, answer);
+            }
+            20 => {
+                let answer = self.store.ask_prepare(writer);
+                self.note(Underway::Other, answer);
+            }
+            21 | 22 if self.rng.percent(25) => {
+                let answer = self.store.withdraw(writer);
+                self.note(Underway::Other, answer);
+            }
+            21 | 22 => {
+                let writer = self.store.state.prepared.unwrap_or(writer);
+                let answer = self.store.ask_confirm(writer);
+                self.confirmed += u64::from(answer.is_ok());
                 self.note(Underway::Commit { writer: writer as usize }, answer);
             }
             12 => {
@@ -241,7 +257,7 @@ impl Both {
 
 #[test]
 fn the_model_keeps_the_book() {
-    let (mut taken, mut freed, mut events, mut idle) = (0, 0, 0, 0);
+    let (mut taken, mut freed, mut confirmed, mut events, mut idle) = (0, 0, 0, 0, 0);
     for seed in 0..120 {
         let mut both = Both::new(seed, false);
         for _ in 0..120 {
@@ -250,11 +266,13 @@ fn the_model_keeps_the_book() {
         }
         taken += both.taken;
         freed += both.freed;
+        confirmed += both.confirmed;
         events += both.book.events.len();
         idle += both.idle;
     }
     assert!(taken > 1_000, "only {taken} operations were taken");
     assert!(freed > 30, "only {freed} slots were freed");
+    assert!(confirmed > 50, "only {confirmed} transactions were confirmed");
     assert!(events > 30, "only {events} events were completed");
     assert!(idle > 30, "only {idle} writes changed nothing");
 }
@@ -264,7 +282,7 @@ fn the_model_keeps_the_book() {
 #[test]
 fn the_meters_add_up() {
     let mut events = 0;
-    for seed in 0..120 {
+    for seed in 0..160 {
         let mut both = Both::new(seed, true);
         for _ in 0..120 {
             both.turn();

@@ -62,6 +62,9 @@ enum Call {
     Abort(u64),
     Write((u64, u64, u64), u64, Vec<u8>),
     Commit(u64),
+    Prepare(u64),
+    Confirm(u64),
+    Withdraw(u64),
     Consolidate(u64),
     Checkpoint,
     FreeSlot,
@@ -76,7 +79,7 @@ fn any_call(rng: &mut Rng, pages: u64) -> Call {
     let pages = pages + rng.pick(&[0, 0, 0, 1]);
     let (writer, page) = (rng.pick(&[0, 0, 0, 1, 1, 2, 4]), rng.below(pages));
     let line = rng.pick(&[0, 1, 31, 63, 63, 64]);
-    match rng.below(24) {
+    match rng.below(27) {
         0..=3 => Call::Begin(writer),
         4 if rng.percent(50) => Call::Abort(writer),
         5..=9 => {
@@ -85,6 +88,9 @@ fn any_call(rng: &mut Rng, pages: u64) -> Call {
             Call::Write((writer, page, line), offset, data)
         }
         10..=12 => Call::Commit(writer),
+        24 => Call::Prepare(writer),
+        25 => Call::Confirm(writer),
+        26 if rng.percent(50) => Call::Withdraw(writer),
         13 => Call::Consolidate(page),
         14 => Call::Checkpoint,
         15 => Call::Read((writer, page, line)),
@@ -109,6 +115,9 @@ fn perform(store: &mut Store, call: &Call) -> (Result<u64, u8>, [u8; 64]) {
             numbered(calls::write(&mut store.state, &store.image, *place, patch))
         }
         Call::Commit(writer) => store.ask_commit(*writer),
+        Call::Prepare(writer) => store.ask_prepare(*writer),
+        Call::Confirm(writer) => store.ask_confirm(*writer),
+        Call::Withdraw(writer) => store.withdraw(*writer),
         Call::Consolidate(page) => store.ask_consolidate(*page),
         Call::Checkpoint => store.ask_checkpoint(),
         Call::FreeSlot => store.ask_free_slot(),

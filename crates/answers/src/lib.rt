@@ -30,6 +30,8 @@ pub enum Answer {
     UnknownEvent,
     AmountOutOfRange,
     NoSlotToFree,
+    TransactionPrepared,
+    WriterNotPrepared,
 }
 
 // A call's answer and the state after it.
@@ -65,7 +67,9 @@ pub fn answer_of(row: usize, stores: usize) -> Answer
         19 => Answer::JournalFull,
         20 => Answer::UnknownEvent,
         21 => Answer::AmountOutOfRange,
-        _ => Answer::NoSlotToFree,
+        22 => Answer::NoSlotToFree,
+        23 => Answer::TransactionPrepared,
+        _ => Answer::WriterNotPrepared,
     }
 }
 
@@ -97,12 +101,14 @@ pub fn number_of(a: Answer) -> usize
         Answer::UnknownEvent => 20,
         Answer::AmountOutOfRange => 21,
         Answer::NoSlotToFree => 22,
+        Answer::TransactionPrepared => 23,
+        Answer::WriterNotPrepared => 24,
     }
 }
 
 // A refusal by a row, with the state as it was.
 pub fn refused(row: usize, st: State) -> Done
-    requires { ⌜ row ≤ 22 ⌝ }
+    requires { ⌜ row ≤ 24 ⌝ }
     ensures { λ r. ⌜ outcomeOf r ≡ answered row st 0 st ⌝ }
 {
     let answer = answer_of(row, 0);

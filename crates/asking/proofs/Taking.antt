@@ -5,7 +5,7 @@ use mathlib.Core.List.{List, [], _++_}
 use mathlib.Core.Path.{_≡_, refl, sym, ap₂, _∙_}
 use native.Mathlib.Omega.{arith}
 use lib.Dec.{eqb, ltb}
-use lib.ListN.{set, replicate}
+use lib.ListN.{length, set, replicate}
 use borrow.Author.Tests.{ne-eqb, eqb-true, ltb-false, not-false}
 use Rattle.bounded.specs.Rows.{Row, refusal}
 use Rattle.bounded.specs.Tab.{filled}
@@ -13,15 +13,16 @@ use Rattle.bounded.proofs.Tests.{caseOn, row-keeps}
 use Rattle.bounded.proofs.Below.{up-none}
 use Rattle.journal.proofs.Ring.{pos-none}
 use Rattle.replay.specs.Table.{noPosition}
-use Rattle.state.specs.Held.{letGo}
+use Rattle.state.specs.Held.{noWriter, letGo}
 use Rattle.layout.specs.Layout.{imageLength}
 use Rattle.state.specs.declared.State.{State}
 use Rattle.state.specs.declared.Pending.{Pending}
 use Rattle.state.specs.declared.Op.{Op}
-use Rattle.state.specs.declared.Op.the-variants.{Idle, Write, Commit, Consolidate, Checkpoint, Event}
-use Rattle.operations.specs.Operations.{Ranged, isIdle, writeRows, commitRows, consolidateRows, opRows, commitNeeds, needs}
+use Rattle.state.specs.declared.Op.the-variants.{Idle, Write, Commit, Consolidate, Checkpoint, Event, Prepare, Confirm}
+use Rattle.operations.specs.Operations.{Ranged, isIdle, writeRows, commitRows, confirmRows, consolidateRows, opRows, needs}
 use Rattle.validity.specs.Validity.{stateOk}
-use Rattle.refinement.specs.Settled.{noPending}
+use Rattle.refinement.specs.Settled.{noPending, withPrepared}
+use Rattle.refinement.specs.Commit.{commitSlots, commitDone}
 use Rattle.commits.proofs.CommitMade.{commit-done}
 use Rattle.refinement.specs.Stores.{completed}
 use Rattle.refinement.specs.Outcome.{answered}
@@ -31,13 +32,15 @@ use Rattle.answers.proofs.Answered.{row-known, refused-by}
 use Rattle.refinement.specs.Calls.{quietRows, withPending, asked}
 use Rattle.refinement.proofs.EventRows.{event-some}
 
-op-known : (st : State) (op : Op) (f : ℕ) → refusal (opRows st op f) ≤ 22
+op-known : (st : State) (op : Op) (f : ℕ) → refusal (opRows st op f) ≤ 24
 op-known st Idle f = row-known [] tt
 op-known st (Write w p l o n) f = row-known (writeRows st w p l o n f) (omega arith)
 op-known st (Commit w) f = row-known (commitRows st w) (omega arith)
 op-known st (Consolidate p) f = row-known (consolidateRows st p) (omega arith)
 op-known st Checkpoint f = row-known [] tt
 op-known st (Event k m a) f = row-known (opRows st (Event k m a) f) (omega arith)
+op-known st (Prepare w) f = row-known (commitRows st w) (omega arith)
+op-known st (Confirm w) f = row-known (confirmRows st w) (omega arith)
 
 -- an operation with none of its stores made, and the state with it pending
 abbrev pub pendingFrom : Op → List ℕ → ℕ → Pending
@@ -47,10 +50,10 @@ abbrev pub pendingWith : State → Pending → State
 pendingWith st p =
     record { sizes = st .sizes; head = st .head; tail = st .tail; next = st .next; table = st .table; writers = st .writers; pending = p }
 
--- each number of the rows of a commit, a consolidation or a checkpoint is an answer's
-pub ask-known : (st : State) (n : ℕ) (op : Op) → refusal (quietRows st n ++ opRows st op 0) ≤ 22
+-- each number of the rows of an operation is an answer's
+pub ask-known : (st : State) (n : ℕ) (op : Op) → refusal (quietRows st n ++ opRows st op 0) ≤ 24
 ask-known st n op =
-    let low : ℕ → Type 0 = λ (x : ℕ). x ≤ 22 in
+    let low : ℕ → Type 0 = λ (x : ℕ). x ≤ 24 in
     row-keeps low (not (stateOk st)) 8 _ (omega arith)
     (row-keeps low (ltb n (imageLength (st .sizes))) 4 _ (omega arith)
     (row-keeps low (not (isIdle (st .pending .op))) 9 _ (omega arith) (op-known st op 0)))
@@ -95,17 +98,26 @@ module _ (st : State) (op : Op) (line : List ℕ) (frame : ℕ) (d : Done) (rs :
 -- ---- the state when an operation that needs no store is complete. h, o and i are the held lines, the open writers and the pending operation that the
 -- code put
 
-none-needed : (n : ℕ) → commitNeeds n ≡ 0 → 0 ≡ n
-none-needed n e = caseOn (eqb n 0) (λ t. sym (eqb-true n 0 t)) (λ t. absurd (none (rw t at e)))
-  where
-    none : 4 * n + 1 ≡ 0 → ⊥
-    none q = omega arith
+-- of a commit and of a confirm
+none-held : (n m : ℕ) → 0 < m → cond (eqb n 0) 0 m ≡ 0 → 0 ≡ n
+none-held n m l e = caseOn (eqb n 0) (λ t. sym (eqb-true n 0 t)) (λ t. absurd (let q : m ≡ 0 = rw t at e in omega (arith, l, q)))
 
-pub empty-commit : (st : State) (w : ℕ) (h : List ℕ) (o : List Bool) (i : Pending) → Ranged st → needs st (Commit w) ≡ 0 → h ≡ letGo (st .sizes) (st .writers .held) w → o ≡ set (st .writers .opened) w false → i ≡ noPending
-    → _≡_ {A = State} (record { sizes = st .sizes; head = st .head; tail = st .tail; next = st .next; table = st .table; writers = record { opened = o; held = h }; pending = i }) (completed st (Commit w))
+pub commit-none : (st : State) (w : ℕ) → needs st (Commit w) ≡ 0 → 0 ≡ length (commitSlots st w)
 unfolding needs
+commit-none st w e = none-held (length (commitSlots st w)) (4 * length (commitSlots st w) + 1) (omega arith) e
+
+pub confirm-none : (st : State) (w : ℕ) → needs st (Confirm w) ≡ 0 → 0 ≡ length (commitSlots st w)
+unfolding needs
+confirm-none st w e = none-held (length (commitSlots st w)) 1 (omega arith) e
+
+pub empty-commit : (st : State) (w : ℕ) (h : List ℕ) (o : List Bool) (i : Pending) → Ranged st → 0 ≡ length (commitSlots st w) → h ≡ letGo (st .sizes) (st .writers .held) w → o ≡ set (st .writers .opened) w false → i ≡ noPending
+    → _≡_ {A = State} (record { sizes = st .sizes; head = st .head; tail = st .tail; next = st .next; table = st .table; writers = record { opened = o; held = h; prepared = noWriter }; pending = i }) (commitDone st w)
 empty-commit st w h o i g e a b c =
-    commit-done st w 0 (st .head) (st .table .bitmap) (st .table .last) h o i (none-needed _ e) (sym (pos-none (st .sizes) (st .head) (g .head-low))) (up-none _ _) (up-none _ _) a b c
+    commit-done st w 0 (st .head) (st .table .bitmap) (st .table .last) h o i e (sym (pos-none (st .sizes) (st .head) (g .head-low))) (up-none _ _) (up-none _ _) a b c
+
+pub empty-prepare : (st : State) (w : ℕ) (i : Pending) → i ≡ noPending
+    → _≡_ {A = State} (record { sizes = st .sizes; head = st .head; tail = st .tail; next = st .next; table = st .table; writers = withPrepared (st .writers) w; pending = i }) (completed st (Prepare w))
+empty-prepare st w i a = rw a
 
 pub empty-checkpoint : (st : State) (l : List ℕ) (i : Pending) → l ≡ filled (st .sizes .slots) (λ s. noPosition) (st .table .last) → i ≡ noPending
     → _≡_ {A = State} (record { sizes = st .sizes; head = st .head; tail = st .head; next = st .next; table = record { page = st .table .page; original = st .table .original; spare = st .table .spare; bitmap = st .table .bitmap; last = l }; writers = st .writers; pending = i }) (completed st Checkpoint)

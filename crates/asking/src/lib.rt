@@ -1,4 +1,4 @@
-// A commit, a consolidation or a checkpoint, asked for: complete where it needs no store, else pending.
+// A commit, a prepare, a confirm, a consolidation or a checkpoint, asked for: complete where it needs no store, else pending.
 ghost use mathlib.Core.Path.{_≡_};
 ghost use mathlib.Core.Bool.{false};
 ghost use mathlib.Core.List.{_++_};
@@ -28,7 +28,7 @@ pub fn pending_from(op: Op, line: [u64; 8], second: [u64; 8], frame: usize) -> P
     }
 }
 
-// The first row that turns a commit, a consolidation or a checkpoint back, of an image of n bytes.
+// The first row that turns one of them back, of an image of n bytes.
 pub fn ask_row<'a>(
     z: Sizes,
     head: usize,
@@ -41,11 +41,12 @@ pub fn ask_row<'a>(
     last: &'a [usize; 16],
     opened: &'a [bool; 4],
     held: &'a [u64; 64],
+    prepared: usize,
     pending: Pending,
     op: Op,
     n: usize,
 ) -> usize
-    ensures { λ r. ⌜ r ≡ refusal (quietRows (stateOf z head tail next (now (page .entry)) (now (original .entry)) (now (spare .entry)) (now (bitmap .entry)) (now (last .entry)) (now (opened .entry)) (now (held .entry)) pending) n ++ opRows (stateOf z head tail next (now (page .entry)) (now (original .entry)) (now (spare .entry)) (now (bitmap .entry)) (now (last .entry)) (now (opened .entry)) (now (held .entry)) pending) op 0) ⌝ }
+    ensures { λ r. ⌜ r ≡ refusal (quietRows (stateOf z head tail next (now (page .entry)) (now (original .entry)) (now (spare .entry)) (now (bitmap .entry)) (now (last .entry)) (now (opened .entry)) (now (held .entry)) prepared pending) n ++ opRows (stateOf z head tail next (now (page .entry)) (now (original .entry)) (now (spare .entry)) (now (bitmap .entry)) (now (last .entry)) (now (opened .entry)) (now (held .entry)) prepared pending) op 0) ⌝ }
 {
     let row = rows::first_row(
         z,
@@ -59,6 +60,7 @@ pub fn ask_row<'a>(
         last,
         opened,
         held,
+        prepared,
         pending,
         n,
         false,
@@ -76,12 +78,14 @@ pub fn ask_row<'a>(
         spare,
         opened,
         held,
+        prepared,
         op,
         0,
     )
 }
 
-// The state when an operation that needs no store is complete: a commit of nothing closes its writer, and a checkpoint of no record leaves none.
+// The state when an operation that needs no store is complete: a commit or a confirm of nothing closes its writer, a prepare of nothing prepares it, and a
+// checkpoint of no record leaves none.
 fn completed_at_once(st: State, op: Op) -> State
     requires { ⌜ Ranged st × (refusal (opRows st op 0) ≡ 0) × (isIdle op ≡ false) × (needs st op ≡ 0) ⌝ }
     ensures { λ r. ⌜ r ≡ completed st op ⌝ }
@@ -102,6 +106,7 @@ fn completed_at_once(st: State, op: Op) -> State
         Op::Commit { writer } => {
             state::held::set_open(&mut next.writers.opened, writer, false);
             state::held::let_go(z, &mut next.writers.held, writer);
+            next.writers.prepared = 4;
             next
         }
         Op::Consolidate { page: _ } => next,
@@ -115,10 +120,20 @@ fn completed_at_once(st: State, op: Op) -> State
             meter: _,
             amount: _,
         } => next,
+        Op::Prepare { writer } => {
+            next.writers.prepared = writer;
+            next
+        }
+        Op::Confirm { writer } => {
+            state::held::set_open(&mut next.writers.opened, writer, false);
+            state::held::let_go(z, &mut next.writers.held, writer);
+            next.writers.prepared = 4;
+            next
+        }
     }
 }
 
-// Asks for a commit, a consolidation or a checkpoint.
+// Asks for one of them.
 pub fn ask(st: State, n: usize, op: Op) -> Done
     requires { ⌜ isIdle op ≡ false ⌝ }
     ensures { λ r. ⌜ outcomeOf r ≡ asked (refusal (quietRows st n ++ opRows st op 0)) st op (replicate 8 0) 0 ⌝ }
@@ -136,6 +151,7 @@ pub fn ask(st: State, n: usize, op: Op) -> Done
         &next.table.last,
         &next.writers.opened,
         &next.writers.held,
+        next.writers.prepared,
         next.pending,
         op,
         n,

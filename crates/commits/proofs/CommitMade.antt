@@ -22,9 +22,9 @@ use Rattle.journal.specs.Records.{position, wordOfRecord}
 use Rattle.replay.specs.Table.{slotIn, slotsOfArrays, replaced, replay}
 use Rattle.state.specs.declared.State.{State}
 use Rattle.state.specs.declared.Pending.{Pending}
-use Rattle.state.specs.Held.{heldAt, heldSlots}
-use Rattle.refinement.specs.Commit.{commitSlots, commitRecord, commitStores, commitHead, bitmapsAfter, lastsAfter, commitTable, closedWriter, commitRecordOf, commitAtOf, commitValueOf}
-use Rattle.refinement.specs.Settled.{noPending, settled}
+use Rattle.state.specs.Held.{noWriter, heldAt, heldSlots}
+use Rattle.refinement.specs.Commit.{commitSlots, commitRecord, commitStores, commitHead, bitmapsAfter, lastsAfter, commitTable, closedWriter, commitDone, confirmStores, commitRecordOf, commitAtOf, commitValueOf}
+use Rattle.refinement.specs.Settled.{noPending, settled, withPrepared}
 use Rattle.pieces.specs.Pieces.{recordStores}
 use Rattle.pieces.proofs.Turns.{up-turns}
 
@@ -98,9 +98,20 @@ module _ (st : State) (w : ℕ) where
   pub commit-done : (n q : ℕ) (bitmap last held : List ℕ) (opened : List Bool) (i : Pending) → n ≡ length (commitSlots st w) → q ≡ position (st .sizes) (st .head) n
       → bitmap ≡ bitmapsAfter (st .sizes) (st .table .bitmap) (st .writers .held) w n → last ≡ lastsAfter (st .sizes) (st .head) (st .table .last) (st .writers .held) w n
       → held ≡ upTo (st .sizes .slots) (λ s h. set h (16 * w + s) 0) (st .writers .held) → opened ≡ set (st .writers .opened) w false → i ≡ noPending
-      → _≡_ {A = State} (record { sizes = st .sizes; head = q; tail = st .tail; next = st .next; table = tableWith bitmap last; writers = record { opened = opened; held = held }; pending = i })
-      (settled st (commitHead st w) (st .tail) (st .next) (commitTable st w) (closedWriter (st .sizes) (st .writers) w))
+      → _≡_ {A = State} (record { sizes = st .sizes; head = q; tail = st .tail; next = st .next; table = tableWith bitmap last; writers = record { opened = opened; held = held; prepared = noWriter }; pending = i })
+      (commitDone st w)
   unfolding replay closedWriter
   commit-done n q bitmap last held opened i a b c d e f g =
       rw (b, c, d, e, f, g, a)
-      (ap (λ (t : Table). settled st (commitHead st w) (st .tail) (st .next) t (closedWriter (st .sizes) (st .writers) w)) (sym (table-after (length (commitSlots st w)))))
+      (ap (λ (t : Table). settled st (commitHead st w) (st .tail) (st .next) t (withPrepared (closedWriter (st .sizes) (st .writers) w) noWriter)) (sym (table-after (length (commitSlots st w)))))
+
+-- ---- the stores of a confirm: c is the count of slots and h the head that the code found
+
+pub confirm-none : (z : Sizes) (head : ℕ) (held : List ℕ) (w n : ℕ) (img : List ℕ) → n ≡ 0 → img ≡ confirmStores z head held w n img
+unfolding upTo
+confirm-none z head held w n img e = rw e
+
+pub confirm-one : (z : Sizes) (head : ℕ) (held : List ℕ) (w n c h : ℕ) (img after : List ℕ) → (n ≡ 0 → ⊥) → n ≤ 1 → c ≡ length (heldSlots z held w) → h ≡ position z head c
+    → after ≡ store img headWord h → after ≡ confirmStores z head held w n img
+unfolding upTo
+confirm-one z head held w n c h img after some most a b e = let one : n ≡ 1 = omega (arith, some, most) in rw (one, ← a, ← b) e

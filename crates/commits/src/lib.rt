@@ -7,7 +7,7 @@ ghost use Rattle.layout.specs.Layout.{Legal, recordWord, imageLength};
 ghost use Rattle.journal.specs.Records.{position};
 ghost use Rattle.replay.specs.Table.{slotsOfArrays, slotsShaped};
 ghost use Rattle.state.specs.Held.{heldSlots, letGo};
-ghost use Rattle.refinement.specs.Commit.{commitRecordOf, commitStores, bitmapsAfter, lastsAfter};
+ghost use Rattle.refinement.specs.Commit.{commitRecordOf, commitStores, confirmStores, bitmapsAfter, lastsAfter};
 use journal::Record;
 use journal::Slot;
 use layout::Sizes;
@@ -134,6 +134,26 @@ pub fn make_commit_stores<'a>(
         let h = journal::records::position(z, head, c);
         image_words::store_word(image, 4, h as u64);
     }
+}
+
+// Makes n stores of a confirm: none, or that of head.
+pub fn make_confirm_stores(
+    image: &mut [u8],
+    z: Sizes,
+    head: usize,
+    held: &[u64; 64],
+    w: usize,
+    n: usize,
+)
+    requires { ⌜ Legal z × (head < 2 * z .places) × (w < 4) × (n ≤ 1) × (imageLength z ≤ length (now image)) ⌝ }
+    ensures { λ _. ⌜ now (image .exit) ≡ confirmStores z head (now (held .entry)) w n (now (image .entry)) ⌝ }
+{
+    if n == 0 {
+        return;
+    }
+    let c = state::held::held_count(z, held, w);
+    let end = journal::records::position(z, head, c);
+    image_words::store_word(image, 4, end as u64);
 }
 
 // The bitmaps after a commit of n slots.

@@ -109,7 +109,7 @@ consolidate-stores-of st p from n img = refl
 
 -- a state with the parts that these stores read, for laws about states
 abbrev pub reading : Sizes → ℕ → Table → State
-reading z head t = record { sizes = z; head = head; tail = 0; next = 0; table = t; writers = record { opened = []; held = [] }; pending = noPending }
+reading z head t = record { sizes = z; head = head; tail = 0; next = 0; table = t; writers = record { opened = []; held = []; prepared = 0 }; pending = noPending }
 
 -- the slot as the code frees it
 pub slot-freed : (z : Sizes) (page original spare bitmap : List ℕ) (p s f : ℕ) (t v : Slot) → s ≡ slotOfPage z page p → t ≡ slotIn (slotsOfArrays page original spare bitmap) s

@@ -27,7 +27,7 @@ pub line-put : (s : State) (l x f : ℕ) (words : List ℕ) → l ≡ x → (nex
     → original ≡ putFresh (s .sizes) (s .next) (s .table .page) 0 f (s .table .original)
     → bitmap ≡ putFresh (s .sizes) (s .next) (s .table .page) 0 0 (s .table .bitmap)
     → held ≡ heldAfter (s .sizes) (s .next) (s .table .page) 0 1 l (s .writers .held)
-    → stateOf (s .sizes) (s .head) (s .tail) next page original (s .table .spare) bitmap (s .table .last) (s .writers .opened) held noPending ≡ lineDone s x words f
+    → stateOf (s .sizes) (s .head) (s .tail) next page original (s .table .spare) bitmap (s .table .last) (s .writers .opened) held (s .writers .prepared) noPending ≡ lineDone s x words f
 unfolding lineDone
 line-put s l x f words q next page original bitmap held a b c d e =
     write-done (lineAsked s l words f) 1 0 l 0 8 next page original bitmap held a b c d e ∙ ap (λ (i : ℕ). lineDone s i words f) q
@@ -47,12 +47,12 @@ two-lines s s₁ s₂ k m p t e f = f ∙ ap (λ (x : State). lineDone x (ownMet
 
 -- the event complete, s being the state that the code has with the lines written, and o the open writers
 pub event-done : (st : State) (k m : ℕ) (o : List Bool) (s e : State) → o ≡ set (st .writers .opened) 1 true
-    → s ≡ linesAfter (settled st (st .head) (st .tail) (st .next) (st .table) (record { opened = o; held = st .writers .held })) k m (st .pending) → e ≡ commitDone s 1 → e ≡ eventDone st k m
+    → s ≡ linesAfter (settled st (st .head) (st .tail) (st .next) (st .table) (record { opened = o; held = st .writers .held; prepared = st .writers .prepared })) k m (st .pending) → e ≡ commitDone s 1 → e ≡ eventDone st k m
 unfolding eventDone
 event-done st k m o s e a b c =
     c
-    ∙ ap (λ (x : State). commitDone x 1) (b ∙ ap (λ (y : List Bool). linesAfter (settled st (st .head) (st .tail) (st .next) (st .table) (record { opened = y; held = st .writers .held })) k m (st .pending)) a)
+    ∙ ap (λ (x : State). commitDone x 1) (b ∙ ap (λ (y : List Bool). linesAfter (settled st (st .head) (st .tail) (st .next) (st .table) (record { opened = y; held = st .writers .held; prepared = st .writers .prepared })) k m (st .pending)) a)
 
 pub lines-are : (st : State) (k m : ℕ) (o : List Bool) (s : State) → o ≡ set (st .writers .opened) 1 true
-    → s ≡ linesAfter (settled st (st .head) (st .tail) (st .next) (st .table) (record { opened = o; held = st .writers .held })) k m (st .pending) → s ≡ linesDone st k m
-lines-are st k m o s a b = b ∙ ap (λ (y : List Bool). linesAfter (settled st (st .head) (st .tail) (st .next) (st .table) (record { opened = y; held = st .writers .held })) k m (st .pending)) a
+    → s ≡ linesAfter (settled st (st .head) (st .tail) (st .next) (st .table) (record { opened = o; held = st .writers .held; prepared = st .writers .prepared })) k m (st .pending) → s ≡ linesDone st k m
+lines-are st k m o s a b = b ∙ ap (λ (y : List Bool). linesAfter (settled st (st .head) (st .tail) (st .next) (st .table) (record { opened = y; held = st .writers .held; prepared = st .writers .prepared })) k m (st .pending)) a

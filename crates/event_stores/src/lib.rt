@@ -7,6 +7,7 @@ ghost use Rattle.layout.specs.Layout.{Legal, imageLength};
 ghost use Rattle.replay.specs.Table.{slotsOfArrays, slotsShaped};
 ghost use Rattle.meters.specs.Meters.{eventKnown, eventNeeds};
 ghost use Rattle.state.specs.Parts.{stateOf};
+ghost use Rattle.state.specs.Held.{noWriter};
 ghost use Rattle.refinement.specs.Settled.{noPending};
 ghost use Rattle.refinement.specs.Event.{lineStores as lineStoresOf, eventDone};
 ghost use Rattle.event_stores.specs.Taken.{Taken};
@@ -124,12 +125,13 @@ fn hold_lines<'a>(
     last: &'a [usize; 16],
     opened: &'a [bool; 4],
     held: &mut [u64; 64],
+    prepared: usize,
     pending: Pending,
     kind: usize,
     meter: usize,
 ) -> usize
     requires { ⌜ Legal z × (next < z .slots) × (eventKnown kind meter ≡ true) ⌝ }
-    ensures { λ r. ⌜ stateOf z head tail r (now (page .exit)) (now (original .exit)) (now (spare .entry)) (now (bitmap .exit)) (now (last .entry)) (now (opened .entry)) (now (held .exit)) noPending ≡ linesAfter (stateOf z head tail next (now (page .entry)) (now (original .entry)) (now (spare .entry)) (now (bitmap .entry)) (now (last .entry)) (now (opened .entry)) (now (held .entry)) noPending) kind meter pending ⌝ }
+    ensures { λ r. ⌜ stateOf z head tail r (now (page .exit)) (now (original .exit)) (now (spare .entry)) (now (bitmap .exit)) (now (last .entry)) (now (opened .entry)) (now (held .exit)) prepared noPending ≡ linesAfter (stateOf z head tail next (now (page .entry)) (now (original .entry)) (now (spare .entry)) (now (bitmap .entry)) (now (last .entry)) (now (opened .entry)) (now (held .entry)) prepared noPending) kind meter pending ⌝ }
 {
     let l = meters::first_meter(kind, meter);
     let o = meters::own_meter(kind, meter);
@@ -154,12 +156,13 @@ pub fn complete_event(
     last: &mut [usize; 16],
     opened: &mut [bool; 4],
     held: &mut [u64; 64],
+    prepared: usize,
     pending: Pending,
     kind: usize,
     meter: usize,
 ) -> Moved
     requires { ⌜ Legal z × (head < 2 * z .places) × (next < z .slots) × (eventKnown kind meter ≡ true) ⌝ }
-    ensures { λ r. ⌜ stateOf z (r .head) tail (r .next) (now (page .exit)) (now (original .exit)) (now (spare .exit)) (now (bitmap .exit)) (now (last .exit)) (now (opened .exit)) (now (held .exit)) noPending ≡ eventDone (stateOf z head tail next (now (page .entry)) (now (original .entry)) (now (spare .entry)) (now (bitmap .entry)) (now (last .entry)) (now (opened .entry)) (now (held .entry)) pending) kind meter ⌝ }
+    ensures { λ r. ⌜ stateOf z (r .head) tail (r .next) (now (page .exit)) (now (original .exit)) (now (spare .exit)) (now (bitmap .exit)) (now (last .exit)) (now (opened .exit)) (now (held .exit)) noWriter noPending ≡ eventDone (stateOf z head tail next (now (page .entry)) (now (original .entry)) (now (spare .entry)) (now (bitmap .entry)) (now (last .entry)) (now (opened .entry)) (now (held .entry)) prepared pending) kind meter ⌝ }
 {
     state::held::set_open(opened, 1, true);
     let after = hold_lines(
@@ -174,6 +177,7 @@ pub fn complete_event(
         last,
         opened,
         held,
+        prepared,
         pending,
         kind,
         meter,
@@ -199,14 +203,15 @@ fn make_event_commit<'a>(
     last: &'a [usize; 16],
     opened: &'a [bool; 4],
     held: &'a [u64; 64],
+    prepared: usize,
     pending: Pending,
     kind: usize,
     meter: usize,
     from: usize,
     n: usize,
 )
-    requires { ⌜ Taken (stateOf z head tail next (now page) (now original) (now spare) (now bitmap) (now last) (now opened) (now held) pending) kind meter × (from ≤ 4) × (from + n ≤ 5) × (imageLength z ≤ length (now image)) ⌝ }
-    ensures { λ _. ⌜ now (image .exit) ≡ commitPart (stateOf z head tail next (now (page .entry)) (now (original .entry)) (now (spare .entry)) (now (bitmap .entry)) (now (last .entry)) (now (opened .entry)) (now (held .entry)) pending) kind meter from n (now (image .entry)) ⌝ }
+    requires { ⌜ Taken (stateOf z head tail next (now page) (now original) (now spare) (now bitmap) (now last) (now opened) (now held) prepared pending) kind meter × (from ≤ 4) × (from + n ≤ 5) × (imageLength z ≤ length (now image)) ⌝ }
+    ensures { λ _. ⌜ now (image .exit) ≡ commitPart (stateOf z head tail next (now (page .entry)) (now (original .entry)) (now (spare .entry)) (now (bitmap .entry)) (now (last .entry)) (now (opened .entry)) (now (held .entry)) prepared pending) kind meter from n (now (image .entry)) ⌝ }
 {
     let mut pages = *page;
     let mut originals = *original;
@@ -226,6 +231,7 @@ fn make_event_commit<'a>(
         last,
         &opening,
         &mut holding,
+        prepared,
         pending,
         kind,
         meter,
@@ -259,13 +265,14 @@ pub fn make_event_stores<'a>(
     last: &'a [usize; 16],
     opened: &'a [bool; 4],
     held: &'a [u64; 64],
+    prepared: usize,
     pending: Pending,
     kind: usize,
     meter: usize,
     n: usize,
 )
-    requires { ⌜ Taken (stateOf z head tail next (now page) (now original) (now spare) (now bitmap) (now last) (now opened) (now held) pending) kind meter × (pending .made + n ≤ eventNeeds kind) × (imageLength z ≤ length (now image)) ⌝ }
-    ensures { λ _. ⌜ now (image .exit) ≡ eventStores (stateOf z head tail next (now (page .entry)) (now (original .entry)) (now (spare .entry)) (now (bitmap .entry)) (now (last .entry)) (now (opened .entry)) (now (held .entry)) pending) kind meter (pending .made) n (now (image .entry)) ⌝ }
+    requires { ⌜ Taken (stateOf z head tail next (now page) (now original) (now spare) (now bitmap) (now last) (now opened) (now held) prepared pending) kind meter × (pending .made + n ≤ eventNeeds kind) × (imageLength z ≤ length (now image)) ⌝ }
+    ensures { λ _. ⌜ now (image .exit) ≡ eventStores (stateOf z head tail next (now (page .entry)) (now (original .entry)) (now (spare .entry)) (now (bitmap .entry)) (now (last .entry)) (now (opened .entry)) (now (held .entry)) prepared pending) kind meter (pending .made) n (now (image .entry)) ⌝ }
 {
     let from = pending.made;
     let lines = line_stores(kind);
@@ -300,6 +307,7 @@ pub fn make_event_stores<'a>(
             last,
             opened,
             held,
+            prepared,
             pending,
             kind,
             meter,

@@ -72,7 +72,7 @@ pub early-known : (st : State) (k m f : ℕ) → refusal (eventFirstRows st k m 
     → (eventKnown k m ≡ true) × (frameBad (st .sizes) (st .table .page) (st .table .original) (st .table .spare) (slotFor st 0) f ≡ false)
 early-known st k m f z =
     let h = none-apply (eventFirstRows st k m f) (omega arith) z in
-    (not-false (eventKnown k m) (h .0), h .1 .1 .1 .1 .0)
+    (not-false (eventKnown k m) (h .0), h .1 .1 .1 .1 .1 .0)
 
 -- a line of page 0 is read from a frame
 pub line-frame : (st : State) (n l f : ℕ) → Quiet st n → frameBad (st .sizes) (st .table .page) (st .table .original) (st .table .spare) (slotFor st 0) f ≡ false

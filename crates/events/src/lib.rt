@@ -54,13 +54,14 @@ fn event_found<'a>(
     last: &'a [usize; 16],
     opened: &'a [bool; 4],
     held: &'a [u64; 64],
+    prepared: usize,
     pending: Pending,
     image: &[u8],
     kind: usize,
     meter: usize,
     amount: u64,
 ) -> Found
-    ensures { λ r. ⌜ EventFound (stateOf z head tail next (now (page .entry)) (now (original .entry)) (now (spare .entry)) (now (bitmap .entry)) (now (last .entry)) (now (opened .entry)) (now (held .entry)) pending) (now (image .entry)) kind meter amount r ⌝ }
+    ensures { λ r. ⌜ EventFound (stateOf z head tail next (now (page .entry)) (now (original .entry)) (now (spare .entry)) (now (bitmap .entry)) (now (last .entry)) (now (opened .entry)) (now (held .entry)) prepared pending) (now (image .entry)) kind meter amount r ⌝ }
 {
     let row = rows::first_row(
         z,
@@ -74,6 +75,7 @@ fn event_found<'a>(
         last,
         opened,
         held,
+        prepared,
         pending,
         image.len(),
         false,
@@ -91,6 +93,7 @@ fn event_found<'a>(
         spare,
         opened,
         held,
+        prepared,
         kind,
         meter,
         s,
@@ -161,6 +164,7 @@ pub fn event(st: State, image: &[u8], kind: usize, meter: usize, amount: u64) ->
         &next.table.last,
         &next.writers.opened,
         &next.writers.held,
+        next.writers.prepared,
         next.pending,
         image,
         kind,

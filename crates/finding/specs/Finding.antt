@@ -23,10 +23,10 @@ WriteFound st img w p l o n bytes r =
     × (r .row ≡ 0 → (r .frame ≡ pageFrame st img p) × (r .seen ≡ seenFrame st w p l (r .frame)) × (r .held ≡ holds st w p l))
 
 -- the rows from 11 on, by the parts of a state that they read
-abbrev pub FramesFound : Sizes → ℕ → List ℕ → List ℕ → List ℕ → List ℕ → List Bool → List ℕ → List ℕ → ℕ → ℕ → ℕ → ℕ → ℕ → Found → Type 0
-FramesFound z next page original spare bitmap opened held img w p l o n r =
+abbrev pub FramesFound : Sizes → ℕ → List ℕ → List ℕ → List ℕ → List ℕ → List Bool → List ℕ → ℕ → List ℕ → ℕ → ℕ → ℕ → ℕ → ℕ → Found → Type 0
+FramesFound z next page original spare bitmap opened held prepared img w p l o n r =
     let s = slotOfPage z page p in
     let f = frameAt z original img p s in
-    (r .row ≡ refusal (writeRowsOf z next page original spare opened held w p s l o n f))
+    (r .row ≡ refusal (writeRowsOf z next page original spare opened held prepared w p s l o n f))
     × (r .frame ≡ f)
     × (r .row ≡ 0 → (r .seen ≡ seenAt z (slotAt p original spare bitmap s) (heldAt held w s) s l f) × (r .held ≡ ltb s (z .slots) && inMask (heldAt held w s) l))

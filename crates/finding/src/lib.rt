@@ -41,6 +41,7 @@ fn frames_found<'a>(
     bitmap: &'a [u64; 16],
     opened: &'a [bool; 4],
     held: &'a [u64; 64],
+    prepared: usize,
     image: &[u8],
     writer: usize,
     p: usize,
@@ -49,7 +50,7 @@ fn frames_found<'a>(
     length: usize,
 ) -> Found
     requires { ⌜ Legal z × (next < z .slots) × (p < z .pages) × (imageLength z ≤ listLength (now image)) ⌝ }
-    ensures { λ r. ⌜ FramesFound z next (now (page .entry)) (now (original .entry)) (now (spare .entry)) (now (bitmap .entry)) (now (opened .entry)) (now (held .entry)) (now (image .entry)) writer p line offset length r ⌝ }
+    ensures { λ r. ⌜ FramesFound z next (now (page .entry)) (now (original .entry)) (now (spare .entry)) (now (bitmap .entry)) (now (opened .entry)) (now (held .entry)) prepared (now (image .entry)) writer p line offset length r ⌝ }
 {
     let s = state::slots::slot_of(z, page, p);
     let frame = frames::page_frame(z, original, image, p, s);
@@ -61,6 +62,7 @@ fn frames_found<'a>(
         spare,
         opened,
         held,
+        prepared,
         writer,
         p,
         s,
@@ -100,6 +102,7 @@ pub fn write_found<'a>(
     last: &'a [usize; 16],
     opened: &'a [bool; 4],
     held: &'a [u64; 64],
+    prepared: usize,
     pending: Pending,
     image: &[u8],
     writer: usize,
@@ -109,7 +112,7 @@ pub fn write_found<'a>(
     length: usize,
     data: &[u8],
 ) -> Found
-    ensures { λ r. ⌜ WriteFound (stateOf z head tail next (now (page .entry)) (now (original .entry)) (now (spare .entry)) (now (bitmap .entry)) (now (last .entry)) (now (opened .entry)) (now (held .entry)) pending) (now (image .entry)) writer p line offset length (now («data» .entry)) r ⌝ }
+    ensures { λ r. ⌜ WriteFound (stateOf z head tail next (now (page .entry)) (now (original .entry)) (now (spare .entry)) (now (bitmap .entry)) (now (last .entry)) (now (opened .entry)) (now (held .entry)) prepared pending) (now (image .entry)) writer p line offset length (now («data» .entry)) r ⌝ }
 {
     let row = rows::first_row(
         z,
@@ -123,6 +126,7 @@ pub fn write_found<'a>(
         last,
         opened,
         held,
+        prepared,
         pending,
         image.len(),
         false,
@@ -152,6 +156,7 @@ pub fn write_found<'a>(
         bitmap,
         opened,
         held,
+        prepared,
         image,
         writer,
         p,

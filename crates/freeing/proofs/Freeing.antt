@@ -11,6 +11,7 @@ use Rattle.bounded.specs.Rows.{refusal}
 use Rattle.bounded.proofs.Rows.{row-at, row-none}
 use Rattle.journal.specs.Records.{liveCount}
 use Rattle.state.specs.declared.State.{State}
+use Rattle.state.specs.Held.{somePrepared}
 use Rattle.state.specs.declared.Pending.{Pending}
 use Rattle.state.specs.declared.Op.the-variants.{Consolidate}
 use Rattle.operations.specs.Operations.{journalFull, consolidateNeeds, needs}
@@ -32,13 +33,22 @@ module _ (st : State) (img : List ℕ) (d : Done) where
   -- rows 8, 4 and 9
   pub first-refused : (row : ℕ) → row ≡ refusal (quietRows st (length img)) → (row ≡ 0 → ⊥) → outcomeOf d ≡ answered row st 0 st → outcomeOf d ≡ freeOf st img
   first-refused row e n h =
-      by-row row (rows-first (quietRows st (length img)) ((leb (st .sizes .slots) (freedSlot st), 22) ∷ (journalFull st 1, 19) ∷ []) row e n) n h
+      by-row row (rows-first (quietRows st (length img)) ((somePrepared (st .writers .prepared), 23) ∷ (leb (st .sizes .slots) (freedSlot st), 22) ∷ (journalFull st 1, 19) ∷ []) row e n) n h
 
-  module _ (q : Quiet st (length img)) (s : ℕ) (e : s ≡ freedSlot st) where
+  -- row 23
+  pub prepared-refused : Quiet st (length img) → st .writers .prepared < 4 → outcomeOf d ≡ answered 23 st 0 st → outcomeOf d ≡ freeOf st img
+  prepared-refused q l h =
+      let p = q .past in
+      by-row 23 (row-at (freeCallRows st img) 3 (omega arith) (p .0, (p .1 .0, (p .1 .1 .0, tt))) (lt-ltb (st .writers .prepared) 4 l)) (λ z. omega arith) h
+
+  module _ (q : Quiet st (length img)) (free : 4 ≤ st .writers .prepared) (s : ℕ) (e : s ≡ freedSlot st) where
+    alone : somePrepared (st .writers .prepared) ≡ false
+    alone = le-ltb (st .writers .prepared) 4 free
+
     pub none-refused : st .sizes .slots ≤ s → outcomeOf d ≡ answered 22 st 0 st → outcomeOf d ≡ freeOf st img
     none-refused l h =
         let p = q .past in
-        by-row 22 (row-at (freeCallRows st img) 3 (omega arith) (p .0, (p .1 .0, (p .1 .1 .0, tt))) (ap (leb (st .sizes .slots)) (sym e) ∙ le-leb (st .sizes .slots) s l)) (λ z. omega arith) h
+        by-row 22 (row-at (freeCallRows st img) 4 (omega arith) (p .0, (p .1 .0, (p .1 .1 .0, (alone, tt)))) (ap (leb (st .sizes .slots)) (sym e) ∙ le-leb (st .sizes .slots) s l)) (λ z. omega arith) h
 
     module _ (l : s < st .sizes .slots) (live : ℕ) (c : live ≡ liveCount (st .sizes) (st .head) (st .tail)) where
       found : leb (st .sizes .slots) (freedSlot st) ≡ false
@@ -47,7 +57,7 @@ module _ (st : State) (img : List ℕ) (d : Done) where
       pub full-refused : st .sizes .places < live + 1 → outcomeOf d ≡ answered 19 st 0 st → outcomeOf d ≡ freeOf st img
       full-refused f h =
           let p = q .past in
-          by-row 19 (row-at (freeCallRows st img) 4 (omega arith) (p .0, (p .1 .0, (p .1 .1 .0, (found, tt)))) (ap (λ (n : ℕ). ltb (st .sizes .places) (n + 1)) (sym c) ∙ lt-ltb (st .sizes .places) (live + 1) f)) (λ z. omega arith) h
+          by-row 19 (row-at (freeCallRows st img) 5 (omega arith) (p .0, (p .1 .0, (p .1 .1 .0, (alone, (found, tt))))) (ap (λ (n : ℕ). ltb (st .sizes .places) (n + 1)) (sym c) ∙ lt-ltb (st .sizes .places) (live + 1) f)) (λ z. omega arith) h
 
       -- p is the page of the slot, and needed the stores that the code counted
       pub asked-free : (p needed : ℕ) (pending : Pending) → live + 1 ≤ st .sizes .places → p ≡ getD (st .table .page) s 0
@@ -60,7 +70,7 @@ module _ (st : State) (img : List ℕ) (d : Done) where
           let low : freedSlot st < st .sizes .slots = rw (← e) l in
           let m : needed ≡ needs st (Consolidate (freedPage st)) = n ∙ ap (λ (k : ℕ). consolidateNeeds (getD (st .table .bitmap) k 0)) (e ∙ sym (own-slot st (q .ok) low)) in
           ask-pending st (Consolidate (freedPage st)) (replicate 8 0) 0 d (freeCallRows st img) pending needed
-          (row-none (freeCallRows st img) (o .0, (o .1 .0, (o .1 .1 .0, (found, (ap (λ (k : ℕ). ltb (st .sizes .places) (k + 1)) (sym c) ∙ le-ltb (st .sizes .places) (live + 1) f, tt))))))
+          (row-none (freeCallRows st img) (o .0, (o .1 .0, (o .1 .1 .0, (alone, (found, (ap (λ (k : ℕ). ltb (st .sizes .places) (k + 1)) (sym c) ∙ le-ltb (st .sizes .places) (live + 1) f, tt)))))))
           (b ∙ ap (λ (k : ℕ). pendingFrom (Consolidate k) (replicate 8 0) 0) g)
           m
           (λ z. consolidate-needs st (freedPage st) (sym m ∙ z))

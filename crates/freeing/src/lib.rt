@@ -27,12 +27,16 @@ pub fn free_slot(st: State, image: &[u8]) -> Done
         &next.table.last,
         &next.writers.opened,
         &next.writers.held,
+        next.writers.prepared,
         next.pending,
         image.len(),
         false,
     );
     if row != 0 {
         return answers::refused(row, next);
+    }
+    if next.writers.prepared < 4 {
+        return answers::refused(23, next);
     }
     let s = choosing::slot_to_free(z, &next.table.page, &next.table.bitmap, &next.writers.held);
     if z.slots <= s {

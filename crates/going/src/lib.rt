@@ -10,7 +10,7 @@ use state::Pending;
 use stores::Places;
 use stores::making::Made;
 
-// What a run came to, where head, tail and the next slot then are, and what is then pending.
+// What a run came to, where head, tail and the next slot then are, who is prepared, and what is then pending.
 pub struct Gone {
     pub made: Made,
     pub to: Places,
@@ -31,13 +31,14 @@ pub fn go_on(
     last: &mut [usize; 16],
     opened: &mut [bool; 4],
     held: &mut [u64; 64],
+    prepared: usize,
     pending: Pending,
     k: usize,
 ) -> Gone
     requires { ⌜ Lengths (now page) (now original) (now spare) (now bitmap) (now last) (now opened) (now held) ⌝ }
-    ensures row { λ r. ⌜ r .made .row ≤ 22 ⌝ }
-    ensures outcome { λ r. ⌜ answered (r .made .row) (stateOf z (r .to .head) (r .to .tail) (r .to .next) (now (page .exit)) (now (original .exit)) (now (spare .exit)) (now (bitmap .exit)) (now (last .exit)) (now (opened .exit)) (now (held .exit)) (r .pending)) (r .made .stores) (stateOf z (r .to .head) (r .to .tail) (r .to .next) (now (page .exit)) (now (original .exit)) (now (spare .exit)) (now (bitmap .exit)) (now (last .exit)) (now (opened .exit)) (now (held .exit)) (r .pending)) ≡ runOf (stateOf z head tail next (now (page .entry)) (now (original .entry)) (now (spare .entry)) (now (bitmap .entry)) (now (last .entry)) (now (opened .entry)) (now (held .entry)) pending) (now (image .entry)) k ⌝ }
-    ensures bytes { λ _. ⌜ now (image .exit) ≡ runBytes (stateOf z head tail next (now (page .entry)) (now (original .entry)) (now (spare .entry)) (now (bitmap .entry)) (now (last .entry)) (now (opened .entry)) (now (held .entry)) pending) (now (image .entry)) k ⌝ }
+    ensures row { λ r. ⌜ r .made .row ≤ 24 ⌝ }
+    ensures outcome { λ r. ⌜ answered (r .made .row) (stateOf z (r .to .head) (r .to .tail) (r .to .next) (now (page .exit)) (now (original .exit)) (now (spare .exit)) (now (bitmap .exit)) (now (last .exit)) (now (opened .exit)) (now (held .exit)) (r .to .prepared) (r .pending)) (r .made .stores) (stateOf z (r .to .head) (r .to .tail) (r .to .next) (now (page .exit)) (now (original .exit)) (now (spare .exit)) (now (bitmap .exit)) (now (last .exit)) (now (opened .exit)) (now (held .exit)) (r .to .prepared) (r .pending)) ≡ runOf (stateOf z head tail next (now (page .entry)) (now (original .entry)) (now (spare .entry)) (now (bitmap .entry)) (now (last .entry)) (now (opened .entry)) (now (held .entry)) prepared pending) (now (image .entry)) k ⌝ }
+    ensures bytes { λ _. ⌜ now (image .exit) ≡ runBytes (stateOf z head tail next (now (page .entry)) (now (original .entry)) (now (spare .entry)) (now (bitmap .entry)) (now (last .entry)) (now (opened .entry)) (now (held .entry)) prepared pending) (now (image .entry)) k ⌝ }
 {
     let made = stores::making::make_left(
         image,
@@ -52,13 +53,19 @@ pub fn go_on(
         last,
         opened,
         held,
+        prepared,
         pending,
         k,
     );
     if !made.whole {
         let mut pending = pending;
         pending.made = made.total;
-        let to = Places { head, tail, next };
+        let to = Places {
+            head,
+            tail,
+            next,
+            prepared,
+        };
         return Gone { made, to, pending };
     }
     let to = stores::complete(
@@ -73,6 +80,7 @@ pub fn go_on(
         last,
         opened,
         held,
+        prepared,
         pending,
     );
     let pending = settled::no_pending();

@@ -36,10 +36,10 @@ Through done after o img = (done ≡ throughOf o img) × (after ≡ throughBytes
 abbrev pub InLists : Type 0
 InLists = (o : Outcome) (img : List ℕ) → exec (run (o .stores)) (worldOf (o .state) img) .world ≡ worldOf (throughOf o img .state) (throughBytes o img)
 
--- the state with these parts, at head, tail and next slot, and nothing pending
+-- the state with these parts, at head, tail, next slot and prepared writer, and nothing pending
 abbrev pub quietAt : Sizes → Places → List ℕ → List ℕ → List ℕ → List ℕ → List ℕ → List Bool → List ℕ → State
 quietAt z at page original spare bitmap last opened held =
-    stateOf z (at .head) (at .tail) (at .next) page original spare bitmap last opened held noPending
+    stateOf z (at .head) (at .tail) (at .next) page original spare bitmap last opened held (at .prepared) noPending
 
 -- an answer with the state after the call
 abbrev pub answeredAt : Answer → State → Outcome

@@ -15,7 +15,7 @@ use layout::Sizes;
 use state::Pending;
 use stores::Places;
 
-// A call's answer, and where head, tail and the next slot to try then are.
+// A call's answer, and where head, tail and the next slot to try then are, and who is prepared.
 pub struct Went {
     pub answer: Answer,
     pub to: Places,
@@ -62,9 +62,9 @@ pub fn make_all(
     pending: Pending,
     needed: usize,
 ) -> Places
-    requires { ⌜ (stateOk (stateOf z (at .head) (at .tail) (at .next) (now page) (now original) (now spare) (now bitmap) (now last) (now opened) (now held) pending) ≡ true) × (isIdle (pending .op) ≡ false) × (needed ≡ left (stateOf z (at .head) (at .tail) (at .next) (now page) (now original) (now spare) (now bitmap) (now last) (now opened) (now held) pending)) × (imageLength z ≤ length (now image)) ⌝ }
-    ensures state { λ r. ⌜ stateOf z (r .head) (r .tail) (r .next) (now (page .exit)) (now (original .exit)) (now (spare .exit)) (now (bitmap .exit)) (now (last .exit)) (now (opened .exit)) (now (held .exit)) noPending ≡ completed (stateOf z (at .head) (at .tail) (at .next) (now (page .entry)) (now (original .entry)) (now (spare .entry)) (now (bitmap .entry)) (now (last .entry)) (now (opened .entry)) (now (held .entry)) pending) (pending .op) ⌝ }
-    ensures bytes { λ _. ⌜ now (image .exit) ≡ storesMade (stateOf z (at .head) (at .tail) (at .next) (now (page .entry)) (now (original .entry)) (now (spare .entry)) (now (bitmap .entry)) (now (last .entry)) (now (opened .entry)) (now (held .entry)) pending) needed (now (image .entry)) ⌝ }
+    requires { ⌜ (stateOk (stateOf z (at .head) (at .tail) (at .next) (now page) (now original) (now spare) (now bitmap) (now last) (now opened) (now held) (at .prepared) pending) ≡ true) × (isIdle (pending .op) ≡ false) × (needed ≡ left (stateOf z (at .head) (at .tail) (at .next) (now page) (now original) (now spare) (now bitmap) (now last) (now opened) (now held) (at .prepared) pending)) × (imageLength z ≤ length (now image)) ⌝ }
+    ensures state { λ r. ⌜ stateOf z (r .head) (r .tail) (r .next) (now (page .exit)) (now (original .exit)) (now (spare .exit)) (now (bitmap .exit)) (now (last .exit)) (now (opened .exit)) (now (held .exit)) (r .prepared) noPending ≡ completed (stateOf z (at .head) (at .tail) (at .next) (now (page .entry)) (now (original .entry)) (now (spare .entry)) (now (bitmap .entry)) (now (last .entry)) (now (opened .entry)) (now (held .entry)) (at .prepared) pending) (pending .op) ⌝ }
+    ensures bytes { λ _. ⌜ now (image .exit) ≡ storesMade (stateOf z (at .head) (at .tail) (at .next) (now (page .entry)) (now (original .entry)) (now (spare .entry)) (now (bitmap .entry)) (now (last .entry)) (now (opened .entry)) (now (held .entry)) (at .prepared) pending) needed (now (image .entry)) ⌝ }
 {
     let _pages = sixteen(page);
     let _originals = sixteen(original);
@@ -86,6 +86,7 @@ pub fn make_all(
         last,
         opened,
         held,
+        at.prepared,
         pending,
         needed,
     );
@@ -101,6 +102,7 @@ pub fn make_all(
         last,
         opened,
         held,
+        at.prepared,
         pending,
     )
 }

@@ -20,8 +20,9 @@ use Rattle.mount.specs.Mount.{sizesFrom}
 use Rattle.mount.proofs.View.{View, slot-none}
 use Rattle.state.specs.declared.State.{State}
 use Rattle.state.specs.declared.Op.{Op}
-use Rattle.state.specs.declared.Op.the-variants.{Write, Commit, Consolidate, Checkpoint, Event}
-use Rattle.operations.specs.Operations.{isIdle, slotFor, slotted, frameBad, journalFull, commitRows, consolidateRows}
+use Rattle.state.specs.declared.Op.the-variants.{Write, Commit, Consolidate, Checkpoint, Event, Prepare, Confirm}
+use Rattle.state.specs.Held.{noWriter, somePrepared}
+use Rattle.operations.specs.Operations.{isIdle, slotFor, slotted, frameBad, journalFull, commitRows, confirmRows, consolidateRows}
 use Rattle.operations.proofs.Taken.{args-good}
 use Rattle.meters.specs.Meters.{eventKnown, movesCredit, firstMeter, ownMeter, eventNeeds, rolled, firstNumber, amountBad}
 use Rattle.meters.proofs.MeterLaws.{first-low, own-range}
@@ -29,11 +30,11 @@ use Rattle.refinement.specs.Frames.{pageFrame, holds}
 use Rattle.refinement.specs.Freeing.{freedSlot, freedPage}
 use Rattle.refinement.specs.Mount.{quietState}
 use Rattle.refinement.specs.Outcome.{Outcome, answered}
-use Rattle.refinement.specs.Settled.{withLines}
+use Rattle.refinement.specs.Settled.{withWriters, withPrepared, withLines}
 use Rattle.refinement.specs.Stores.{World, stepped, steppedBy, left}
-use Rattle.refinement.specs.Calls.{rowState, rowPending, rowNotPending, withPending, worldOf, asked, beginOf, abortOf, writeCallRows, seenLine, changesNothing, writeOf, commitOf, consolidateOf, freeOf, checkpointOf, eventLine, eventSecond, eventCallRows, eventOf, readRows, readRow, readBytes, stepRows, stepRow, stepOf, stepBytes, runOf, runBytes}
+use Rattle.refinement.specs.Calls.{rowState, rowPending, rowNotPending, withPending, worldOf, asked, beginOf, abortOf, writeCallRows, seenLine, changesNothing, writeOf, commitOf, prepareOf, confirmOf, withdrawOf, consolidateOf, freeOf, checkpointOf, eventLine, eventSecond, eventCallRows, eventOf, readRows, readRow, readBytes, stepRows, stepRow, stepOf, stepBytes, runOf, runBytes}
 use Rattle.refinement.specs.Recall.{recallRow, recallBytes}
-use Rattle.refinement.specs.Run.{Call, Result, mount, checkpoint, free, step, begin, abort, commit, consolidate, run, write, read, recall, event, exec, result}
+use Rattle.refinement.specs.Run.{Call, Result, mount, checkpoint, free, step, begin, abort, commit, prepare, confirm, withdraw, consolidate, run, write, read, recall, event, exec, result}
 use Rattle.refinement.specs.Reference.{Reference}
 use Rattle.refinement.proofs.Copies.{durable-legal, durable-fits}
 use Rattle.refinement.proofs.Between.{Between, between-valid, between-durable, between-quiet}
@@ -147,7 +148,7 @@ module _ {past past′ : List ℕ} (st : State) (x y : List ℕ) (b : Reference)
       let row : ℕ = refusal (writeCallRows st x w p l o n bytes) in
       let e : row ≡ refusal (writeCallRows st y w p l o n bytes) =
       same-refusal (writeCallRows st x w p l o n bytes) (writeCallRows st y w p l o n bytes)
-      (refl, refl, λ _. (short, refl, λ _. (refl, refl, λ _. (refl, refl, λ _. (refl, refl, λ f. (refl, refl, λ _. (refl, refl, λ _. (refl, refl, λ _. (bad-same p (args-good z w p l o n f .page-low), refl, λ _. tt))))))))) in
+      (refl, refl, λ _. (short, refl, λ _. (refl, refl, λ _. (refl, refl, λ _. (refl, refl, λ f. (refl, refl, λ _. (refl, refl, λ _. (refl, refl, λ _. (refl, refl, λ _. (bad-same p (args-good z w p l o n f .page-low), refl, λ _. tt)))))))))) in
       answered-same st row (refusal (writeCallRows st y w p l o n bytes)) (cond (idle w p l o n bytes (seenLine st x w p l)) 0 8) (cond (idle w p l o n bytes (seenLine st y w p l)) 0 8)
       (asks w p l o n bytes (seenLine st x w p l) (pageFrame st x p)) (asks w p l o n bytes (seenLine st y w p l) (pageFrame st y p)) e
       (λ q.
@@ -161,6 +162,11 @@ module _ {past past′ : List ℕ} (st : State) (x y : List ℕ) (b : Reference)
       → asked (refusal (rowState st ∷ (ltb (length x) (imageLength z), 4) ∷ rowPending st ∷ rows)) st op (replicate 8 0) 0
       ≡ asked (refusal (rowState st ∷ (ltb (length y) (imageLength z), 4) ∷ rowPending st ∷ rows)) st op (replicate 8 0) 0
   rest-same rows op = ap (λ (s : Bool). asked (refusal (rowState st ∷ (s, 4) ∷ rowPending st ∷ rows)) st op (replicate 8 0) 0) short
+
+  withdraw-same : (w : ℕ) → withdrawOf st x w ≡ withdrawOf st y w
+  unfolding withdrawOf
+  withdraw-same w =
+      ap (λ (s : Bool). answered (refusal (rowState st ∷ (s, 4) ∷ rowPending st ∷ confirmRows st w)) st 0 (withWriters st (withPrepared (st .writers) noWriter))) short
 
   -- ---- an event asked for
 
@@ -200,10 +206,14 @@ module _ {past past′ : List ℕ} (st : State) (x y : List ℕ) (b : Reference)
                     refl,
                     refl,
                     λ _. (
-                      bad-same 0 page,
                       refl,
-                      λ _.
-                          (ap (λ (line : List ℕ). amountBad i m (wordAt line 0) a) (meter-same q first (omega (arith, first-low i m (not-false (eventKnown i m) g)))), refl, λ _. (refl, refl, λ _. tt)),
+                      refl,
+                      λ _. (
+                        bad-same 0 page,
+                        refl,
+                        λ _.
+                            (ap (λ (line : List ℕ). amountBad i m (wordAt line 0) a) (meter-same q first (omega (arith, first-low i m (not-false (eventKnown i m) g)))), refl, λ _. (refl, refl, λ _. tt)),
+                      ),
                     ),
                   ),
                 ),
@@ -298,14 +308,17 @@ module _ {past past′ : List ℕ} (st : State) (x y : List ℕ) (b : Reference)
   -- ---- every call
 
   pub call-same : (c : Call) → Same (exec c v) (exec c u)
-  unfolding exec beginOf abortOf commitOf consolidateOf freeOf checkpointOf
+  unfolding exec beginOf abortOf commitOf prepareOf confirmOf consolidateOf freeOf checkpointOf
   call-same mount = mount-same
   call-same checkpoint = by-outcome (rest-same [] Checkpoint)
-  call-same free = by-outcome (rest-same ((leb (z .slots) (freedSlot st), 22) ∷ (journalFull st 1, 19) ∷ []) (Consolidate (freedPage st)))
+  call-same free = by-outcome (rest-same ((somePrepared (st .writers .prepared), 23) ∷ (leb (z .slots) (freedSlot st), 22) ∷ (journalFull st 1, 19) ∷ []) (Consolidate (freedPage st)))
   call-same step = by-outcome step-same
   call-same (begin w) = by-outcome refl
   call-same (abort w) = by-outcome refl
   call-same (commit w) = by-outcome (rest-same (commitRows st w) (Commit w))
+  call-same (prepare w) = by-outcome (rest-same (commitRows st w) (Prepare w))
+  call-same (confirm w) = by-outcome (rest-same (confirmRows st w) (Confirm w))
+  call-same (withdraw w) = by-outcome (withdraw-same w)
   call-same (consolidate p) = by-outcome (rest-same (consolidateRows st p) (Consolidate p))
   call-same (run n) = by-outcome (run-same n)
   call-same (write w p l o n bytes) = by-outcome (write-same w p l o n bytes)
@@ -322,6 +335,9 @@ module _ {past past′ : List ℕ} (st : State) (x y : List ℕ) (b : Reference)
   call-alike (begin w) = same
   call-alike (abort w) = same
   call-alike (commit w) = same
+  call-alike (prepare w) = same
+  call-alike (confirm w) = same
+  call-alike (withdraw w) = same
   call-alike (consolidate p) = same
   call-alike (run n) = runs-alike n
   call-alike (write w p l o n bytes) = same

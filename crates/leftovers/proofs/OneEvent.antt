@@ -12,7 +12,7 @@ use Rattle.bounded.proofs.Tests.{caseOn}
 use Rattle.layout.specs.declared.Sizes.{Sizes}
 use Rattle.state.specs.declared.State.{State}
 use Rattle.state.specs.declared.Op.{Op}
-use Rattle.state.specs.declared.Op.the-variants.{Idle, Write, Commit, Consolidate, Checkpoint, Event}
+use Rattle.state.specs.declared.Op.the-variants.{Idle, Write, Commit, Consolidate, Checkpoint, Event, Prepare, Confirm}
 use Rattle.meters.specs.Meters.{firstMeter, ownMeter}
 use Rattle.operations.specs.Operations.{isIdle, needs}
 use Rattle.refinement.specs.Event.{firstAsked, secondAsked, linesDone, lineStores}
@@ -42,6 +42,8 @@ kindIn (Write w p l o n) = 0
 kindIn (Commit w) = 0
 kindIn (Consolidate p) = 0
 kindIn Checkpoint = 0
+kindIn (Prepare w) = 0
+kindIn (Confirm w) = 0
 
 abbrev meterIn : Op → ℕ
 meterIn (Event k m a) = m
@@ -50,6 +52,8 @@ meterIn (Write w p l o n) = 0
 meterIn (Commit w) = 0
 meterIn (Consolidate p) = 0
 meterIn Checkpoint = 0
+meterIn (Prepare w) = 0
+meterIn (Confirm w) = 0
 
 -- the stores before its last one
 abbrev before : Op → ℕ

@@ -25,27 +25,30 @@ use Rattle.mount.proofs.Dead.{dead-view}
 use Rattle.mount.proofs.Emptied.{unrecorded}
 use Rattle.state.specs.declared.State.{State}
 use Rattle.state.specs.declared.Op.{Op}
-use Rattle.state.specs.declared.Op.the-variants.{Idle, Write, Commit, Consolidate, Checkpoint, Event}
+use Rattle.state.specs.declared.Op.the-variants.{Idle, Write, Commit, Consolidate, Checkpoint, Event, Prepare, Confirm}
 use Rattle.operations.specs.Operations.{needs}
 use Rattle.refinement.specs.Frames.{pageSlot}
-use Rattle.refinement.specs.Commit.{commitRecord}
+use Rattle.operations.proofs.Taken.{CommitTaken}
+use Rattle.refinement.specs.Commit.{commitRecord, commitHead}
 use Rattle.refinement.specs.Consolidate.{copyTo, copyStoreCount, freeingRecord}
 use Rattle.refinement.specs.Stores.{stepped, storeAt, storeValue, storeMade}
 use Rattle.refinement.specs.Calls.{worldOf}
 use Rattle.refinement.specs.Reference.{Reference}
 use Rattle.refinement.proofs.CallMounted.{view-sixteen}
 use Rattle.refinement.proofs.CheckpointMid.{recorded, checkpoint-mid}
-use Rattle.refinement.proofs.CommitMid.{count, commit-names, commit-needs, commit-mid}
+use Rattle.refinement.proofs.CommitMid.{count, commit-pending, commit-names, commit-needs, commit-mid, prepare-mid}
 use Rattle.refinement.proofs.CommitValid.{SameNames}
 use Rattle.refinement.proofs.Copies.{durable-legal, durable-fits}
 use Rattle.refinement.proofs.FreeNames.{slot-kept}
 use Rattle.refinement.proofs.HeaderStore.{header-page}
-use Rattle.refinement.proofs.Invariant.{TakenOnly, Behind, Durable, Doing, Busy}
+use Rattle.refinement.proofs.Invariant.{TakenOnly, Behind, Durable, Writing, Never, Changing, Doing, Busy}
 use Rattle.refinement.proofs.PageSlots.{slotted-of, unslotted-of}
 use Rattle.refinement.proofs.Pending.{pends}
 use Rattle.refinement.proofs.Stepping.{Aside, Mid, store-fits, store-none, page-kept}
 use Rattle.refinement.proofs.StepCheckpoint.{few-made, needed, checkpoint-shows, checkpoint-image}
-use Rattle.refinement.proofs.StepCommit.{commit-shows, image-is}
+use Rattle.refinement.proofs.StepCommit.{commit-shows, records-there, image-is}
+use Rattle.refinement.proofs.StepPrepare.{prepare-left, confirm-pending, records-ready}
+use Rattle.refinement.proofs.Records.{Stored}
 use Rattle.refinement.proofs.StepConsolidate.{some-left, consolidate-between, consolidate-shows, consolidate-page, consolidate-frees, consolidate-image}
 use Rattle.refinement.proofs.Steps.{stepped-image}
 use Rattle.refinement.proofs.WriteMid.{write-mid}
@@ -102,18 +105,19 @@ unslotted-before r z head n e d t g full h names p low none =
 abbrev pub Committed : State → ℕ → List ℕ → List ℕ → Type 0
 Committed st w x y = Leaves (st .sizes) x y (replay (st .sizes) (st .head) (count st w) (commitRecord st w)) (λ p. false) 0
 
-pub commit-leaves : (past : List ℕ) (st : State) (img : List ℕ) (b : Reference) (B : Busy past st img b) (w : ℕ) → st .pending .op ≡ Commit w → st .pending .made ≡ 4 * count st w
-    → Committed st w img (storeMade st img (Commit w) (st .pending .made))
-commit-leaves past st img b B w e last =
+-- head stored, where the records are in the image
+head-leaves : (past : List ℕ) (st : State) (img : List ℕ) (b : Reference) (B : Busy past st img b) → Writing st img b Never → (w : ℕ) → CommitTaken st w → Stored st img w
+    → Committed st w img (store img headWord (commitHead st w))
+head-leaves past st img b B W w T stored =
     let z : Sizes = st .sizes in
     let n : ℕ = count st w in
     let new : ℕ → Record = commitRecord st w in
     let D = B .durable in
     let x : ℕ = position z (st .head) n in
     let before = shown-slots img (D .view) (D .shows) in
-    let after : slotsOf (store img headWord x) ≡ replay z (st .head) n new (D .view .table) = shown-slots (store img headWord x) _ (commit-shows past st img b B w e last) in
-    subst (Committed st w img) (sym (image-is past st img b B w e last))
-    (record {
+    let after : slotsOf (store img headWord x) ≡ replay z (st .head) n new (D .view .table) =
+    shown-slots (store img headWord x) _ (commit-shows past st img b (B .valid) D W w T stored) in
+    record {
       table = after ∙ ap (replay z (st .head) n new) (sym before);
       stored = λ p t. contradicts t refl;
       kept =
@@ -123,7 +127,19 @@ commit-leaves past st img b B w e last =
                 (commit-names st w) p low (ap (λ (u : Table). slotOf z u p) (sym after) ∙ none),
             header-page img z headWord x (omega arith) (durable-fits past st img b D) p,
           );
-    })
+    }
+
+pub commit-leaves : (past : List ℕ) (st : State) (img : List ℕ) (b : Reference) (B : Busy past st img b) (w : ℕ) → st .pending .op ≡ Commit w → st .pending .made ≡ 4 * count st w
+    → Committed st w img (storeMade st img (Commit w) (st .pending .made))
+commit-leaves past st img b B w e last =
+    subst (Committed st w img) (sym (image-is past st img b B w e last))
+    (head-leaves past st img b B (subst (λ (o : Op). Writing st img b (Changing o)) e (B .writers)) w (commit-pending st w (B .valid) e) (records-there past st img b B w e last))
+
+-- the one of a confirm
+confirm-leaves : (past : List ℕ) (st : State) (img : List ℕ) (b : Reference) (B : Busy past st img b) (w : ℕ) → st .pending .op ≡ Confirm w
+    → Committed st w img (storeMade st img (Confirm w) (st .pending .made))
+confirm-leaves past st img b B w e =
+    head-leaves past st img b B (subst (λ (o : Op). Writing st img b (Changing o)) e (B .writers)) w (confirm-pending past st img b B w e) (records-ready past st img b B w e)
 
 -- ---- of a consolidation
 
@@ -215,6 +231,10 @@ module _ (past past′ : List ℕ) (st : State) (x y : List ℕ) (b : Reference)
       (λ t.
       let last : m ≡ c = omega (arith, some-left past st x b B p e, ltb-false m c t) in
       alike-after (consolidate-leaves past st x b B p e last) (consolidate-leaves past′ st y b C p e last) same)
+  next-of (Prepare w) e =
+      let low = prepare-left past st x b B w e in
+      between (Prepare w) (prepare-mid past st x b B w e m low) (prepare-mid past′ st y b C w e m low)
+  next-of (Confirm w) e = alike-after (confirm-leaves past st x b B w e) (confirm-leaves past′ st y b C w e) same
   next-of (Event k i a) e = absurd (subst (Doing st x b) e (B .doing))
   next-of Checkpoint e =
       caseOn (ltb m (3 * recorded st))

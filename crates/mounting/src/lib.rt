@@ -10,13 +10,14 @@ use replay::Table;
 use state::State;
 use state::Writers;
 
-// A state in which no writer is open, next slot is 0 and nothing is pending.
+// A state in which no writer is open or prepared, next slot is 0 and nothing is pending.
 fn quiet_state(z: Sizes, head: usize, tail: usize, table: Table) -> State
     ensures { λ r. ⌜ r ≡ quietState z head tail table ⌝ }
 {
     let writers = Writers {
         opened: [false; 4],
         held: [0; 64],
+        prepared: 4,
     };
     let pending = settled::no_pending();
     State {

@@ -3,7 +3,7 @@ ghost use mathlib.Core.Path.{_≡_};
 ghost use Prim.Native.Nat.{_≤_};
 ghost use lib.ListN.{length};
 ghost use Rattle.layout.specs.Layout.{Legal};
-ghost use Rattle.operations.specs.Operations.{Asked, commitNeeds, copyCount, consolidateNeeds, recordedSlots, checkpointNeeds, needsOf};
+ghost use Rattle.operations.specs.Operations.{Asked, commitNeeds, prepareNeeds, confirmNeeds, copyCount, consolidateNeeds, recordedSlots, checkpointNeeds, needsOf};
 use layout::Sizes;
 use state::Op;
 
@@ -13,6 +13,20 @@ pub fn commit_needs(n: usize) -> usize
     ensures { λ r. ⌜ r ≡ commitNeeds n ⌝ }
 {
     if n == 0 { 0 } else { 4 * n + 1 }
+}
+
+// Those of a prepare, and of a confirm, of n slots.
+pub fn prepare_needs(n: usize) -> usize
+    requires { ⌜ n ≤ 16 ⌝ }
+    ensures { λ r. ⌜ r ≡ prepareNeeds n ⌝ }
+{
+    4 * n
+}
+
+pub fn confirm_needs(n: usize) -> usize
+    ensures { λ r. ⌜ r ≡ confirmNeeds n ⌝ }
+{
+    if n == 0 { 0 } else { 1 }
 }
 
 // How many lines a consolidation copies: those in the spare where they are at most 32, else the others.
@@ -89,5 +103,7 @@ pub fn op_needs<'a>(
             meter: _,
             amount: _,
         } => meters::event_needs(kind),
+        Op::Prepare { writer } => prepare_needs(state::held::held_count(z, held, writer)),
+        Op::Confirm { writer } => confirm_needs(state::held::held_count(z, held, writer)),
     }
 }

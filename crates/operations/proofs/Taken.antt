@@ -3,7 +3,7 @@ use Prim.Native.Nat.{ℕ, zero, suc, _+_, _*_, _<_, _≤_}
 use mathlib.Core.Bool.{Bool, true, false, not, _||_}
 use mathlib.Core.Path.{_≡_, refl}
 use native.Mathlib.Omega.{arith}
-use borrow.Author.Tests.{ltb-true, ltb-false, leb-true, leb-false, eqb-false, not-true, not-false}
+use borrow.Author.Tests.{ltb-true, ltb-false, leb-true, leb-false, eqb-true, eqb-false, not-true, not-false}
 use lib.Dec.{ltb, leb, eqb}
 use lib.ListN.{length}
 use Rattle.bounded.specs.Rows.{refusal}
@@ -13,9 +13,9 @@ use Rattle.layout.specs.declared.Sizes.{Sizes}
 use Rattle.meters.specs.Meters.{eventKnown, firstMeter, ownMeter}
 use Rattle.state.specs.declared.State.{State}
 use Rattle.state.specs.declared.Op.{Op}
-use Rattle.state.specs.declared.Op.the-variants.{Idle, Write, Commit, Consolidate, Checkpoint, Event}
-use Rattle.state.specs.Held.{isOpen, someHold, heldSlots}
-use Rattle.operations.specs.Operations.{live, slotFor, slotted, writeArgsBad, lineTaken, noneFree, frameBad, writeRows, commitRows, consolidateRows, eventFirstRows, opRows, Asked}
+use Rattle.state.specs.declared.Op.the-variants.{Idle, Write, Commit, Consolidate, Checkpoint, Event, Prepare, Confirm}
+use Rattle.state.specs.Held.{isOpen, somePrepared, someHold, heldSlots}
+use Rattle.operations.specs.Operations.{live, slotFor, slotted, writeArgsBad, lineTaken, noneFree, frameBad, writeRows, commitRows, confirmRows, consolidateRows, eventFirstRows, opRows, Asked}
 
 -- row 11 of a write
 pub record ArgsGood (z : Sizes) (w p l o n : ℕ) : Type 0 where
@@ -42,6 +42,7 @@ args-good z w p l o n e =
 pub record WriteTaken (st : State) (w p l o n f : ℕ) : Type 0 where
   pub args : ArgsGood (st .sizes) w p l o n
   pub opened : isOpen (st .writers .opened) w ≡ true
+  pub unprepared : st .writers .prepared ≡ w → ⊥
   pub line-free : lineTaken (st .sizes) (st .writers .held) w (slotFor st p) l ≡ false
   pub some-free : noneFree (st .sizes) (st .table .page) (st .next) (slotFor st p) ≡ false
   pub frame-good : frameBad (st .sizes) (st .table .page) (st .table .original) (st .table .spare) (slotFor st p) f ≡ false
@@ -52,11 +53,13 @@ write-taken st w p l o n f e =
     record {
       args = args-good (st .sizes) w p l o n (h .0);
       opened = not-false (isOpen (st .writers .opened) w) (h .1 .0);
-      line-free = h .1 .1 .0;
-      some-free = h .1 .1 .1 .0;
-      frame-good = h .1 .1 .1 .1 .0;
+      unprepared = eqb-false (st .writers .prepared) w (h .1 .1 .0);
+      line-free = h .1 .1 .1 .0;
+      some-free = h .1 .1 .1 .1 .0;
+      frame-good = h .1 .1 .1 .1 .1 .0;
     }
 
+-- what a commit and a prepared writer have in common
 pub record CommitTaken (st : State) (w : ℕ) : Type 0 where
   pub writer-low : w < 4
   pub opened : isOpen (st .writers .opened) w ≡ true
@@ -68,11 +71,26 @@ commit-taken st w e =
     record {
       writer-low = omega (arith, ltb-false 3 w (h .0));
       opened = not-false (isOpen (st .writers .opened) w) (h .1 .0);
-      fits = ltb-false (st .sizes .places) (live st + length (heldSlots (st .sizes) (st .writers .held) w)) (h .1 .1 .0);
+      fits = ltb-false (st .sizes .places) (live st + length (heldSlots (st .sizes) (st .writers .held) w)) (h .1 .1 .1 .0);
     }
+
+-- a commit, or a prepare, is taken where no writer is prepared
+pub commit-alone : (st : State) (w : ℕ) → refusal (commitRows st w) ≡ 0 → somePrepared (st .writers .prepared) ≡ false
+commit-alone st w e = none-apply (commitRows st w) (omega arith) e .1 .1 .0
+
+-- a confirm by the writer who is
+pub record ConfirmTaken (st : State) (w : ℕ) : Type 0 where
+  pub writer-low : w < 4
+  pub prepared : st .writers .prepared ≡ w
+
+pub confirm-taken : (st : State) (w : ℕ) → refusal (confirmRows st w) ≡ 0 → ConfirmTaken st w
+confirm-taken st w e =
+    let h = none-apply (confirmRows st w) (omega arith) e in
+    record { writer-low = omega (arith, ltb-false 3 w (h .0)); prepared = eqb-true (st .writers .prepared) w (not-false (eqb (st .writers .prepared) w) (h .1 .0)) }
 
 pub record ConsolidateTaken (st : State) (p : ℕ) : Type 0 where
   pub page-low : p < st .sizes .pages
+  pub none-prepared : somePrepared (st .writers .prepared) ≡ false
   pub has-slot : slotted st p ≡ true
   pub none-held : someHold (st .writers .held) (slotFor st p) ≡ false
   pub fits : live st + 1 ≤ st .sizes .places
@@ -82,14 +100,16 @@ consolidate-taken st p e =
     let h = none-apply (consolidateRows st p) (omega arith) e in
     record {
       page-low = leb-false (st .sizes .pages) p (h .0);
-      has-slot = not-false (slotted st p) (h .1 .0);
-      none-held = h .1 .1 .0;
-      fits = ltb-false (st .sizes .places) (live st + 1) (h .1 .1 .1 .0);
+      none-prepared = h .1 .0;
+      has-slot = not-false (slotted st p) (h .1 .1 .0);
+      none-held = h .1 .1 .1 .0;
+      fits = ltb-false (st .sizes .places) (live st + 1) (h .1 .1 .1 .1 .0);
     }
 
 pub record EventTaken (st : State) (k m f : ℕ) : Type 0 where
   pub known : eventKnown k m ≡ true
   pub closed : isOpen (st .writers .opened) 1 ≡ false
+  pub none-prepared : somePrepared (st .writers .prepared) ≡ false
   pub first-free : lineTaken (st .sizes) (st .writers .held) 1 (slotFor st 0) (firstMeter k m) ≡ false
   pub own-free : lineTaken (st .sizes) (st .writers .held) 1 (slotFor st 0) (ownMeter k m) ≡ false
   pub some-free : noneFree (st .sizes) (st .table .page) (st .next) (slotFor st 0) ≡ false
@@ -104,11 +124,12 @@ event-taken st k m a f e =
     record {
       known = not-false (eventKnown k m) (h .0);
       closed = h .1 .0;
-      first-free = or-left first own (h .1 .1 .0);
-      own-free = or-right first own (h .1 .1 .0);
-      some-free = h .1 .1 .1 .0;
-      frame-good = h .1 .1 .1 .1 .0;
-      fits = ltb-false (st .sizes .places) (live st + 1) (h .1 .1 .1 .1 .1 .0);
+      none-prepared = h .1 .1 .0;
+      first-free = or-left first own (h .1 .1 .1 .0);
+      own-free = or-right first own (h .1 .1 .1 .0);
+      some-free = h .1 .1 .1 .1 .0;
+      frame-good = h .1 .1 .1 .1 .1 .0;
+      fits = ltb-false (st .sizes .places) (live st + 1) (h .1 .1 .1 .1 .1 .1 .0);
     }
 
 -- what the count of an operation's stores leans on
@@ -119,6 +140,8 @@ op-asked st (Commit w) f e = commit-taken st w e .writer-low
 op-asked st (Consolidate p) f e = ltb-true (slotFor st p) (st .sizes .slots) (consolidate-taken st p e .has-slot)
 op-asked st Checkpoint f e = tt
 op-asked st (Event k m a) f e = tt
+op-asked st (Prepare w) f e = commit-taken st w e .writer-low
+op-asked st (Confirm w) f e = confirm-taken st w e .writer-low
 
 -- r is the slot that the code found
 pub slot-low : (st : State) (p r : ℕ) → slotted st p ≡ true → r ≡ slotFor st p → r < st .sizes .slots

@@ -15,9 +15,9 @@ use Rattle.masks.specs.Lines.{countLines}
 use Rattle.meters.specs.Meters.{eventKnown, firstMeter, ownMeter, eventNeeds}
 use Rattle.state.specs.declared.State.{State}
 use Rattle.state.specs.declared.Op.{Op}
-use Rattle.state.specs.declared.Op.the-variants.{Idle, Write, Commit, Consolidate, Checkpoint, Event}
+use Rattle.state.specs.declared.Op.the-variants.{Idle, Write, Commit, Consolidate, Checkpoint, Event, Prepare, Confirm}
 use Rattle.state.specs.Slots.{slotOfPage, freeAfter, frameOfSlot}
-use Rattle.state.specs.Held.{isOpen, othersHold, someHold, heldSlots}
+use Rattle.state.specs.Held.{isOpen, somePrepared, othersHold, someHold, heldSlots}
 
 -- no operation
 abbrev pub isIdle : Op → Bool
@@ -27,6 +27,8 @@ isIdle (Commit w) = false
 isIdle (Consolidate p) = false
 isIdle Checkpoint = false
 isIdle (Event k m a) = false
+isIdle (Prepare w) = false
+isIdle (Confirm w) = false
 
 abbrev pub live : State → ℕ
 live st = liveCount (st .sizes) (st .head) (st .tail)
@@ -46,7 +48,7 @@ pub record Ranged (st : State) : Type 0 where
   pub live-high : live st ≤ st .sizes .places
   pub next-low : st .next < st .sizes .slots
 
--- ---- rows 11 to 19; s is the slot of the page, S where it has none
+-- ---- the rows from 11 on; s is the slot of the page, S where it has none; prepared is the writer who is prepared, above 3 where none is
 
 -- 11, without the data
 abbrev pub writeArgsBad : Sizes → ℕ → ℕ → ℕ → ℕ → ℕ → Bool
@@ -72,27 +74,36 @@ journalFullOf z head tail n = ltb (z .places) (liveCount z head tail + n)
 abbrev pub journalFull : State → ℕ → Bool
 journalFull st n = journalFullOf (st .sizes) (st .head) (st .tail) n
 
--- each table takes the parts of a state that it reads; of a write, s is the slot of page p and f its frame
-abbrev pub writeRowsOf : Sizes → ℕ → List ℕ → List ℕ → List ℕ → List Bool → List ℕ → ℕ → ℕ → ℕ → ℕ → ℕ → ℕ → ℕ → List Row
-writeRowsOf z next page original spare opened held w p s l o n f =
+-- each table takes the parts of a state that it reads; of a write, s is the slot of page p and f its frame. 23 (document 02, L8): of a write, its writer
+-- is prepared; of a commit, a prepare, a consolidation or an event, a writer is
+abbrev pub writeRowsOf : Sizes → ℕ → List ℕ → List ℕ → List ℕ → List Bool → List ℕ → ℕ → ℕ → ℕ → ℕ → ℕ → ℕ → ℕ → ℕ → List Row
+writeRowsOf z next page original spare opened held prepared w p s l o n f =
     (writeArgsBad z w p l o n, 11)
     ∷ (not (isOpen opened w), 13)
+    ∷ (eqb prepared w, 23)
     ∷ (lineTaken z held w s l, 14)
     ∷ (noneFree z page next s, 15)
     ∷ (frameBad z page original spare s f, 16)
     ∷ []
 
-abbrev pub commitRowsOf : Sizes → ℕ → ℕ → List Bool → List ℕ → ℕ → List Row
-commitRowsOf z head tail opened held w =
+-- of a commit, and of a prepare, which checks as it does
+abbrev pub commitRowsOf : Sizes → ℕ → ℕ → List Bool → List ℕ → ℕ → ℕ → List Row
+commitRowsOf z head tail opened held prepared w =
     (ltb 3 w, 11)
     ∷ (not (isOpen opened w), 13)
+    ∷ (somePrepared prepared, 23)
     ∷ (journalFullOf z head tail (length (heldSlots z held w)), 19)
     ∷ []
 
+-- of a confirm, and of a withdraw. 24: the writer is not prepared
+abbrev pub confirmRowsOf : ℕ → ℕ → List Row
+confirmRowsOf prepared w = (ltb 3 w, 11) ∷ (not (eqb prepared w), 24) ∷ []
+
 -- 17: the page has no slot; 18: a writer holds a line of it
-abbrev pub consolidateRowsOf : Sizes → ℕ → ℕ → List ℕ → List ℕ → ℕ → List Row
-consolidateRowsOf z head tail page held p =
+abbrev pub consolidateRowsOf : Sizes → ℕ → ℕ → List ℕ → List ℕ → ℕ → ℕ → List Row
+consolidateRowsOf z head tail page held prepared p =
     (leb (z .pages) p, 11)
+    ∷ (somePrepared prepared, 23)
     ∷ (not (ltb (slotOfPage z page p) (z .slots)), 17)
     ∷ (someHold held (slotOfPage z page p), 18)
     ∷ (journalFullOf z head tail 1, 19)
@@ -100,54 +111,67 @@ consolidateRowsOf z head tail page held p =
 
 -- an event's, s being the slot of page 0 and f its frame, without row 21, which row 8 leaves out (document 02, L2). 20: there is no such event;
 -- 12: writer 1 is open; 14: another writer holds one of its lines
-abbrev pub eventFirstRowsOf : Sizes → ℕ → List ℕ → List ℕ → List ℕ → List Bool → List ℕ → ℕ → ℕ → ℕ → ℕ → List Row
-eventFirstRowsOf z next page original spare opened held k m s f =
+abbrev pub eventFirstRowsOf : Sizes → ℕ → List ℕ → List ℕ → List ℕ → List Bool → List ℕ → ℕ → ℕ → ℕ → ℕ → ℕ → List Row
+eventFirstRowsOf z next page original spare opened held prepared k m s f =
     (not (eventKnown k m), 20)
     ∷ (isOpen opened 1, 12)
+    ∷ (somePrepared prepared, 23)
     ∷ (lineTaken z held 1 s (firstMeter k m) || lineTaken z held 1 s (ownMeter k m), 14)
     ∷ (noneFree z page next s, 15)
     ∷ (frameBad z page original spare s f, 16)
     ∷ []
 
-abbrev pub eventRowsOf : Sizes → ℕ → ℕ → ℕ → List ℕ → List ℕ → List ℕ → List Bool → List ℕ → ℕ → ℕ → ℕ → ℕ → List Row
-eventRowsOf z head tail next page original spare opened held k m s f =
-    eventFirstRowsOf z next page original spare opened held k m s f ++ ((journalFullOf z head tail 1, 19) ∷ [])
+abbrev pub eventRowsOf : Sizes → ℕ → ℕ → ℕ → List ℕ → List ℕ → List ℕ → List Bool → List ℕ → ℕ → ℕ → ℕ → ℕ → ℕ → List Row
+eventRowsOf z head tail next page original spare opened held prepared k m s f =
+    eventFirstRowsOf z next page original spare opened held prepared k m s f ++ ((journalFullOf z head tail 1, 19) ∷ [])
 
 -- the rows of an operation, of a write or an event with the page's frame f
-abbrev pub opRowsOf : Sizes → ℕ → ℕ → ℕ → List ℕ → List ℕ → List ℕ → List Bool → List ℕ → Op → ℕ → List Row
-opRowsOf z head tail next page original spare opened held Idle f = []
-opRowsOf z head tail next page original spare opened held (Write w p l o n) f =
-    writeRowsOf z next page original spare opened held w p (slotOfPage z page p) l o n f
-opRowsOf z head tail next page original spare opened held (Commit w) f = commitRowsOf z head tail opened held w
-opRowsOf z head tail next page original spare opened held (Consolidate p) f = consolidateRowsOf z head tail page held p
-opRowsOf z head tail next page original spare opened held Checkpoint f = []
-opRowsOf z head tail next page original spare opened held (Event k m a) f =
-    eventRowsOf z head tail next page original spare opened held k m (slotOfPage z page 0) f
+abbrev pub opRowsOf : Sizes → ℕ → ℕ → ℕ → List ℕ → List ℕ → List ℕ → List Bool → List ℕ → ℕ → Op → ℕ → List Row
+opRowsOf z head tail next page original spare opened held prepared Idle f = []
+opRowsOf z head tail next page original spare opened held prepared (Write w p l o n) f =
+    writeRowsOf z next page original spare opened held prepared w p (slotOfPage z page p) l o n f
+opRowsOf z head tail next page original spare opened held prepared (Commit w) f = commitRowsOf z head tail opened held prepared w
+opRowsOf z head tail next page original spare opened held prepared (Consolidate p) f = consolidateRowsOf z head tail page held prepared p
+opRowsOf z head tail next page original spare opened held prepared Checkpoint f = []
+opRowsOf z head tail next page original spare opened held prepared (Event k m a) f =
+    eventRowsOf z head tail next page original spare opened held prepared k m (slotOfPage z page 0) f
+opRowsOf z head tail next page original spare opened held prepared (Prepare w) f = commitRowsOf z head tail opened held prepared w
+opRowsOf z head tail next page original spare opened held prepared (Confirm w) f = confirmRowsOf prepared w
 
 -- the same of a state
 abbrev pub writeRows : State → ℕ → ℕ → ℕ → ℕ → ℕ → ℕ → List Row
 writeRows st w p l o n f =
-    writeRowsOf (st .sizes) (st .next) (st .table .page) (st .table .original) (st .table .spare) (st .writers .opened) (st .writers .held) w p (slotFor st p) l o n f
+    writeRowsOf (st .sizes) (st .next) (st .table .page) (st .table .original) (st .table .spare) (st .writers .opened) (st .writers .held) (st .writers .prepared) w p (slotFor st p) l o n f
 
 abbrev pub commitRows : State → ℕ → List Row
-commitRows st w = commitRowsOf (st .sizes) (st .head) (st .tail) (st .writers .opened) (st .writers .held) w
+commitRows st w = commitRowsOf (st .sizes) (st .head) (st .tail) (st .writers .opened) (st .writers .held) (st .writers .prepared) w
+
+abbrev pub confirmRows : State → ℕ → List Row
+confirmRows st w = confirmRowsOf (st .writers .prepared) w
 
 abbrev pub consolidateRows : State → ℕ → List Row
-consolidateRows st p = consolidateRowsOf (st .sizes) (st .head) (st .tail) (st .table .page) (st .writers .held) p
+consolidateRows st p = consolidateRowsOf (st .sizes) (st .head) (st .tail) (st .table .page) (st .writers .held) (st .writers .prepared) p
 
 abbrev pub eventFirstRows : State → ℕ → ℕ → ℕ → List Row
 eventFirstRows st k m f =
-    eventFirstRowsOf (st .sizes) (st .next) (st .table .page) (st .table .original) (st .table .spare) (st .writers .opened) (st .writers .held) k m (slotFor st 0) f
+    eventFirstRowsOf (st .sizes) (st .next) (st .table .page) (st .table .original) (st .table .spare) (st .writers .opened) (st .writers .held) (st .writers .prepared) k m (slotFor st 0) f
 
 abbrev pub opRows : State → Op → ℕ → List Row
 opRows st op f =
-    opRowsOf (st .sizes) (st .head) (st .tail) (st .next) (st .table .page) (st .table .original) (st .table .spare) (st .writers .opened) (st .writers .held) op f
+    opRowsOf (st .sizes) (st .head) (st .tail) (st .next) (st .table .page) (st .table .original) (st .table .spare) (st .writers .opened) (st .writers .held) (st .writers .prepared) op f
 
 -- ---- stores needed
 
 -- n slots with held lines need 4 n + 1; none held, none needed
 abbrev pub commitNeeds : ℕ → ℕ
 commitNeeds n = cond (eqb n 0) 0 (4 * n + 1)
+
+-- their records alone need 4 n, and head behind them 1; none held, none needed
+abbrev pub prepareNeeds : ℕ → ℕ
+prepareNeeds n = 4 * n
+
+abbrev pub confirmNeeds : ℕ → ℕ
+confirmNeeds n = cond (eqb n 0) 0 1
 
 -- c lines copied: the k in the spare where k ≤ 32, else the 64 − k others; 8 c + 6
 unfoldable pub copyCount : ℕ → ℕ
@@ -171,6 +195,8 @@ needsOf z head tail page bitmap last held (Commit w) = commitNeeds (length (held
 needsOf z head tail page bitmap last held (Consolidate p) = consolidateNeeds (getD bitmap (slotOfPage z page p) 0)
 needsOf z head tail page bitmap last held Checkpoint = checkpointNeeds head tail (length (recordedSlots z last))
 needsOf z head tail page bitmap last held (Event k m a) = eventNeeds k
+needsOf z head tail page bitmap last held (Prepare w) = prepareNeeds (length (heldSlots z held w))
+needsOf z head tail page bitmap last held (Confirm w) = confirmNeeds (length (heldSlots z held w))
 
 unfoldable pub needs : State → Op → ℕ
 needs st op = needsOf (st .sizes) (st .head) (st .tail) (st .table .page) (st .table .bitmap) (st .table .last) (st .writers .held) op
@@ -183,3 +209,5 @@ Asked z page (Commit w) = w < 4
 Asked z page (Consolidate p) = slotOfPage z page p < z .slots
 Asked z page Checkpoint = Unit {0}
 Asked z page (Event k m a) = Unit {0}
+Asked z page (Prepare w) = w < 4
+Asked z page (Confirm w) = w < 4

@@ -5,7 +5,7 @@ ghost use Rattle.bounded.specs.Rows.{refusal};
 ghost use Rattle.layout.specs.Layout.{Legal};
 ghost use Rattle.journal.specs.Records.{liveCount};
 ghost use Rattle.state.specs.Slots.{slotOfPage};
-ghost use Rattle.operations.specs.Operations.{isIdle, writeArgsBad, lineTaken, noneFree, frameBad, journalFullOf, writeRowsOf, commitRowsOf, consolidateRowsOf, eventFirstRowsOf, eventRowsOf, opRowsOf};
+ghost use Rattle.operations.specs.Operations.{isIdle, writeArgsBad, lineTaken, noneFree, frameBad, journalFullOf, writeRowsOf, commitRowsOf, confirmRowsOf, consolidateRowsOf, eventFirstRowsOf, eventRowsOf, opRowsOf};
 use layout::Sizes;
 use state::Op;
 
@@ -30,6 +30,8 @@ pub fn is_idle(op: Op) -> bool
             meter: _,
             amount: _,
         } => false,
+        Op::Prepare { writer: _ } => false,
+        Op::Confirm { writer: _ } => false,
     }
 }
 
@@ -105,6 +107,7 @@ pub fn write_row<'a>(
     spare: &'a [usize; 16],
     opened: &'a [bool; 4],
     held: &'a [u64; 64],
+    prepared: usize,
     writer: usize,
     p: usize,
     s: usize,
@@ -114,13 +117,16 @@ pub fn write_row<'a>(
     frame: usize,
 ) -> usize
     requires { ⌜ Legal z × (next < z .slots) ⌝ }
-    ensures { λ r. ⌜ r ≡ refusal (writeRowsOf z next (now (page .entry)) (now (original .entry)) (now (spare .entry)) (now (opened .entry)) (now (held .entry)) writer p s line offset length frame) ⌝ }
+    ensures { λ r. ⌜ r ≡ refusal (writeRowsOf z next (now (page .entry)) (now (original .entry)) (now (spare .entry)) (now (opened .entry)) (now (held .entry)) prepared writer p s line offset length frame) ⌝ }
 {
     if write_args_bad(z, writer, p, line, offset, length) {
         return 11;
     }
     if !state::held::is_open(opened, writer) {
         return 13;
+    }
+    if prepared == writer {
+        return 23;
     }
     if line_taken(z, held, writer, s, line) {
         return 14;
@@ -134,17 +140,18 @@ pub fn write_row<'a>(
     0
 }
 
-// The first row from 11 on that turns a commit back.
+// The first row from 11 on that turns a commit or a prepare back.
 pub fn commit_row<'a>(
     z: Sizes,
     head: usize,
     tail: usize,
     opened: &'a [bool; 4],
     held: &'a [u64; 64],
+    prepared: usize,
     writer: usize,
 ) -> usize
     requires { ⌜ Legal z × (head < 2 * z .places) × (tail < 2 * z .places) × (liveCount z head tail ≤ z .places) ⌝ }
-    ensures { λ r. ⌜ r ≡ refusal (commitRowsOf z head tail (now (opened .entry)) (now (held .entry)) writer) ⌝ }
+    ensures { λ r. ⌜ r ≡ refusal (commitRowsOf z head tail (now (opened .entry)) (now (held .entry)) prepared writer) ⌝ }
 {
     if writer > 3 {
         return 11;
@@ -152,9 +159,25 @@ pub fn commit_row<'a>(
     if !state::held::is_open(opened, writer) {
         return 13;
     }
+    if prepared < 4 {
+        return 23;
+    }
     let n = state::held::held_count(z, held, writer);
     if z.places < journal::records::live_count(z, head, tail) + n {
         return 19;
+    }
+    0
+}
+
+// The first row from 11 on that turns a confirm or a withdraw back.
+pub fn confirm_row(prepared: usize, writer: usize) -> usize
+    ensures { λ r. ⌜ r ≡ refusal (confirmRowsOf prepared writer) ⌝ }
+{
+    if writer > 3 {
+        return 11;
+    }
+    if prepared != writer {
+        return 24;
     }
     0
 }
@@ -166,13 +189,17 @@ pub fn consolidate_row<'a>(
     tail: usize,
     page: &'a [usize; 16],
     held: &'a [u64; 64],
+    prepared: usize,
     p: usize,
 ) -> usize
     requires { ⌜ Legal z × (head < 2 * z .places) × (tail < 2 * z .places) × (liveCount z head tail ≤ z .places) ⌝ }
-    ensures { λ r. ⌜ r ≡ refusal (consolidateRowsOf z head tail (now (page .entry)) (now (held .entry)) p) ⌝ }
+    ensures { λ r. ⌜ r ≡ refusal (consolidateRowsOf z head tail (now (page .entry)) (now (held .entry)) prepared p) ⌝ }
 {
     if z.pages <= p {
         return 11;
+    }
+    if prepared < 4 {
+        return 23;
     }
     let s = state::slots::slot_of(z, page, p);
     if z.slots <= s {
@@ -204,19 +231,23 @@ pub fn event_first_row<'a>(
     spare: &'a [usize; 16],
     opened: &'a [bool; 4],
     held: &'a [u64; 64],
+    prepared: usize,
     kind: usize,
     meter: usize,
     s: usize,
     frame: usize,
 ) -> usize
     requires { ⌜ Legal z × (next < z .slots) ⌝ }
-    ensures { λ r. ⌜ r ≡ refusal (eventFirstRowsOf z next (now (page .entry)) (now (original .entry)) (now (spare .entry)) (now (opened .entry)) (now (held .entry)) kind meter s frame) ⌝ }
+    ensures { λ r. ⌜ r ≡ refusal (eventFirstRowsOf z next (now (page .entry)) (now (original .entry)) (now (spare .entry)) (now (opened .entry)) (now (held .entry)) prepared kind meter s frame) ⌝ }
 {
     if !meters::is_known(kind, meter) {
         return 20;
     }
     if state::held::is_open(opened, 1) {
         return 12;
+    }
+    if prepared < 4 {
+        return 23;
     }
     let first = line_taken(z, held, 1, s, meters::first_meter(kind, meter));
     if first | line_taken(z, held, 1, s, meters::own_meter(kind, meter)) {
@@ -242,12 +273,13 @@ fn event_row<'a>(
     spare: &'a [usize; 16],
     opened: &'a [bool; 4],
     held: &'a [u64; 64],
+    prepared: usize,
     kind: usize,
     meter: usize,
     frame: usize,
 ) -> usize
     requires { ⌜ Legal z × (head < 2 * z .places) × (tail < 2 * z .places) × (liveCount z head tail ≤ z .places) × (next < z .slots) ⌝ }
-    ensures { λ r. ⌜ r ≡ refusal (eventRowsOf z head tail next (now (page .entry)) (now (original .entry)) (now (spare .entry)) (now (opened .entry)) (now (held .entry)) kind meter (slotOfPage z (now (page .entry)) 0) frame) ⌝ }
+    ensures { λ r. ⌜ r ≡ refusal (eventRowsOf z head tail next (now (page .entry)) (now (original .entry)) (now (spare .entry)) (now (opened .entry)) (now (held .entry)) prepared kind meter (slotOfPage z (now (page .entry)) 0) frame) ⌝ }
 {
     let s = state::slots::slot_of(z, page, 0);
     let row = event_first_row(
@@ -258,6 +290,7 @@ fn event_row<'a>(
         spare,
         opened,
         held,
+        prepared,
         kind,
         meter,
         s,
@@ -283,11 +316,12 @@ pub fn op_row<'a>(
     spare: &'a [usize; 16],
     opened: &'a [bool; 4],
     held: &'a [u64; 64],
+    prepared: usize,
     op: Op,
     frame: usize,
 ) -> usize
     requires { ⌜ Legal z × (head < 2 * z .places) × (tail < 2 * z .places) × (liveCount z head tail ≤ z .places) × (next < z .slots) ⌝ }
-    ensures { λ r. ⌜ r ≡ refusal (opRowsOf z head tail next (now (page .entry)) (now (original .entry)) (now (spare .entry)) (now (opened .entry)) (now (held .entry)) op frame) ⌝ }
+    ensures { λ r. ⌜ r ≡ refusal (opRowsOf z head tail next (now (page .entry)) (now (original .entry)) (now (spare .entry)) (now (opened .entry)) (now (held .entry)) prepared op frame) ⌝ }
 {
     match op {
         Op::Idle => 0,
@@ -307,6 +341,7 @@ pub fn op_row<'a>(
                 spare,
                 opened,
                 held,
+                prepared,
                 writer,
                 p,
                 s,
@@ -316,8 +351,8 @@ pub fn op_row<'a>(
                 frame,
             )
         }
-        Op::Commit { writer } => commit_row(z, head, tail, opened, held, writer),
-        Op::Consolidate { page: p } => consolidate_row(z, head, tail, page, held, p),
+        Op::Commit { writer } => commit_row(z, head, tail, opened, held, prepared, writer),
+        Op::Consolidate { page: p } => consolidate_row(z, head, tail, page, held, prepared, p),
         Op::Checkpoint => 0,
         Op::Event {
             kind,
@@ -333,9 +368,12 @@ pub fn op_row<'a>(
             spare,
             opened,
             held,
+            prepared,
             kind,
             meter,
             frame,
         ),
+        Op::Prepare { writer } => commit_row(z, head, tail, opened, held, prepared, writer),
+        Op::Confirm { writer } => confirm_row(prepared, writer),
     }
 }

@@ -11,7 +11,7 @@ use Rattle.layout.specs.Layout.{imageLength}
 use Rattle.state.specs.declared.State.{State}
 use Rattle.state.specs.declared.Pending.{Pending}
 use Rattle.state.specs.declared.Op.{Op}
-use Rattle.state.specs.declared.Op.the-variants.{Idle, Write, Commit, Consolidate, Checkpoint, Event}
+use Rattle.state.specs.declared.Op.the-variants.{Idle, Write, Commit, Consolidate, Checkpoint, Event, Prepare, Confirm}
 use Rattle.operations.specs.Operations.{Ranged, isIdle, opRows, needs}
 use Rattle.validity.specs.Validity.{stateOk}
 use Rattle.refinement.specs.Commit.{commitRecordOf}
@@ -33,6 +33,8 @@ completed-pending st line (Commit w) n i = refl
 completed-pending st line (Consolidate p) n i = absurd (consolidate-needs st p n)
 completed-pending st line Checkpoint n i = refl
 completed-pending st line (Event k m a) n i = absurd (event-needs st k m a n)
+completed-pending st line (Prepare w) n i = refl
+completed-pending st line (Confirm w) n i = refl
 
 abbrev zeros : List ℕ
 zeros = replicate 8 0

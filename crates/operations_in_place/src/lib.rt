@@ -42,6 +42,7 @@ fn ask(
         last,
         opened,
         held,
+        at.prepared,
         idle,
         op,
         n,
@@ -65,6 +66,7 @@ fn ask(
             last,
             opened,
             held,
+            at.prepared,
             pending,
         );
         return Went {

@@ -5,7 +5,7 @@ use mathlib.Core.List.{List}
 use lib.Dec.{leb, eqb}
 use lib.ListN.{getD, set, replicate}
 use Rattle.words.specs.Words.{leOf, bytesOf}
-use Rattle.state.specs.declared.Op.the-variants.{Idle, Write, Commit, Consolidate, Checkpoint, Event}
+use Rattle.state.specs.declared.Op.the-variants.{Idle, Write, Commit, Consolidate, Checkpoint, Event, Prepare, Confirm}
 use Rattle.state.specs.declared.Op.{Op}
 use Rattle.state.specs.declared.Pending.{Pending}
 use Rattle.state.specs.declared.State.{State}
@@ -45,6 +45,8 @@ isWrite (Commit w) = false
 isWrite (Consolidate p) = false
 isWrite Checkpoint = false
 isWrite (Event k m a) = false
+isWrite (Prepare w) = false
+isWrite (Confirm w) = false
 
 -- the words of a line with its byte i set to v
 abbrev pub withLineByte : List ℕ → ℕ → ℕ → List ℕ

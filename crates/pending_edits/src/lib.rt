@@ -93,6 +93,8 @@ fn is_write(op: Op) -> bool
             meter: _,
             amount: _,
         } => false,
+        Op::Prepare { writer: _ } => false,
+        Op::Confirm { writer: _ } => false,
     }
 }
 

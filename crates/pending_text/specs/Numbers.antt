@@ -3,7 +3,7 @@ use Prim.Native.Nat.{ℕ}
 use mathlib.Core.List.{List, [], _∷_, _++_}
 use lib.ListN.{getD}
 use Rattle.words.specs.Words.{bytesOf}
-use Rattle.state.specs.declared.Op.the-variants.{Idle, Write, Commit, Consolidate, Checkpoint, Event}
+use Rattle.state.specs.declared.Op.the-variants.{Idle, Write, Commit, Consolidate, Checkpoint, Event, Prepare, Confirm}
 use Rattle.state.specs.declared.Op.{Op}
 use Rattle.state.specs.declared.Pending.{Pending}
 use Rattle.number_text.specs.Text.{each}
@@ -15,8 +15,10 @@ opNumbers (Write w p l o n) made frame = 1 ∷ w ∷ p ∷ l ∷ o ∷ n ∷ mad
 opNumbers (Commit w) made frame = 2 ∷ w ∷ 0 ∷ 0 ∷ 0 ∷ 0 ∷ made ∷ 0 ∷ []
 opNumbers (Consolidate p) made frame = 3 ∷ p ∷ 0 ∷ 0 ∷ 0 ∷ 0 ∷ made ∷ 0 ∷ []
 opNumbers Checkpoint made frame = 4 ∷ 0 ∷ 0 ∷ 0 ∷ 0 ∷ 0 ∷ made ∷ 0 ∷ []
--- no line of probe makes an event; one that is pending has kind, meter and amount
+-- no line of probe makes an event, a prepare or a confirm; an event that is pending has kind, meter and amount, the others their writer
 opNumbers (Event k m a) made frame = 5 ∷ k ∷ m ∷ a ∷ 0 ∷ 0 ∷ made ∷ frame ∷ []
+opNumbers (Prepare w) made frame = 6 ∷ w ∷ 0 ∷ 0 ∷ 0 ∷ 0 ∷ made ∷ 0 ∷ []
+opNumbers (Confirm w) made frame = 7 ∷ w ∷ 0 ∷ 0 ∷ 0 ∷ 0 ∷ made ∷ 0 ∷ []
 
 -- the 64 bytes of a line of words
 abbrev pub lineBytes : List ℕ → ℕ → List ℕ
@@ -33,6 +35,8 @@ finishedNumbers (Commit w) words = []
 finishedNumbers (Consolidate p) words = []
 finishedNumbers Checkpoint words = []
 finishedNumbers (Event k m a) words = []
+finishedNumbers (Prepare w) words = []
+finishedNumbers (Confirm w) words = []
 
 abbrev pub pendingNumbers : Pending → List ℕ
 pendingNumbers p = opNumbers (p .op) (p .made) (p .frame) ++ finishedNumbers (p .op) (p .line)

@@ -38,6 +38,8 @@ fn op_numbers(op: Op, made: usize, frame: usize) -> [u64; 8]
             meter,
             amount,
         } => [5, kind as u64, meter as u64, amount, 0, 0, m, frame as u64],
+        Op::Prepare { writer } => [6, writer as u64, 0, 0, 0, 0, m, 0],
+        Op::Confirm { writer } => [7, writer as u64, 0, 0, 0, 0, m, 0],
     }
 }
 
@@ -101,6 +103,8 @@ fn put_finished(out: &mut [u8], at: usize, op: Op, line: [u64; 8]) -> usize
             meter: _,
             amount: _,
         } => at,
+        Op::Prepare { writer: _ } => at,
+        Op::Confirm { writer: _ } => at,
     }
 }
 

@@ -31,6 +31,7 @@ pub fn read(
         &st.table.last,
         &st.writers.opened,
         &st.writers.held,
+        st.writers.prepared,
         st.pending,
         image.len(),
         false,

@@ -7,8 +7,8 @@ use state::State;
 // Calls with their writer, page and line, an event with its kind, meter and amount. Writers 3 and 1 hold lines 5 and 6 of page 1; then 0 and 3 want
 // line 6, and 0 line 5 and another page, and pages 1 and 0 are to be consolidated and a slot freed. Then come an unknown event and bets: writer 1 is
 // open, there is no slot, writer 0 holds credit's line and 2 the bet's, 2 the bet's alone; then there is no credit to cash out, and of two counts the
-// second has no room.
-const CALLS: [[usize; 4]; 29] = [
+// second has no room. At last writer 0, who holds nothing, is prepared: what others and it may not do then; and writer 2's records have no room.
+const CALLS: [[usize; 4]; 41] = [
     [wording::BEGIN, 3, 0, 0],
     [wording::BEGIN, 1, 0, 0],
     [wording::BEGIN, 0, 0, 0],
@@ -38,6 +38,18 @@ const CALLS: [[usize; 4]; 29] = [
     [wording::EVENT, 2, 0, 1],
     [wording::EVENT, 5, 5, 1],
     [wording::EVENT, 5, 5, 1],
+    [wording::BEGIN, 0, 0, 0],
+    [wording::PREPARE, 0, 0, 0],
+    [wording::PREPARE, 2, 0, 0],
+    [wording::ABORT, 0, 0, 0],
+    [wording::WRITE, 0, 0, 9],
+    [wording::CONSOLIDATE, 0, 0, 0],
+    [wording::FREE_SLOT, 0, 0, 0],
+    [wording::EVENT, 5, 5, 1],
+    [wording::CONFIRM, 2, 0, 0],
+    [wording::WITHDRAW, 2, 0, 0],
+    [wording::WITHDRAW, 0, 0, 0],
+    [wording::PREPARE, 2, 0, 0],
 ];
 
 // Makes a call.
@@ -48,6 +60,9 @@ fn make(st: State, image: &[u8], row: &[usize; 4]) -> Done {
         wording::WRITE => transactions::write(st, image, row[1], row[2], row[3], 0, 1, b"x"),
         wording::CONSOLIDATE => transactions::consolidate(st, image, row[2]),
         wording::EVENT => events::event(st, image, row[1], row[2], row[3] as u64),
+        wording::PREPARE => preparing::prepare(st, image, row[1]),
+        wording::CONFIRM => preparing::confirm(st, image, row[1]),
+        wording::WITHDRAW => preparing::withdraw(st, image, row[1]),
         _ => freeing::free_slot(st, image),
     }
 }
@@ -83,7 +98,7 @@ pub fn show_met() {
         places: 2,
     };
     let mut st = mounting::format(&mut image, z).state;
-    for k in 0..29 {
+    for k in 0..41 {
         let row = CALLS[k];
         let done = make(st, &image, &row);
         tell(done, &row);

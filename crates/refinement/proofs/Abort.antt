@@ -26,6 +26,7 @@ use Rattle.refinement.specs.Reference.{Reference, emptied}
 use Rattle.refinement.proofs.Invariant.{holds, Writing, Never, Quiet, Related}
 use Rattle.refinement.proofs.Sound.{Sound, answered-kept, is-quiet}
 use Rattle.refinement.proofs.Keeps.{durable-kept}
+use Rattle.refinement.proofs.Records.{stored-same}
 
 abbrev pub closed : State → ℕ → State
 closed st w = withWriters st (closedWriter (st .sizes) (st .writers) w)
@@ -51,8 +52,10 @@ module _ (st : State) (w : ℕ) (legal : Legal (st .sizes)) where
       (λ e. rw (eqb-true v w e, closed-holds (st .sizes) legal (st .writers) w s l) k)
       (λ e. rw (others-hold (st .sizes) legal (st .writers) w v s l (eqb-false v w e)) h)
 
-aborted-writers : (st : State) (img : List ℕ) (b : Reference) (w : ℕ) → Legal (st .sizes) → Writing st img b Never → Writing (closed st w) img (emptied w b) Never
-aborted-writers st img b w legal ws =
+aborted-writers : (st : State) (img : List ℕ) (b : Reference) (w : ℕ) → Legal (st .sizes) → (st .writers .prepared ≡ w → ⊥) → Writing st img b Never
+    → Writing (closed st w) img (emptied w b) Never
+unfolding closedWriter
+aborted-writers st img b w legal other ws =
     record {
       four = closed-opened-length (st .sizes) legal (st .writers) w ∙ ws .four;
       sixty-four = closed-held-length (st .sizes) legal (st .writers) w ∙ ws .sixty-four;
@@ -65,15 +68,18 @@ aborted-writers st img b w legal ws =
           caseOn (eqb v w)
           (λ e. rw e)
           (λ e. rw e (ws .no-writes v p l i k h m j (sym (holds-other st w legal v p l (eqb-false v w e)) ∙ t)));
+      ready = λ l.
+          stored-same (st .sizes) (st .head) (st .table) (st .table) (st .writers .held) (closedWriter (st .sizes) (st .writers) w .held) (st .writers .prepared)
+          (λ s k. others-hold (st .sizes) legal (st .writers) w (st .writers .prepared) s k other) (λ s k n. refl) img (ws .ready l);
     }
 
-pub aborted : {past : List ℕ} (st : State) (img : List ℕ) (b : Reference) (w : ℕ) → stateOk (closed st w) ≡ true → Quiet past st img b → Quiet past (closed st w) img (emptied w b)
-aborted st img b w e q =
+pub aborted : {past : List ℕ} (st : State) (img : List ℕ) (b : Reference) (w : ℕ) → stateOk (closed st w) ≡ true → (st .writers .prepared ≡ w → ⊥) → Quiet past st img b → Quiet past (closed st w) img (emptied w b)
+aborted st img b w e other q =
     record {
       valid = e;
       pending = q .pending;
       durable = durable-kept st img b (emptied w b) (st .next) (closedWriter (st .sizes) (st .writers) w) (st .pending) (λ p l h k. refl) (q .durable);
-      writers = aborted-writers st img b w (valid st (q .valid) .legal) (q .writers);
+      writers = aborted-writers st img b w (valid st (q .valid) .legal) other (q .writers);
       work = q .work;
     }
 
@@ -85,5 +91,5 @@ abort-sound w v b h =
     answered-kept (abort w) v b (refusal (abortRows st w)) 0 (closed st w) h
     (λ e.
     let q = is-quiet st (v .image) b h (ap not (abort-taken st w e .quiet)) in
-    record { sizes = refl; related = inl (aborted st (v .image) b w (abort-valid st w e) q) }) in
+    record { sizes = refl; related = inl (aborted st (v .image) b w (abort-valid st w e) (abort-taken st w e .unprepared) q) }) in
     record { right = tt; sizes = a .sizes; related = a .related }

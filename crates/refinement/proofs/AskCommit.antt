@@ -21,13 +21,14 @@ use Rattle.journal.proofs.Ring.{pos-none}
 use Rattle.masks.proofs.Members.{in-none}
 use Rattle.state.specs.declared.State.{State}
 use Rattle.state.specs.declared.Op.the-variants.{Commit}
-use Rattle.state.specs.Held.{heldAt, heldSlots}
+use Rattle.state.specs.Held.{noWriter, heldAt, heldSlots}
 use Rattle.operations.specs.Operations.{slotFor, slotted, needs, commitRows}
 use Rattle.validity.specs.Validity.{stateOk}
-use Rattle.operations.proofs.Taken.{commit-taken}
+use Rattle.operations.proofs.Taken.{CommitTaken, commit-taken}
 use Rattle.refinement.specs.Commit.{commitSlots, commitHead, commitTable, commitRecord, closedWriter}
+use Rattle.refinement.specs.Settled.{withPrepared}
 use Rattle.refinement.specs.Stores.{World, completed}
-use Rattle.refinement.proofs.CommitValid.{commit-valid}
+use Rattle.refinement.proofs.CommitValid.{committed-valid}
 use Rattle.refinement.proofs.StateValid.{valid}
 use Rattle.refinement.specs.Calls.{commitCallRows, commitOf}
 use Rattle.refinement.specs.Run.{commit, exec}
@@ -35,8 +36,9 @@ use Rattle.refinement.specs.Reference.{Reference, Cell, laidOver, commit
 use Rattle.refinement.proofs.Invariant.{Quiet, Related, holds}
 use Rattle.refinement.proofs.Abort.{closed, aborted}
 use Rattle.refinement.proofs.Asked.{all-left, asked-busy, asked-after}
-use Rattle.refinement.proofs.Keeps.{quiet-pages}
-use Rattle.refinement.proofs.Sound.{Sound, is-quiet}
+use Rattle.refinement.proofs.Begun.{unprepared, unprepared-valid}
+use Rattle.refinement.proofs.Keeps.{durable-kept, quiet-pages}
+use Rattle.refinement.proofs.Sound.{Sound, is-quiet, quiet-idle}
 
 -- no slot with held lines: every mask is empty
 unheld : (z : Sizes) (held : List ℕ) (w : ℕ) → length (heldSlots z held w) ≡ 0 → (s : ℕ) → s < z .slots → heldAt held w s ≡ 0
@@ -53,14 +55,26 @@ none-needed st w e =
     let n : ℕ = length (commitSlots st w) in
     caseOn (eqb n 0) (λ t. eqb-true n 0 t) (λ t. absurd (omega (arith, rw t at e)))
 
-module _ {past : List ℕ} (st : State) (img : List ℕ) (b : Reference) (w : ℕ) (row : refusal (commitRows st w) ≡ 0) (q : Quiet past st img b) (empty : length (commitSlots st w) ≡ 0) where
+-- no writer is prepared any more
+pub unprepared-quiet : {past : List ℕ} (st : State) (img : List ℕ) (b : Reference) → Quiet past st img b → Quiet past (unprepared st) img b
+unprepared-quiet st img b q =
+    let ws = q .writers in
+    record {
+      valid = unprepared-valid st (q .valid) (quiet-idle st img b q);
+      pending = q .pending;
+      durable = durable-kept st img b b (st .next) (withPrepared (st .writers) noWriter) (st .pending) (λ p l h k. refl) (q .durable);
+      writers = record { four = ws .four; sixty-four = ws .sixty-four; held-low = ws .held-low; own-copy = ws .own-copy; no-writes = ws .no-writes; ready = λ l. absurd (omega arith) };
+      work = q .work;
+    }
+
+module _ {past : List ℕ} (st : State) (img : List ℕ) (b : Reference) (w : ℕ) (T : CommitTaken st w) (q : Quiet past st img b) (empty : length (commitSlots st w) ≡ 0) where
   none-holds : (p l : ℕ) → holds st w p l ≡ false
   none-holds p l =
       caseOn (slotted st p)
       (λ t. rw (t, unheld (st .sizes) (st .writers .held) w empty (slotFor st p) (ltb-true (slotFor st p) (st .sizes .slots) t)) (in-none l))
       (λ t. rw t)
 
-  -- the state is as after an abort
+  -- the state is as after a withdraw and an abort
   same-table : commitTable st w ≡ st .table
   unfolding replay upTo
   same-table = ap (λ (n : ℕ). replay (st .sizes) (st .head) n (commitRecord st w) (st .table)) empty
@@ -68,22 +82,24 @@ module _ {past : List ℕ} (st : State) (img : List ℕ) (b : Reference) (w : �
   same-head : commitHead st w ≡ st .head
   same-head = ap (position (st .sizes) (st .head)) empty ∙ pos-none (st .sizes) (st .head) (valid st (q .valid) .positions .head-low)
 
-  as-aborted : closed st w ≡ completed st (Commit w)
+  as-aborted : closed (unprepared st) w ≡ completed st (Commit w)
+  unfolding closedWriter
   as-aborted =
       let e₁ = same-head in
       let e₂ = same-table in
       let e₃ = q .pending in
-      sym (λ i. record { sizes = st .sizes; head = e₁ i; tail = st .tail; next = st .next; table = e₂ i; writers = closedWriter (st .sizes) (st .writers) w; pending = sym e₃ i })
+      sym (λ i. record { sizes = st .sizes; head = e₁ i; tail = st .tail; next = st .next; table = e₂ i; writers = withPrepared (closedWriter (st .sizes) (st .writers) w) noWriter; pending = sym e₃ i })
 
   -- and so are the pages
-  empty-commit : Quiet past (completed st (Commit w)) img (emptied w (laid w b))
+  pub empty-commit : Quiet past (completed st (Commit w)) img (emptied w (laid w b))
   empty-commit =
       subst (λ (s : State). Quiet past s img (emptied w (laid w b))) as-aborted
-      (quiet-pages (closed st w) img (emptied w b) (laid w b .pages)
-      (λ p l i h k m. ap (λ (c : Cell). laidOver c (b .pages p l i)) (sym (q .writers .no-writes w p l i (commit-taken st w row .writer-low) h k m (none-holds p l))))
-      (aborted st img b w (subst (λ (s : State). stateOk s ≡ true) (sym as-aborted) (commit-valid st w (q .valid) (q .durable .behind .sixteen) row)) q))
+      (quiet-pages (closed (unprepared st) w) img (emptied w b) (laid w b .pages)
+      (λ p l i h k m. ap (λ (c : Cell). laidOver c (b .pages p l i)) (sym (q .writers .no-writes w p l i (T .writer-low) h k m (none-holds p l))))
+      (aborted (unprepared st) img b w (subst (λ (s : State). stateOk s ≡ true) (sym as-aborted) (committed-valid st w (q .valid) (q .durable .behind .sixteen) T))
+      (λ e. omega (arith, e, T .writer-low)) (unprepared-quiet st img b q)))
 
-op-row : (st : State) (img : List ℕ) (w : ℕ) → refusal (commitCallRows st img w) ≡ 0 → refusal (commitRows st w) ≡ 0
+pub op-row : (st : State) (img : List ℕ) (w : ℕ) → refusal (commitCallRows st img w) ≡ 0 → refusal (commitRows st w) ≡ 0
 op-row st img w e = let rows = none-apply (commitCallRows st img w) (omega arith) e in sym (row-none (commitRows st w) (rows .1 .1 .1))
 
 pub commit-sound : {past : List ℕ} (w : ℕ) (v : World) (b : Reference) → Related past v b → Sound past (commit w) v b
@@ -96,7 +112,7 @@ commit-sound w v b h =
     asked-after (commit w) v b (refusal (commitCallRows st img w)) (Commit w) (replicate 8 0) 0 (committing w) (λ k. refl) h
     (λ e z.
     let q = is-quiet st img b h (rows e .1 .1 .0) in
-    record { sizes = refl; related = inl (empty-commit st img b w (op-row st img w e) q (none-needed st w z)) })
+    record { sizes = refl; related = inl (empty-commit st img b w (commit-taken st w (op-row st img w e)) q (none-needed st w z)) })
     (λ e z.
     let q = is-quiet st img b h (rows e .1 .1 .0) in
     record { sizes = refl; related = inr (asked-busy st img b (Commit w) (replicate 8 0) 0 (committing w) q z (op-row st img w e) (all-left st (Commit w) (replicate 8 0) 0 (committing w))) }) in

@@ -75,6 +75,7 @@ module _ {past : List ℕ} (st : State) (img : List ℕ) (b : Reference) (k m a 
       record {
         known = ok-rows .known;
         closed = ok-rows .closed;
+        none-prepared = ok-rows .none-prepared;
         first-free = ok-rows .first-free;
         own-free = ok-rows .own-free;
         some-free = ok-rows .some-free;
@@ -136,7 +137,7 @@ module _ {past : List ℕ} (st : State) (img : List ℕ) (b : Reference) (k m a 
         valid = ready .ok;
         pending = refl;
         durable = durable-kept st img b b (st .next) _ _ (λ p l h i. refl) (Q .durable);
-        writers = record { four = length-set (st .writers .opened) 1 true ∙ ws .four; sixty-four = ws .sixty-four; held-low = ws .held-low; own-copy = ws .own-copy; no-writes = ws .no-writes };
+        writers = record { four = length-set (st .writers .opened) 1 true ∙ ws .four; sixty-four = ws .sixty-four; held-low = ws .held-low; own-copy = ws .own-copy; no-writes = ws .no-writes; ready = ws .ready };
         work = Q .work;
       }
 

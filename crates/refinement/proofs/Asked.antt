@@ -39,6 +39,7 @@ asked-busy st img b op line frame t q l r doing =
             held-low = ws .held-low;
             own-copy = λ w p l h k m n e. ws .own-copy w p l h k m (λ x. x) e;
             no-writes = ws .no-writes;
+            ready = ws .ready;
           };
       landed = λ j m. absurd (omega arith);
       doing = doing;

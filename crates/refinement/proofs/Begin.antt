@@ -25,7 +25,7 @@ begun st img b w row q =
       valid = begin-valid st w row;
       pending = q .pending;
       durable = durable-kept st img b b (st .next) _ (st .pending) (λ p l h k. refl) (q .durable);
-      writers = record { four = length-set (st .writers .opened) w true ∙ ws .four; sixty-four = ws .sixty-four; held-low = ws .held-low; own-copy = ws .own-copy; no-writes = ws .no-writes };
+      writers = record { four = length-set (st .writers .opened) w true ∙ ws .four; sixty-four = ws .sixty-four; held-low = ws .held-low; own-copy = ws .own-copy; no-writes = ws .no-writes; ready = ws .ready };
       work = q .work;
     }
 

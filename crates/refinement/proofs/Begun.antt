@@ -1,6 +1,7 @@
--- Begin and abort keep the state valid: a writer that is not open holds nothing, and a closed one neither.
+-- Begin, abort and withdraw keep the state valid: a writer that is not open holds nothing, and a closed one neither; no rule asks for a prepared one.
 use Prim.Native.Nat.{ℕ, _<_}
-use mathlib.Core.Bool.{true, false}
+use mathlib.Core.Bool.{Bool, true, false}
+use mathlib.Core.List.{List}
 use mathlib.Core.Path.{_≡_, ap, _∙_}
 use native.Mathlib.Omega.{arith}
 use lib.Dec.{eqb}
@@ -12,24 +13,25 @@ use Rattle.bounded.proofs.Rows.{none-apply}
 use Rattle.bounded.proofs.Tests.{caseOn, contradicts}
 use Rattle.state.specs.declared.State.{State}
 use Rattle.state.specs.declared.Writers.{Writers}
-use Rattle.state.specs.Held.{isOpen}
+use Rattle.state.specs.Held.{isOpen, noWriter}
 use Rattle.operations.specs.Operations.{isIdle}
 use Rattle.validity.specs.Validity.{stateOk}
 use Rattle.refinement.specs.Commit.{closedWriter}
-use Rattle.refinement.proofs.StateValid.{HeldFine, valid, valid-ok}
+use Rattle.refinement.specs.Settled.{withPrepared}
+use Rattle.refinement.proofs.StateValid.{HeldFine, PreparedFine, valid, valid-ok}
 use Rattle.refinement.proofs.Pending.{idle-ok}
-use Rattle.refinement.proofs.Closed.{closed-fine}
+use Rattle.refinement.proofs.Closed.{closed-fine, closed-prepared}
 use Rattle.refinement.proofs.Sized.{Sized, closed-sized}
 use Rattle.refinement.specs.Calls.{withWriters, beginRows, abortRows}
 use Rattle.replay.specs.Table.{slotIn}
 
 -- other writers, nothing pending
 writers-valid : (st : State) (ws : Writers) → stateOk st ≡ true → isIdle (st .pending .op) ≡ true → HeldFine (st .sizes) (slotIn (st .table)) (ws .opened) (ws .held)
-    → stateOk (withWriters st ws) ≡ true
-writers-valid st ws e i h =
+    → (ws .prepared < 4 → PreparedFine (st .sizes) (st .head) (st .tail) (ws .opened) (ws .held) (ws .prepared)) → stateOk (withWriters st ws) ≡ true
+writers-valid st ws e i h p =
     let v = valid st e in
     valid-ok (withWriters st ws)
-    (record { legal = v .legal; positions = v .positions; slots = v .slots; held = h; next-low = v .next-low; lasts = v .lasts; pending = idle-ok (withWriters st ws) i })
+    (record { legal = v .legal; positions = v .positions; slots = v .slots; held = h; next-low = v .next-low; lasts = v .lasts; prepared = p; pending = idle-ok (withWriters st ws) i })
 
 -- what the rows say
 pub record BeginTaken (st : State) (w : ℕ) : Type 0 where
@@ -53,6 +55,7 @@ pub record AbortTaken (st : State) (w : ℕ) : Type 0 where
   pub quiet : isIdle (st .pending .op) ≡ true
   pub writer-low : w < 4
   pub opened : isOpen (st .writers .opened) w ≡ true
+  pub unprepared : st .writers .prepared ≡ w → ⊥
 
 pub abort-taken : (st : State) (w : ℕ) → refusal (abortRows st w) ≡ 0 → AbortTaken st w
 abort-taken st w r =
@@ -62,11 +65,19 @@ abort-taken st w r =
       quiet = not-false (isIdle (st .pending .op)) (h .1 .0);
       writer-low = omega (arith, ltb-false 3 w (h .1 .1 .0));
       opened = not-false (isOpen (st .writers .opened) w) (h .1 .1 .1 .0);
+      unprepared = eqb-false (st .writers .prepared) w (h .1 .1 .1 .1 .0);
     }
 
 -- the writers after a begin
 abbrev pub opening : State → ℕ → Writers
-opening st w = record { opened = set (st .writers .opened) w true; held = st .writers .held }
+opening st w = record { opened = set (st .writers .opened) w true; held = st .writers .held; prepared = st .writers .prepared }
+
+-- an open writer stays open where a closed one is opened
+stays-open : (opened : List Bool) (w v : ℕ) → isOpen opened w ≡ false → isOpen opened v ≡ true → isOpen (set opened w true) v ≡ true
+stays-open opened w v closed o =
+    caseOn (eqb v w)
+    (λ e. contradicts o (ap (isOpen opened) (eqb-true v w e) ∙ closed))
+    (λ e. getD-set-other opened w v true false (eqb-false v w e) ∙ o)
 
 -- held lines keep the rules where a closed writer is opened
 pub opened-fine : (st : State) (w : ℕ) → stateOk st ≡ true → isOpen (st .writers .opened) w ≡ false
@@ -74,12 +85,7 @@ pub opened-fine : (st : State) (w : ℕ) → stateOk st ≡ true → isOpen (st 
 opened-fine st w ok closed =
     let v = valid st ok in
     record {
-      opens =
-          λ s u l m n.
-          let o = v .held .opens s u l m n in
-          caseOn (eqb u w)
-          (λ e. contradicts o (ap (isOpen (st .writers .opened)) (eqb-true u w e) ∙ closed))
-          (λ e. getD-set-other (st .writers .opened) w u true false (eqb-false u w e) ∙ o);
+      opens = λ s u l m n. stays-open (st .writers .opened) w u closed (v .held .opens s u l m n);
       owned = v .held .owned;
       apart = v .held .apart;
     }
@@ -88,17 +94,30 @@ pub begin-valid : (st : State) (w : ℕ) → refusal (beginRows st w) ≡ 0 → 
 begin-valid st w r =
     let h = begin-taken st w r in
     writers-valid st (opening st w) (h .is-valid) (h .quiet) (opened-fine st w (h .is-valid) (h .closed))
+    (λ l. let p = valid st (h .is-valid) .prepared l in record { opens = stays-open (st .writers .opened) w (st .writers .prepared) (h .closed) (p .opens); fits = p .fits })
 
 pub abort-valid : (st : State) (w : ℕ) → refusal (abortRows st w) ≡ 0 → stateOk (withWriters st (closedWriter (st .sizes) (st .writers) w)) ≡ true
+unfolding closedWriter
 abort-valid st w r =
     let h = abort-taken st w r in
     let v = valid st (h .is-valid) in
     writers-valid st (closedWriter (st .sizes) (st .writers) w) (h .is-valid) (h .quiet) (closed-fine (st .sizes) (v .legal) (st .writers) w (slotIn (st .table)) (v .held))
+    (λ l. closed-prepared (st .sizes) (v .legal) (st .writers) w (st .head) (st .tail) (h .unprepared) (v .prepared l))
+
+-- a withdraw leaves no writer prepared
+abbrev pub unprepared : State → State
+unprepared st = withWriters st (withPrepared (st .writers) noWriter)
+
+pub unprepared-valid : (st : State) → stateOk st ≡ true → isIdle (st .pending .op) ≡ true → stateOk (unprepared st) ≡ true
+unprepared-valid st e i = writers-valid st (withPrepared (st .writers) noWriter) e i (valid st e .held) (λ l. absurd (omega arith))
 
 -- and the lengths and ranges of its arrays
 pub begin-sized : (st : State) (w : ℕ) → Sized st → Sized (withWriters st (opening st w))
 begin-sized st w h =
     record { table = h .table; writers = record { four = length-set (st .writers .opened) w true ∙ h .writers .four; sixty-four = h .writers .sixty-four; held-low = h .writers .held-low } }
+
+pub unprepared-sized : (st : State) → Sized st → Sized (unprepared st)
+unprepared-sized st h = record { table = h .table; writers = record { four = h .writers .four; sixty-four = h .writers .sixty-four; held-low = h .writers .held-low } }
 
 pub abort-sized : (st : State) (w : ℕ) → Sized st → Sized (withWriters st (closedWriter (st .sizes) (st .writers) w))
 abort-sized st w h = record { table = h .table; writers = closed-sized (st .sizes) (st .writers) w (h .writers) }

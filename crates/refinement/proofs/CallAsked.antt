@@ -12,7 +12,7 @@ use Rattle.bounded.proofs.Tests.{caseOn}
 use Rattle.replay.proofs.Tables.{Sixteen}
 use Rattle.state.specs.declared.State.{State}
 use Rattle.state.specs.declared.Op.{Op}
-use Rattle.state.specs.declared.Op.the-variants.{Idle, Write, Commit, Consolidate, Checkpoint, Event}
+use Rattle.state.specs.declared.Op.the-variants.{Idle, Write, Commit, Consolidate, Checkpoint, Event, Prepare, Confirm}
 use Rattle.operations.specs.Operations.{opRows, needs}
 use Rattle.validity.specs.Validity.{stateOk}
 use Rattle.refinement.specs.Stores.{completed}
@@ -48,6 +48,8 @@ module _ (st : State) (line : List ℕ) (frame : ℕ) where
   rows-done (Consolidate p) n r = r
   rows-done Checkpoint n r = r
   rows-done (Event k m a) n r = absurd (omega (arith, n, event-some k))
+  rows-done (Prepare w) n r = r
+  rows-done (Confirm w) n r = r
 
   module _ (op : Op) (r : refusal (opRows st op frame) ≡ 0) where
     pub asked-valid : stateOk st ≡ true → Sixteen (st .table) → length (st .writers .held) ≡ 64 → length (st .writers .opened) ≡ 4 → stateOk (askedState st op line frame) ≡ true

@@ -115,6 +115,7 @@ module _ (img : List ℕ) (v : View) (shows : Shows img v) where
           held = closed-held z (v .table);
           next-low = omega arith;
           lasts = view-lasts;
+          prepared = λ l. absurd (omega arith);
           pending = idle-ok st refl;
         })
 

@@ -9,7 +9,7 @@ use Rattle.words.proofs.WordLaws.{bytes-store}
 use Rattle.state.specs.declared.State.{State}
 use Rattle.refinement.specs.Stores.{World, storeAt, storeValue, stepped, steppedBy, left}
 use Rattle.refinement.specs.Calls.{stepRow, worldOf, stepBytes, runBytes}
-use Rattle.refinement.specs.Run.{Call, mount, checkpoint, free, step, begin, abort, commit, consolidate, run, write, read, recall, exec, after, event}
+use Rattle.refinement.specs.Run.{Call, mount, checkpoint, free, step, begin, abort, commit, prepare, confirm, withdraw, consolidate, run, write, read, recall, exec, after, event}
 use Rattle.refinement.proofs.Called.{Good, call-good}
 
 step-image : (v : World) → Bytes (v .image) → Bytes (stepped v .image)
@@ -42,6 +42,9 @@ call-bytes step v b = step-bytes (v .st) (v .image) b
 call-bytes (begin w) v b = b
 call-bytes (abort w) v b = b
 call-bytes (commit w) v b = b
+call-bytes (prepare w) v b = b
+call-bytes (confirm w) v b = b
+call-bytes (withdraw w) v b = b
 call-bytes (consolidate p) v b = b
 call-bytes (run k) v b = run-bytes (v .st) (v .image) b k
 call-bytes (write w p l o n bytes) v b = b

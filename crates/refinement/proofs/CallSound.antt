@@ -3,7 +3,7 @@ use Prim.Native.Nat.{ℕ}
 use mathlib.Core.List.{List}
 use mathlib.Core.Logic.{inl, inr}
 use Rattle.refinement.specs.Stores.{World}
-use Rattle.refinement.specs.Run.{Call, mount, checkpoint, free, step, begin, abort, commit, consolidate, run, write, read, recall, event}
+use Rattle.refinement.specs.Run.{Call, mount, checkpoint, free, step, begin, abort, commit, prepare, confirm, withdraw, consolidate, run, write, read, recall, event}
 use Rattle.refinement.specs.Reference.{Reference}
 use Rattle.refinement.specs.Statement.{Lent}
 use Rattle.refinement.proofs.Invariant.{Related}
@@ -17,6 +17,7 @@ use Rattle.refinement.proofs.RecallCall.{recall-sound}
 use Rattle.refinement.proofs.MountCall.{mount-sound}
 use Rattle.refinement.proofs.AskWrite.{write-sound}
 use Rattle.refinement.proofs.AskCommit.{commit-sound}
+use Rattle.refinement.proofs.AskPrepare.{prepare-sound, confirm-sound, withdraw-sound}
 use Rattle.refinement.proofs.AskConsolidate.{consolidate-sound}
 use Rattle.refinement.proofs.AskFree.{free-sound}
 use Rattle.refinement.proofs.AskCheckpoint.{checkpoint-sound}
@@ -31,6 +32,9 @@ related-sound step lent v b h = sounds v b (step-sound v b h)
 related-sound (begin w) lent v b h = sounds v b (begin-sound w v b h)
 related-sound (abort w) lent v b h = sounds v b (abort-sound w v b h)
 related-sound (commit w) lent v b h = sounds v b (commit-sound w v b h)
+related-sound (prepare w) lent v b h = sounds v b (prepare-sound w v b h)
+related-sound (confirm w) lent v b h = sounds v b (confirm-sound w v b h)
+related-sound (withdraw w) lent v b h = sounds v b (withdraw-sound w v b h)
 related-sound (consolidate p) lent v b h = sounds v b (consolidate-sound p v b h)
 related-sound (run k) lent v b h = sounds v b (run-sound k v b h)
 related-sound (write w p l o n bytes) lent v b h = sounds v b (write-sound w p l o n bytes lent v b h)

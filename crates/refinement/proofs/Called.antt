@@ -17,8 +17,8 @@ use Rattle.fresh.specs.Fresh.{formatRow, formatRows}
 use Rattle.mount.specs.Mount.{mountOf}
 use Rattle.state.specs.declared.State.{State}
 use Rattle.state.specs.declared.Op.{Op}
-use Rattle.state.specs.declared.Op.the-variants.{Write, Commit, Consolidate, Checkpoint, Event}
-use Rattle.operations.specs.Operations.{isIdle, opRows, writeRows, commitRows, consolidateRows, needs}
+use Rattle.state.specs.declared.Op.the-variants.{Write, Commit, Consolidate, Checkpoint, Event, Prepare, Confirm}
+use Rattle.operations.specs.Operations.{isIdle, opRows, writeRows, commitRows, confirmRows, consolidateRows, needs}
 use Rattle.validity.specs.Validity.{stateOk}
 use Rattle.refinement.specs.Commit.{closedWriter}
 use Rattle.refinement.specs.Frames.{pageFrame}
@@ -28,14 +28,14 @@ use Rattle.refinement.specs.Stores.{World, steppedBy, stepped, left}
 use Rattle.refinement.proofs.Sized.{Sized}
 use Rattle.refinement.proofs.Steps.{run-valid, run-sized, step-valid, step-sized}
 use Rattle.refinement.specs.Outcome.{answered}
-use Rattle.refinement.specs.Calls.{quietRows, withWriters, beginRows, abortRows, beginOf, abortOf, asked, withPending, finishedLine, changesNothing, writeCallRows, commitCallRows, consolidateCallRows, freeCallRows, checkpointCallRows, writeOf, commitOf, consolidateOf, freeOf, checkpointOf, stepRow, stepRows, worldOf, runOf, stepOf, eventLine, eventSecond, eventCallRows, eventOf}
+use Rattle.refinement.specs.Calls.{quietRows, withWriters, beginRows, abortRows, beginOf, abortOf, asked, withPending, finishedLine, changesNothing, writeCallRows, commitCallRows, confirmCallRows, consolidateCallRows, freeCallRows, checkpointCallRows, writeOf, commitOf, prepareOf, confirmOf, withdrawOf, consolidateOf, freeOf, checkpointOf, stepRow, stepRows, worldOf, runOf, stepOf, eventLine, eventSecond, eventCallRows, eventOf}
 use Rattle.refinement.specs.Mount.{mountedState, mountCall, noState, freshState, formatCall}
-use Rattle.refinement.specs.Run.{Call, mount, checkpoint, free, step, begin, abort, commit, consolidate, run, write, read, recall, exec, event}
+use Rattle.refinement.specs.Run.{Call, mount, checkpoint, free, step, begin, abort, commit, prepare, confirm, withdraw, consolidate, run, write, read, recall, exec, event}
 use Rattle.meters.specs.Meters.{eventNeeds}
 use Rattle.refinement.specs.Settled.{withLines}
 use Rattle.refinement.proofs.EventRows.{event-some, event-needs, event-op-row}
 use Rattle.refinement.proofs.LinesAsked.{lines-valid}
-use Rattle.refinement.proofs.Begun.{opening, begin-valid, begin-sized, abort-valid, abort-sized}
+use Rattle.refinement.proofs.Begun.{opening, begin-valid, begin-sized, abort-valid, abort-sized, unprepared, unprepared-valid, unprepared-sized}
 use Rattle.refinement.proofs.CallAsked.{askedState, pending-valid, pending-sized, asked-valid, asked-sized}
 use Rattle.refinement.proofs.CallMounted.{mounted-valid, mounted-sized, fresh-valid, fresh-sized}
 
@@ -100,6 +100,26 @@ module _ (st : State) (img : List ℕ) (g : Good st) where
   commit-good w =
       asked-good st (refusal (commitCallRows st img w)) (Commit w) (replicate 8 0) 0 g
       (λ e. past-rows (quietRows st (length img)) (commitRows st w) (omega arith) e)
+
+  prepare-good : (w : ℕ) → Good (prepareOf st img w .state)
+  unfolding prepareOf
+  prepare-good w =
+      asked-good st (refusal (commitCallRows st img w)) (Prepare w) (replicate 8 0) 0 g
+      (λ e. past-rows (quietRows st (length img)) (commitRows st w) (omega arith) e)
+
+  confirm-good : (w : ℕ) → Good (confirmOf st img w .state)
+  unfolding confirmOf
+  confirm-good w =
+      asked-good st (refusal (confirmCallRows st img w)) (Confirm w) (replicate 8 0) 0 g
+      (λ e. past-rows (quietRows st (length img)) (confirmRows st w) (omega arith) e)
+
+  withdraw-good : (w : ℕ) → Good (withdrawOf st img w .state)
+  unfolding withdrawOf
+  withdraw-good w =
+      answered-good (refusal (confirmCallRows st img w)) st 0 (unprepared st) g
+      (λ e.
+      let idle = not-false (isIdle (st .pending .op)) (none-apply (confirmCallRows st img w) (omega arith) e .1 .1 .0) in
+      record { is-valid = unprepared-valid st (g .is-valid) idle; sized = unprepared-sized st (g .sized) })
 
   consolidate-good : (p : ℕ) → Good (consolidateOf st img p .state)
   unfolding consolidateOf
@@ -183,6 +203,9 @@ call-good step v b g = step-good (v .st) (v .image) g
 call-good (begin w) v b g = begin-good (v .st) (v .image) g w
 call-good (abort w) v b g = abort-good (v .st) (v .image) g w
 call-good (commit w) v b g = commit-good (v .st) (v .image) g w
+call-good (prepare w) v b g = prepare-good (v .st) (v .image) g w
+call-good (confirm w) v b g = confirm-good (v .st) (v .image) g w
+call-good (withdraw w) v b g = withdraw-good (v .st) (v .image) g w
 call-good (consolidate p) v b g = consolidate-good (v .st) (v .image) g p
 call-good (run k) v b g = run-good (v .st) (v .image) g k
 call-good (write w p l o n bytes) v b g = write-good (v .st) (v .image) g w p l o n bytes

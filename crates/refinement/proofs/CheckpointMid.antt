@@ -3,7 +3,7 @@
 use Prim.Native.Nat.{ℕ, _+_, _*_, _/_, _%_, _<_, _≤_}
 use mathlib.Core.Bool.{Bool, true, not}
 use mathlib.Core.List.{List}
-use mathlib.Core.Logic.{inr}
+use mathlib.Core.Logic.{inl, inr}
 use mathlib.Core.Path.{_≡_, sym, ap, _∙_, subst}
 use native.Mathlib.Omega.{arith}
 use lib.Dec.{eqb}
@@ -128,5 +128,5 @@ module _ (past : List ℕ) (st : State) (img : List ℕ) (b : Reference) (D : Du
             λ j h.
             value-kept st g full img (checkpointValue st img m) j m (omega arith) l
             (store-fits past st img b D (checkpointAt st m) (checkpointValue st img m) inside);
-        harmless = inr (aside-before past st img b D Checkpoint (checkpointAt st m) (omega arith) (subst (Dead (D .view)) (sym a) dead));
+        harmless = inr (aside-before past st img b D Checkpoint (checkpointAt st m) (omega arith) (λ p. inl (omega (arith, a, s .low))) (subst (Dead (D .view)) (sym a) dead));
       }

@@ -1,4 +1,4 @@
--- Right after a completed checkpoint no commit is turned back by 19: no record is live, and a writer holds lines of at most S ≤ J slots.
+-- Right after a completed checkpoint no commit and no prepare is turned back by 19: no record is live, and a writer holds lines of at most S ≤ J slots.
 use Prim.Native.Nat.{ℕ, _+_, _<_, _≤_, min}
 use mathlib.Core.Bool.{true, false, not}
 use mathlib.Core.List.{List}
@@ -23,8 +23,8 @@ use Rattle.validity.specs.Validity.{stateOk}
 use Rattle.refinement.specs.Stores.{World, completed, left}
 use Rattle.refinement.proofs.Pending.{pends}
 use Rattle.refinement.proofs.Steps.{stepped-last, run-all}
-use Rattle.refinement.specs.Calls.{commitCallRows, commitOf, checkpointCallRows, checkpointOf, stepRow, stepRows, stepOf, runOf}
-use Rattle.refinement.specs.Run.{Call, checkpoint, commit, step, run, exec}
+use Rattle.refinement.specs.Calls.{commitCallRows, commitOf, prepareOf, checkpointCallRows, checkpointOf, stepRow, stepRows, stepOf, runOf}
+use Rattle.refinement.specs.Run.{Call, checkpoint, commit, prepare, step, run, exec}
 use Rattle.refinement.specs.Beside.{HasRoom, MakesRoom, CheckpointMakesRoom}
 use Rattle.refinement.specs.Reference.{Reference, turn}
 use Rattle.refinement.specs.Statement.{Lent}
@@ -49,11 +49,16 @@ room st valid e w =
     le-ltb (z .places) (live st + n) (omega (arith, held-le z (st .writers .held) w, legal-sizes st valid .places-low))
 
 -- so row 19 does not apply
-commit-fits : (v : World) → stateOk (v .st) ≡ true → v .st .head ≡ v .st .tail → (w : ℕ) → eqb (exec (commit w) v .number) 19 ≡ false
-unfolding exec commitOf
-commit-fits v valid e w =
-    lacks (λ n. eqb n 19) (commitCallRows (v .st) (v .image) w)
-    (refl, λ a. (refl, λ c. (refl, λ d. (refl, λ f. (refl, λ g. (room (v .st) valid e w, λ i. refl))))))
+rows-fit : (st : State) (img : List ℕ) → stateOk st ≡ true → st .head ≡ st .tail → (w : ℕ) → eqb (refusal (commitCallRows st img w)) 19 ≡ false
+rows-fit st img valid e w =
+    lacks (λ n. eqb n 19) (commitCallRows st img w)
+    (refl, λ a. (refl, λ c. (refl, λ d. (refl, λ f. (refl, λ g. (refl, λ i. (room st valid e w, λ j. refl)))))))
+
+fits : (v : World) → stateOk (v .st) ≡ true → v .st .head ≡ v .st .tail → HasRoom v
+unfolding exec commitOf prepareOf
+fits v valid e w =
+    let f = rows-fit (v .st) (v .image) valid e w in
+    (λ n. contradicts (ap (λ (x : ℕ). eqb x 19) n) f, λ n. contradicts (ap (λ (x : ℕ). eqb x 19) n) f)
 
 -- ---- the calls that complete a checkpoint
 
@@ -82,16 +87,15 @@ ask-ends v taken none =
     let n : needs (v .st) Checkpoint ≡ 0 = rw (row) at none in
     rw (row, n)
 
--- ---- and no commit is 19 after it
+-- ---- and no commit and no prepare is 19 after it
 
 module _ {past : List ℕ} (z : Sizes) (v : World) (b : Reference) (h : Reached z past v b) where
   has-room : (c : Call) → Lent c → exec c v .world .st ≡ completed (v .st) Checkpoint → HasRoom (exec c v .world)
-  has-room c lent e w n =
+  has-room c lent e =
       let d = exec c v in
       let u : World = d .world in
       let r = reached-next c lent v b h in
-      contradicts (ap (λ (x : ℕ). eqb x 19) n)
-      (commit-fits u (between-valid u (turn c (d .number) (d .stores) b) (r .related)) (subst (λ (s : State). s .head ≡ s .tail) (sym e) refl) w)
+      fits u (between-valid u (turn c (d .number) (d .stores) b) (r .related)) (subst (λ (s : State). s .head ≡ s .tail) (sym e) refl)
 
   pub makes-room : MakesRoom v
   makes-room =

@@ -6,10 +6,11 @@ use native.Mathlib.Omega.{arith}
 use lib.ListN.{length}
 use Rattle.bounded.proofs.Tab.{getD-filled}
 use Rattle.replay.specs.Table.{noPosition}
-use Rattle.journal.proofs.Ring.{positions-none}
+use Rattle.journal.proofs.Ring.{live-none, positions-none}
 use Rattle.replay.proofs.Tables.{Sixteen}
 use Rattle.state.specs.declared.State.{State}
 use Rattle.state.specs.declared.Op.the-variants.{Checkpoint}
+use Rattle.state.proofs.Numbers.{held-le}
 use Rattle.validity.specs.Validity.{stateOk}
 use Rattle.refinement.specs.Stores.{completed}
 use Rattle.refinement.specs.Checkpoint.{withoutLasts}
@@ -31,5 +32,6 @@ checkpoint-valid st e full =
       held = v .held;
       next-low = v .next-low;
       lasts = record { low = λ s l n. absurd (n (none s l)); live = λ s l n. absurd (n (none s l)); apart = λ s k l m d n. absurd (n (none s l)) };
+      prepared = λ l. record { opens = v .prepared l .opens; fits = omega (arith, live-none z (st .head), held-le z (st .writers .held) (st .writers .prepared) _ refl, v .legal .places-low) };
       pending = idle-ok (completed st Checkpoint) refl;
     })

@@ -94,5 +94,5 @@ pub free-rows : (st : State) (img : List ℕ) → refusal (freeCallRows st img) 
 free-rows st img e =
     let h = none-apply (freeCallRows st img) (omega arith) e in
     let ok : stateOk st ≡ true = not-false (stateOk st) (h .0) in
-    let l : freedSlot st < st .sizes .slots = leb-false (st .sizes .slots) (freedSlot st) (h .1 .1 .1 .0) in
-    sym (row-none (consolidateRows st (freedPage st)) (page-fits st ok l, (has-slot st ok l, (none-held st ok l, (h .1 .1 .1 .1 .0, tt)))))
+    let l : freedSlot st < st .sizes .slots = leb-false (st .sizes .slots) (freedSlot st) (h .1 .1 .1 .1 .0) in
+    sym (row-none (consolidateRows st (freedPage st)) (page-fits st ok l, (h .1 .1 .1 .0, (has-slot st ok l, (none-held st ok l, (h .1 .1 .1 .1 .1 .0, tt))))))

@@ -20,7 +20,8 @@ use Rattle.masks.proofs.Disjoint.{none-disjoint, disjoint-none}
 use Rattle.state.specs.declared.Writers.{Writers}
 use Rattle.state.specs.Held.{isOpen, heldAt}
 use Rattle.refinement.specs.Commit.{closedWriter}
-use Rattle.refinement.proofs.StateValid.{HeldFine}
+use Rattle.refinement.proofs.Records.{slots-same}
+use Rattle.refinement.proofs.StateValid.{HeldFine, PreparedFine}
 
 set-none : (l : List ℕ) (i : ℕ) → getD (set l i 0) i 0 ≡ 0
 set-none l i =
@@ -78,6 +79,13 @@ module _ (z : Sizes) (g : Legal z) (ws : Writers) (w : ℕ) where
   still f v s l n =
       let d : v ≡ w → ⊥ = λ q. n (ap (λ (x : ℕ). heldAt (closedWriter z ws w .held) x s) q ∙ closed-holds s l) in
       (d, λ q. n (others-hold v s l d ∙ q))
+
+  -- another's records are as they were
+  pub closed-prepared : (head tail : ℕ) → (ws .prepared ≡ w → ⊥) → PreparedFine z head tail (ws .opened) (ws .held) (ws .prepared)
+      → PreparedFine z head tail (closedWriter z ws w .opened) (closedWriter z ws w .held) (ws .prepared)
+  closed-prepared head tail d p =
+      let same = slots-same z (ws .held) (closedWriter z ws w .held) (ws .prepared) (λ s l. others-hold (ws .prepared) s l d) in
+      record { opens = others-open (ws .prepared) d ∙ p .opens; fits = rw same (p .fits) }
 
   pub closed-fine : (f : ℕ → Slot) → HeldFine z f (ws .opened) (ws .held) → HeldFine z f (closedWriter z ws w .opened) (closedWriter z ws w .held)
   closed-fine f h =

@@ -1,15 +1,16 @@
 -- A store of a pending commit: the words of its records go behind the live ones, where mount does not read yet; so every store but the
 -- last, which is head, leaves all as it was.
 use Prim.Native.Nat.{ℕ, suc, _+_, _-_, _*_, _/_, _%_, _^_, _<_}
-use mathlib.Core.Bool.{Bool, true, not}
+use mathlib.Core.Bool.{Bool, true, false, not}
 use mathlib.Core.List.{List}
-use mathlib.Core.Logic.{inr, ⊎-elim}
+use mathlib.Core.Logic.{inl, inr, ⊎-elim}
 use mathlib.Core.Path.{_≡_, refl, sym, ap, _∙_, subst}
 use native.Mathlib.Omega.{arith}
 use lib.Dec.{ltb, eqb}
 use lib.ListN.{length, getD}
 use borrow.Author.Tests.{ltb-true, ltb-false, lt-ltb, le-ltb, eqb-true, eqb-false}
 use Rattle.bounded.specs.Below.{those, countBelow}
+use Rattle.bounded.specs.Rows.{refusal}
 use Rattle.bounded.proofs.Below.{count-before}
 use Rattle.bounded.proofs.Tests.{caseOn}
 use Rattle.bounded.proofs.Those.{length-those, chosen}
@@ -31,19 +32,20 @@ use Rattle.mount.proofs.View.{View, Shows}
 use Rattle.mount.proofs.Verdict.{Taken}
 use Rattle.masks.proofs.Members.{exclusive-or-lt}
 use Rattle.state.specs.declared.State.{State}
-use Rattle.state.specs.declared.Op.the-variants.{Commit}
-use Rattle.state.specs.Held.{heldAt, heldSlots}
-use Rattle.operations.specs.Operations.{needs}
+use Rattle.state.specs.declared.Op.the-variants.{Commit, Prepare}
+use Rattle.state.specs.Held.{somePrepared, heldAt, heldSlots}
+use Rattle.operations.specs.Operations.{needs, commitRows}
 use Rattle.validity.specs.Validity.{stateOk}
-use Rattle.operations.proofs.Taken.{CommitTaken, commit-taken}
+use Rattle.operations.proofs.Taken.{CommitTaken, commit-taken, commit-alone}
 use Rattle.refinement.specs.Commit.{commitSlots, commitRecord, commitAt, commitValue, commitRecordOf, commitAtOf, commitValueOf}
 use Rattle.refinement.specs.Stores.{stepped}
 use Rattle.refinement.proofs.CommitValid.{SameNames, owning-renamed, commit-slot}
 use Rattle.refinement.proofs.Pending.{pends}
+pub use Rattle.refinement.proofs.Records.{count, at-record, value-record, at-head, value-head, commit-needs}
 use Rattle.refinement.proofs.StateValid.{valid}
 use Rattle.refinement.specs.Reference.{Reference, committing, under, advances}
 use Rattle.refinement.proofs.Invariant.{TakenOnly, Durable, Doing, Busy, Related}
-use Rattle.refinement.proofs.Stepping.{Mid, aside-before, step-mid}
+use Rattle.refinement.proofs.Stepping.{Aside, Mid, aside-before, step-mid}
 
 -- ---- what a mount finds, under the state's own header
 
@@ -88,15 +90,12 @@ pub commit-pending : (st : State) (w : ℕ) → stateOk st ≡ true → st .pend
 commit-pending st w ok e = commit-taken st w (pends st (Commit w) ok e refl .taken)
 
 module _ (st : State) (w : ℕ) where
-  abbrev pub count : ℕ
-  count = length (commitSlots st w)
-
   commit-first : (j : ℕ) → commitRecord st w j .first ≡ st .head
   unfolding commitRecordOf
   commit-first j = refl
 
   -- their slots rise
-  commit-rises : (j : ℕ) → suc j < count → commitRecord st w j .slot < commitRecord st w (suc j) .slot
+  commit-rises : (j : ℕ) → suc j < count st w → commitRecord st w j .slot < commitRecord st w (suc j) .slot
   unfolding commitRecordOf heldSlots
   commit-rises j l =
       let f : ℕ → Bool = λ s. not (eqb (heldAt (st .writers .held) w s) 0) in
@@ -114,13 +113,13 @@ module _ (st : State) (w : ℕ) where
       let ne : y ≡ x → ⊥ = eqb-false y x q in
       absurd (omega (arith, a .before, c .before, count-before f x y (omega (arith, ltb-false x y t)) (c .passes)))))
 
-  pub commit-names : (j : ℕ) → j < count → SameNames (slotIn (st .table) (commitRecord st w j .slot)) (commitRecord st w j .now)
+  pub commit-names : (j : ℕ) → j < count st w → SameNames (slotIn (st .table) (commitRecord st w j .slot)) (commitRecord st w j .now)
   commit-names j l =
       let c = commit-slot st w j l .now in
       record { page = ap (λ (v : Slot). v .page) c; original = ap (λ (v : Slot). v .original) c; spare = ap (λ (v : Slot). v .spare) c }
 
   module _ (ok : stateOk st ≡ true) (T : CommitTaken st w) where
-    commit-shape : (j : ℕ) → j < count → shaped (st .sizes) (commitRecord st w j .now) ≡ true
+    commit-shape : (j : ℕ) → j < count st w → shaped (st .sizes) (commitRecord st w j .now) ≡ true
     commit-shape j l =
         let z : Sizes = st .sizes in
         let c = commit-slot st w j l in
@@ -133,14 +132,14 @@ module _ (st : State) (w : ℕ) where
         (shape z old (valid st ok .slots .shapes s (c .slot-low)))))
 
     -- they are right records
-    pub commit-right : recordsOk (st .sizes) (st .head) count (commitRecord st w) ≡ true
+    pub commit-right : recordsOk (st .sizes) (st .head) (count st w) (commitRecord st w) ≡ true
     commit-right =
-        one-transaction (st .sizes) (st .head) count (commitRecord st w) (valid st ok .positions .head-low)
+        one-transaction (st .sizes) (st .head) (count st w) (commitRecord st w) (valid st ok .positions .head-low)
         (λ j l. (commit-first j, commit-slot st w j l .slot-low, commit-shape j l)) commit-rises
 
     -- and their words are words
     commit-word : ((s : ℕ) → s < st .sizes .slots → slotIn (st .table) s .bitmap < 2 ^ 64) → ((s : ℕ) → s < st .sizes .slots → heldAt (st .writers .held) w s < 2 ^ 64)
-        → (j k : ℕ) → j < count → wordOfRecord (commitRecord st w j) k < 2 ^ 64
+        → (j k : ℕ) → j < count st w → wordOfRecord (commitRecord st w j) k < 2 ^ 64
     commit-word bits held j k l =
         let z : Sizes = st .sizes in
         let g : Legal z = valid st ok .legal in
@@ -150,48 +149,19 @@ module _ (st : State) (w : ℕ) where
         (shaped-fits z (commitRecord st w j .now) g (commit-shape j l))
         (subst (λ (v : Slot). v .bitmap < 2 ^ 64) (sym (c .now)) (exclusive-or-lt (slotIn (st .table) s .bitmap) (heldAt (st .writers .held) w s) (bits s (c .slot-low)) (held s (c .slot-low))))
 
-  -- ---- store i
+-- ---- every store but the last, of a commit and of a prepare
 
-  pub at-record : (i : ℕ) → i < 4 * count → commitAt st w i ≡ recordWord (st .sizes) (position (st .sizes) (st .head) (i / 4)) + i % 4
-  unfolding commitAtOf
-  at-record i l = rw (lt-ltb i (4 * count) l)
-
-  pub value-record : (i : ℕ) → i < 4 * count → commitValue st w i ≡ wordOfRecord (commitRecord st w (i / 4)) (i % 4)
-  unfolding commitValueOf
-  value-record i l = rw (lt-ltb i (4 * count) l)
-
-  pub at-head : commitAt st w (4 * count) ≡ headWord
-  unfolding commitAtOf
-  at-head = rw (le-ltb (4 * count) (4 * count) (omega arith))
-
-  pub value-head : commitValue st w (4 * count) ≡ position (st .sizes) (st .head) count
-  unfolding commitValueOf
-  value-head = rw (le-ltb (4 * count) (4 * count) (omega arith))
-
-  pub commit-needs : (m : ℕ) → m < needs st (Commit w) → needs st (Commit w) ≡ 4 * count + 1
-  unfolding needs
-  commit-needs m l =
-      caseOn (eqb count 0)
-      (λ e. absurd (omega (arith, rw e at l)))
-      (λ e. rw e)
-
--- ---- every store but the last
-
-module _ (past : List ℕ) (st : State) (img : List ℕ) (b : Reference) (B : Busy past st img b) (w : ℕ) (e : st .pending .op ≡ Commit w) where
-  T : CommitTaken st w
-  T = commit-pending st w (B .valid) e
-
-  pub commit-mid : (m : ℕ) → m < 4 * count st w → Mid past st img b (B .durable) (Commit w) m
-  commit-mid m l =
+module _ (past : List ℕ) (st : State) (img : List ℕ) (b : Reference) (ok : stateOk st ≡ true) (D : Durable past st img b) (w : ℕ) (T : CommitTaken st w)
+    (alone : somePrepared (st .writers .prepared) ≡ false) (low : (s : ℕ) → s < st .sizes .slots → heldAt (st .writers .held) w s < 2 ^ 64) where
+  records-mid : (m : ℕ) → m < 4 * count st w → Mid past st img b D (Commit w) m
+  records-mid m l =
       let z : Sizes = st .sizes in
-      let n : ℕ = count st w in
-      let D = B .durable in
-      let g : Legal z = valid st (B .valid) .legal in
+      let g : Legal z = valid st ok .legal in
       let at : commitAt st w m ≡ recordWord z (position z (st .head) (m / 4)) + m % 4 = at-record st w m l in
       let end = record-end z g (position z (st .head) (m / 4)) in
       record {
         inside = omega (arith, at, end);
-        low = subst (λ (x : ℕ). x < 2 ^ 64) (sym (value-record st w m l)) (commit-word st w (B .valid) T (bitmap-low past st img b D) (λ s k. B .writers .held-low w s (T .writer-low) k) (m / 4) (m % 4) (omega arith));
+        low = subst (λ (x : ℕ). x < 2 ^ 64) (sym (value-record st w m l)) (commit-word st w ok T (bitmap-low past st img b D) low (m / 4) (m % 4) (omega arith));
         apart =
             λ j k q.
             let o : commitAt st w j ≡ recordWord z (position z (st .head) (j / 4)) + j % 4 = at-record st w j (omega arith) in
@@ -200,16 +170,52 @@ module _ (past : List ℕ) (st : State) (img : List ℕ) (b : Reference) (B : Bu
         stable = λ j k. refl;
         harmless =
             inr (aside-before past st img b D (Commit w) (commitAt st w m) (omega (arith, at, end))
+            (λ p. absurd (omega (arith, p, ltb-false (st .writers .prepared) 4 alone)))
             (subst (λ (a : ℕ). Dead (D .view) a) (sym at)
             (subst (λ (v : View). Dead v (recordWord z (position z (st .head) (m / 4)) + m % 4)) (sym (own-same past st img b D))
-            (dead-new (ownView past st img b D) g (valid st (B .valid) .positions) (m / 4) (m % 4) (omega (arith, T .fits)) (omega arith)))));
+            (dead-new (ownView past st img b D) g (valid st ok .positions) (m / 4) (m % 4) (omega (arith, T .fits)) (omega arith)))));
       }
 
-  pub commit-doing : b .work ≡ under (committing w) (needs st (Commit w) - st .pending .made)
-  commit-doing = subst (Doing st img b) e (B .doing)
+  -- a prepare's are the same stores
+  records-prepared : (m : ℕ) → m < 4 * count st w → Mid past st img b D (Prepare w) m
+  records-prepared m l =
+      let M = records-mid m l in
+      record {
+        inside = M .inside;
+        low = M .low;
+        apart = M .apart;
+        stable = M .stable;
+        harmless =
+            ⊎-elim inl
+            (λ (s : Aside past st img b D (Commit w) (commitAt st w m)).
+            inr (record { dead = s .dead; uncommitted = s .uncommitted; unowned = s .unowned; off = s .off }))
+            (M .harmless);
+      }
 
-  pub commit-on : st .pending .made + 1 < needs st (Commit w) → Related past (stepped (record { st = st; image = img })) (advances 1 (b .work) b)
+-- of the one that is pending
+module _ (past : List ℕ) (st : State) (img : List ℕ) (b : Reference) (B : Busy past st img b) (w : ℕ) where
+  module _ (row : refusal (commitRows st w) ≡ 0) where
+    T : CommitTaken st w
+    T = commit-taken st w row
+
+    low : (s : ℕ) → s < st .sizes .slots → heldAt (st .writers .held) w s < 2 ^ 64
+    low s k = B .writers .held-low w s (T .writer-low) k
+
+  pub commit-mid : st .pending .op ≡ Commit w → (m : ℕ) → m < 4 * count st w → Mid past st img b (B .durable) (Commit w) m
+  commit-mid e =
+      let row = pends st (Commit w) (B .valid) e refl .taken in
+      records-mid past st img b (B .valid) (B .durable) w (T row) (commit-alone st w row) (low row)
+
+  pub prepare-mid : st .pending .op ≡ Prepare w → (m : ℕ) → m < 4 * count st w → Mid past st img b (B .durable) (Prepare w) m
+  prepare-mid e =
+      let row = pends st (Prepare w) (B .valid) e refl .taken in
+      records-prepared past st img b (B .valid) (B .durable) w (T row) (commit-alone st w row) (low row)
+
+  pub commit-doing : st .pending .op ≡ Commit w → b .work ≡ under (committing w) (needs st (Commit w) - st .pending .made)
+  commit-doing e = subst (Doing st img b) e (B .doing)
+
+  pub commit-on : (e : st .pending .op ≡ Commit w) → st .pending .made + 1 < needs st (Commit w) → Related past (stepped (record { st = st; image = img })) (advances 1 (b .work) b)
   unfolding needs
-  commit-on h =
+  commit-on e h =
       let m : ℕ = st .pending .made in
-      step-mid past st img b B (committing w) (Commit w) e refl commit-doing h (commit-mid m (omega (arith, h, commit-needs st w m (omega arith)))) refl
+      step-mid past st img b B (committing w) (Commit w) e refl (commit-doing e) h (commit-mid e m (omega (arith, h, commit-needs st w m (omega arith)))) refl

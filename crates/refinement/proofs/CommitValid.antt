@@ -19,11 +19,11 @@ use Rattle.journal.proofs.SlotWords.{Owning, Free, shape, owning-shaped}
 use Rattle.replay.proofs.Tables.{Sixteen}
 use Rattle.replay.proofs.Latest.{Latest, latest, replay-latest, replay-kept}
 use Rattle.state.specs.declared.State.{State}
-use Rattle.state.specs.declared.Op.the-variants.{Commit}
+use Rattle.state.specs.declared.Op.the-variants.{Commit, Prepare}
 use Rattle.state.specs.Held.{heldAt, heldSlots}
 use Rattle.operations.specs.Operations.{commitRows}
 use Rattle.validity.specs.Validity.{stateOk}
-use Rattle.operations.proofs.Taken.{CommitTaken, commit-taken}
+use Rattle.operations.proofs.Taken.{CommitTaken, ConfirmTaken, commit-taken}
 use Rattle.refinement.specs.Stores.{completed}
 use Rattle.refinement.specs.Commit.{commitSlots, committedSlot, commitRecord, commitTable, commitRecordOf}
 use Rattle.refinement.proofs.StateValid.{Apart, HeldFine, valid, valid-ok}
@@ -134,8 +134,33 @@ module _ (st : State) (w : ℕ) where
           held = closed-fine z (v .legal) (st .writers) w new kept;
           next-low = v .next-low;
           lasts = lasts-more z (v .legal) (st .head) (st .tail) (v .positions) n (h .fits) (commitRecord st w) (st .table) full (v .lasts);
+          prepared = λ l. absurd (omega arith);
           pending = idle-ok (completed st (Commit w)) refl;
         })
+
+-- a prepare leaves a writer prepared that may be
+pub prepare-valid : (st : State) (w : ℕ) → stateOk st ≡ true → CommitTaken st w → stateOk (completed st (Prepare w)) ≡ true
+prepare-valid st w e h =
+    let v = valid st e in
+    valid-ok (completed st (Prepare w))
+    (record {
+      legal = v .legal;
+      positions = v .positions;
+      slots = v .slots;
+      held = v .held;
+      next-low = v .next-low;
+      lasts = v .lasts;
+      prepared = λ l. record { opens = h .opened; fits = h .fits };
+      pending = idle-ok (completed st (Prepare w)) refl;
+    })
+
+-- and a prepared writer's commit is one that may be
+pub confirm-can : (st : State) (w : ℕ) → stateOk st ≡ true → ConfirmTaken st w → CommitTaken st w
+confirm-can st w e h =
+    subst (CommitTaken st) (h .prepared)
+    (let l : st .writers .prepared < 4 = omega (arith, h .prepared, h .writer-low) in
+    let p = valid st e .prepared l in
+    record { writer-low = l; opened = p .opens; fits = p .fits })
 
 pub commit-valid : (st : State) (w : ℕ) → stateOk st ≡ true → Sixteen (st .table) → refusal (commitRows st w) ≡ 0 → stateOk (completed st (Commit w)) ≡ true
 commit-valid st w e full r = committed-valid st w e full (commit-taken st w r)

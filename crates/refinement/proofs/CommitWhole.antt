@@ -1,7 +1,7 @@
--- A commit is whole or absent: power may go after any of its stores, and the mount that follows finds the lines as they were before the
--- commit, unless the last store, that of head, has landed; then it finds all that the writer wrote.
+-- A commit, or a confirm, is whole or absent: power may go after any of its stores, and the mount that follows finds the lines as they were before
+-- it, unless the last store, that of head, has landed; then it finds all that the writer wrote.
 use Prim.Native.Nat.{ℕ, zero, suc, _-_, _<_, _≤_, min}
-use mathlib.Core.Bool.{not}
+use mathlib.Core.Bool.{false, not}
 use mathlib.Core.List.{List}
 use mathlib.Core.Path.{_≡_, refl, sym, ap, subst}
 use native.Mathlib.Omega.{arith}
@@ -12,10 +12,12 @@ use Rattle.bounded.proofs.Rows.{row-none, none-apply}
 use Rattle.layout.specs.declared.Sizes.{Sizes}
 use Rattle.layout.specs.Layout.{imageLength}
 use Rattle.refinement.specs.Stores.{World}
-use Rattle.refinement.specs.Calls.{commitCallRows, commitOf, stepRows, runOf}
-use Rattle.refinement.specs.Run.{commit, run, exec}
-use Rattle.refinement.specs.Beside.{Finds, Whole, CommitWhole}
-use Rattle.refinement.specs.Reference.{Reference, Work, idle, under, committing, withWork, does, starts, continues, advances, turn, readLine, recallLine}
+use Rattle.refinement.specs.Calls.{commitCallRows, commitOf, confirmCallRows, confirmOf, stepRows, runOf}
+use Rattle.refinement.specs.Run.{Call, commit, confirm, run, exec}
+use Rattle.refinement.specs.Beside.{Finds, Whole, WholeOrAbsent, CommitWhole}
+use Rattle.refinement.specs.Reference.{Reference, Work, idle, under, committing, withWork, does, starts, continues, advances, taken, turn, readLine, recallLine}
+use Rattle.refinement.specs.Statement.{Lent}
+use Rattle.operations.specs.Operations.{isIdle}
 use Rattle.refinement.proofs.Copies.{durable-fits}
 use Rattle.refinement.proofs.Invariant.{Quiet}
 use Rattle.refinement.proofs.MountReadsBack.{reached-finds}
@@ -41,7 +43,7 @@ run-idle : (k n m : ℕ) (c : Reference) → c .work ≡ idle → turn (run k) n
 run-idle k zero m c e = ap (λ (x : Work). advances k x c) e
 run-idle k (suc n) m c e = refl
 
--- ---- the commit asked for, k of its stores made, and power gone
+-- ---- the call asked for, k of its stores made, and power gone
 
 module _ {past : List ℕ} (z : Sizes) (w k : ℕ) where
   cut : (n : ℕ) (u : World) (b : Reference) → b .work ≡ idle → Reached z past u (starts (committing w) n b)
@@ -64,14 +66,22 @@ module _ {past : List ℕ} (z : Sizes) (w k : ℕ) where
         λ l. reached-finds z (d .world) (continues (committing w) 0 c) (after 0 (omega arith)),
       )
 
-pub whole : {past : List ℕ} (z : Sizes) (v : World) (b : Reference) → Reached z past v b → (w k : ℕ) → exec (commit w) v .number ≡ 0 → Whole z v b w k
-unfolding exec commitOf
-whole {past = past} z v b h w k taken =
-    let d = exec (commit w) v in
-    let row : refusal (commitCallRows (v .st) (v .image) w) ≡ 0 = taken in
-    let q : Quiet past (v .st) (v .image) b = between-quiet v b (h .related) (none-apply (commitCallRows (v .st) (v .image) w) (omega arith) row .1 .1 .0) in
-    let c = cut z w k (d .stores) (d .world) b (q .work) (subst (λ (j : ℕ). Reached z past (d .world) (turn (commit w) j (d .stores) b)) taken (reached-next (commit w) tt v b h)) in
-    record { absent = c .0; landed = c .1 }
+module _ {past : List ℕ} (z : Sizes) (v : World) (b : Reference) (h : Reached z past v b) where
+  -- of a call that commits writer w
+  whole-call : (c : Call) → Lent c → (w k : ℕ) → ((n : ℕ) → taken c n b ≡ starts (committing w) n b) → exec c v .number ≡ 0 → not (isIdle (v .st .pending .op)) ≡ false → Whole z v b c w k
+  whole-call c lent w k t number quiet =
+      let d = exec c v in
+      let r : Reached z past (d .world) (taken c (d .stores) b) = subst (λ (j : ℕ). Reached z past (d .world) (turn c j (d .stores) b)) number (reached-next c lent v b h) in
+      let x = cut z w k (d .stores) (d .world) b (between-quiet v b (h .related) quiet .work) (subst (Reached z past (d .world)) (t (d .stores)) r) in
+      record { absent = x .0; landed = x .1 }
+
+  pub whole : WholeOrAbsent z v b
+  unfolding exec commitOf confirmOf
+  whole =
+      record {
+        committed = λ w k e. whole-call (commit w) tt w k (λ n. refl) e (none-apply (commitCallRows (v .st) (v .image) w) (omega arith) e .1 .1 .0);
+        confirmed = λ w k e. whole-call (confirm w) tt w k (λ n. refl) e (none-apply (confirmCallRows (v .st) (v .image) w) (omega arith) e .1 .1 .0);
+      }
 
 pub commit-whole : CommitWhole
 commit-whole = always _ (λ z buffer v b h. whole z v b h)

@@ -6,13 +6,13 @@ use Rattle.bounded.specs.Rows.{refusal}
 use Rattle.replay.proofs.Tables.{Sixteen}
 use Rattle.state.specs.declared.State.{State}
 use Rattle.state.specs.declared.Op.{Op}
-use Rattle.state.specs.declared.Op.the-variants.{Idle, Write, Commit, Consolidate, Checkpoint, Event}
+use Rattle.state.specs.declared.Op.the-variants.{Idle, Write, Commit, Consolidate, Checkpoint, Event, Prepare, Confirm}
 use Rattle.operations.specs.Operations.{opRows}
 use Rattle.validity.specs.Validity.{stateOk}
-use Rattle.operations.proofs.Taken.{write-taken}
+use Rattle.operations.proofs.Taken.{write-taken, commit-taken, confirm-taken}
 use Rattle.refinement.specs.Stores.{completed}
 use Rattle.refinement.proofs.WriteValid.{written-valid}
-use Rattle.refinement.proofs.CommitValid.{commit-valid}
+use Rattle.refinement.proofs.CommitValid.{commit-valid, committed-valid, prepare-valid, confirm-can}
 use Rattle.refinement.proofs.ConsolidateValid.{consolidate-valid}
 use Rattle.refinement.proofs.EventReady.{event-valid}
 use Rattle.refinement.proofs.CheckpointValid.{checkpoint-valid}
@@ -25,3 +25,5 @@ completed-valid st (Commit w) e full lines four r = commit-valid st w e full r
 completed-valid st (Consolidate p) e full lines four r = consolidate-valid st p e full r
 completed-valid st Checkpoint e full lines four r = checkpoint-valid st e full
 completed-valid st (Event k m a) e full lines four r = event-valid st k m a e full lines four r
+completed-valid st (Prepare w) e full lines four r = prepare-valid st w e (commit-taken st w r)
+completed-valid st (Confirm w) e full lines four r = committed-valid st w e full (confirm-can st w e (confirm-taken st w r))

@@ -71,6 +71,7 @@ module _ (past : List ℕ) (st : State) (img : List ℕ) (b : Reference) (valid 
             let w = line-apart z (otherFrame (slotIn (st .table) (slotFor st q)) n) n i (copyTo t) m k ln (c .low) li l e in
             let s : slotFor st q < z .slots = ltb-true (slotFor st q) (z .slots) (and-left (slotted st q) (inMask (heldAt (st .writers .held) v (slotFor st q)) n) g) in
             others-apart st img valid D q n p m lq (F .page-low) s (F .slot-low) (held-other st p F v q n lv g) (w .0 ∙ sym (c .to));
+        off = λ p. inr (omega arith);
       }
 
   -- the page word
@@ -82,7 +83,7 @@ module _ (past : List ℕ) (st : State) (img : List ℕ) (b : Reference) (valid 
       ⊎-elim
       (λ (e : slotIn (st .table) s ≡ slotIn d s).
       let m : slotOf z d p < z .slots = slotted-of z d p s (F .slot-low) (sym (ap (λ (v : Slot). v .page) e) ∙ F .page-is) in
-      inr (aside-before past st img b D (Consolidate p) (pageWord p) (omega (arith, F .page-low))
+      inr (aside-before past st img b D (Consolidate p) (pageWord p) (omega (arith, F .page-low)) (λ l. inl (omega (arith, F .page-low)))
       (dead-page (D .view) p (rw (D .sizes-same) (F .page-low)) (rw (D .sizes-same) m))))
       (λ (e : TakenOnly (word img) z d (st .table) s).
       let few : copyTo t ≡ t .original = rw (e .bitmap, count-lines-none) in
@@ -97,7 +98,7 @@ module _ (past : List ℕ) (st : State) (img : List ℕ) (b : Reference) (valid 
       let q : position (v .sizes) (v .head) 0 ≡ st .head = pos-none (v .sizes) (v .head) (D .mounts .positions .head-low) ∙ D .head-same in
       let n : liveCount (v .sizes) (v .head) (v .tail) + 0 < v .sizes .places = rw (D .sizes-same, D .head-same, D .tail-same) (omega (arith, F .room)) in
       let dead : Dead v (recordWord (v .sizes) (position (v .sizes) (v .head) 0) + k) = dead-new v (D .mounts .legal) (D .mounts .positions) 0 k n l in
-      aside-before past st img b D (Consolidate p) (recordWord z (st .head) + k) (omega (arith, place-lt z (F .ranges .legal) (st .head)))
+      aside-before past st img b D (Consolidate p) (recordWord z (st .head) + k) (omega (arith, place-lt z (F .ranges .legal) (st .head))) (λ p. absurd (omega (arith, p, F .alone)))
       (subst (λ (x : ℕ). Dead v (recordWord z x + k)) q (subst (λ (y : Sizes). Dead v (recordWord y (position (v .sizes) (v .head) 0) + k)) (D .sizes-same) dead))
 
   store-harmless : (i : ℕ) → Part t i → harmless i

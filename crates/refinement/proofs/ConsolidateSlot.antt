@@ -6,6 +6,7 @@ use mathlib.Core.List.{List}
 use mathlib.Core.Path.{_≡_, sym, ap, _∙_}
 use native.Mathlib.Omega.{arith}
 use lib.ListN.{length}
+use borrow.Author.Tests.{ltb-false}
 use Rattle.bounded.proofs.Tests.{caseOn}
 use Rattle.layout.specs.Layout.{Legal, frames, pageWord, recordWord, lineWord, imageLength}
 use Rattle.words.specs.Words.{store, Bytes}
@@ -41,6 +42,7 @@ module _ (st : State) (p : ℕ) where
     pub apart : copyTo (pageSlot st p) ≡ copyFrom (pageSlot st p) → ⊥
     pub none-held : (w : ℕ) → w < 4 → heldAt (st .writers .held) w (slotFor st p) ≡ 0
     pub room : live st + 1 ≤ st .sizes .places
+    pub alone : 4 ≤ st .writers .prepared
 
   pub freed : stateOk st ≡ true → Sixteen (st .table) → ConsolidateTaken st p → Freed
   freed ok full h =
@@ -57,6 +59,7 @@ module _ (st : State) (p : ℕ) where
         apart = apart;
         none-held = unheld st p ok full h;
         room = h .fits;
+        alone = ltb-false (st .writers .prepared) 4 (h .none-prepared);
       } in
       caseOn (isFew t)
       (λ f. made (rw f (o .original-low)) (rw f (o .spare-low)) (rw f (o .apart)))

@@ -6,7 +6,7 @@ use mathlib.Core.Logic.{⊎-elim}
 use mathlib.Core.Path.{_≡_, refl, sym}
 use native.Mathlib.Omega.{arith}
 use lib.Dec.{eqb}
-use borrow.Author.Tests.{eqb-true, not-false, ltb-true}
+use borrow.Author.Tests.{eqb-true, not-false, ltb-true, ltb-false}
 use Rattle.bounded.specs.Rows.{refusal}
 use Rattle.bounded.proofs.Below.{first-holds, none-at}
 use Rattle.bounded.proofs.Tests.{row-keeps}
@@ -117,6 +117,7 @@ module _ (st : State) (p : ℕ) (e : stateOk st ≡ true) (full : Sixteen (st .t
         held = held-changed z f g s freed freed-same freed-other (st .writers .opened) (st .writers .held) (v .held) (λ w l n q. n (unheld w l));
         next-low = v .next-low;
         lasts = lasts-more z (v .legal) (st .head) (st .tail) (v .positions) 1 (h .fits) (freeingRecord st p) (st .table) full (v .lasts);
+        prepared = λ l. absurd (omega (arith, l, ltb-false (st .writers .prepared) 4 (h .none-prepared)));
         pending = idle-ok (completed st (Consolidate p)) refl;
       })
 

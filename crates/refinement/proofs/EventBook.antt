@@ -44,6 +44,7 @@ quiet-writes st img b writes e q =
                 ws .own-copy w p l h k m n t
                 ∙ tab-ext 64 (λ i. laidOver (b .writes w p l i) (b .pages p l i)) (λ i. laidOver (writes w p l i) (b .pages p l i)) (λ i j. ap (λ (c : Cell). laidOver c (b .pages p l i)) (e w p l i h k m j));
             no-writes = λ w p l i h k m j t. sym (e w p l i h k m j) ∙ ws .no-writes w p l i h k m j t;
+            ready = ws .ready;
           };
       work = q .work;
     }

@@ -21,8 +21,8 @@ use Rattle.refinement.specs.Settled.{withLines}
 use Rattle.refinement.specs.Frames.{pageFrame}
 use Rattle.refinement.specs.Stores.{World, stepped, steppedBy, left}
 use Rattle.refinement.specs.Outcome.{answered}
-use Rattle.refinement.specs.Calls.{worldOf, beginRows, abortRows, writeCallRows, commitCallRows, consolidateCallRows, freeCallRows, checkpointCallRows, readRows, beginOf, abortOf, writeOf, commitOf, consolidateOf, freeOf, checkpointOf, eventOf, eventLine, eventSecond, eventCallRows, readRow, readBytes, stepRow, stepRows, stepOf, stepBytes, runOf, runBytes}
-use Rattle.refinement.specs.Run.{Call, mount, checkpoint, free, step, begin, abort, commit, consolidate, run, write, read, recall, event, exec}
+use Rattle.refinement.specs.Calls.{worldOf, beginRows, abortRows, writeCallRows, commitCallRows, confirmCallRows, consolidateCallRows, freeCallRows, checkpointCallRows, readRows, beginOf, abortOf, writeOf, commitOf, prepareOf, confirmOf, withdrawOf, consolidateOf, freeOf, checkpointOf, eventOf, eventLine, eventSecond, eventCallRows, readRow, readBytes, stepRow, stepRows, stepOf, stepBytes, runOf, runBytes}
+use Rattle.refinement.specs.Run.{Call, mount, checkpoint, free, step, begin, abort, commit, prepare, confirm, withdraw, consolidate, run, write, read, recall, event, exec}
 use Rattle.refinement.specs.Recall.{recallRow}
 use Rattle.refinement.specs.Reference.{Reference, Task, Work, idle, under, moving, withWork, starts, continues, advances, taken, turn}
 use Rattle.refinement.proofs.AskEvent.{event-moving}
@@ -175,7 +175,7 @@ module _ {past : List ℕ} (v : World) (b : Reference) (M : Moving past (v .st) 
   -- ---- the others
 
   pub moving-sound-at : (c : Call) → Sounds past c v b
-  unfolding exec beginOf abortOf writeOf commitOf consolidateOf freeOf checkpointOf eventOf
+  unfolding exec beginOf abortOf writeOf commitOf prepareOf confirmOf withdrawOf consolidateOf freeOf checkpointOf eventOf
   moving-sound-at mount = sounds v b (mount-sound v b (M .valid) (M .durable))
   moving-sound-at step = step-goes
   moving-sound-at (run k) = run-goes k
@@ -186,6 +186,9 @@ module _ {past : List ℕ} (v : World) (b : Reference) (M : Moving past (v .st) 
   moving-sound-at (begin w) = let r = refused (begin w) (refusal (beginRows st w)) _ _ (sym (row-at (beginRows st w) 1 (omega arith) (valid-row, tt) pending-row)) in record { right = tt; sizes = r .sizes; between = r .between }
   moving-sound-at (abort w) = let r = refused (abort w) (refusal (abortRows st w)) _ _ (sym (row-at (abortRows st w) 1 (omega arith) (valid-row, tt) pending-row)) in record { right = tt; sizes = r .sizes; between = r .between }
   moving-sound-at (commit w) = let r = refused (commit w) (refusal (commitCallRows st img w)) _ _ (sym (row-at (commitCallRows st img w) 2 (omega arith) (valid-row, (fits-row, tt)) pending-row)) in record { right = tt; sizes = r .sizes; between = r .between }
+  moving-sound-at (prepare w) = let r = refused (prepare w) (refusal (commitCallRows st img w)) _ _ (sym (row-at (commitCallRows st img w) 2 (omega arith) (valid-row, (fits-row, tt)) pending-row)) in record { right = tt; sizes = r .sizes; between = r .between }
+  moving-sound-at (confirm w) = let r = refused (confirm w) (refusal (confirmCallRows st img w)) _ _ (sym (row-at (confirmCallRows st img w) 2 (omega arith) (valid-row, (fits-row, tt)) pending-row)) in record { right = tt; sizes = r .sizes; between = r .between }
+  moving-sound-at (withdraw w) = let r = refused (withdraw w) (refusal (confirmCallRows st img w)) _ _ (sym (row-at (confirmCallRows st img w) 2 (omega arith) (valid-row, (fits-row, tt)) pending-row)) in record { right = tt; sizes = r .sizes; between = r .between }
   moving-sound-at (consolidate p) = let r = refused (consolidate p) (refusal (consolidateCallRows st img p)) _ _ (sym (row-at (consolidateCallRows st img p) 2 (omega arith) (valid-row, (fits-row, tt)) pending-row)) in record { right = tt; sizes = r .sizes; between = r .between }
   moving-sound-at (write w p l o n bytes) = let r = refused (write w p l o n bytes) (refusal (writeCallRows st img w p l o n bytes)) _ _ (sym (row-at (writeCallRows st img w p l o n bytes) 2 (omega arith) (valid-row, (fits-row, tt)) pending-row)) in record { right = tt; sizes = r .sizes; between = r .between }
   moving-sound-at (event k m a) = let r = refused (event k m a) (refusal (eventCallRows st img k m a)) _ _ (sym (row-at (eventCallRows st img k m a) 2 (omega arith) (valid-row, (fits-row, tt)) pending-row)) in record { right = tt; sizes = r .sizes; between = r .between }

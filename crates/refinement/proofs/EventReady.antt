@@ -27,7 +27,7 @@ use Rattle.meters.specs.Meters.{eventKnown, movesCredit, firstMeter, ownMeter, 
 use Rattle.meters.proofs.MeterLaws.{first-low, own-range}
 use Rattle.state.specs.declared.State.{State}
 use Rattle.state.specs.declared.Op.the-variants.{Write, Commit, Event}
-use Rattle.state.specs.Held.{isOpen, heldAt, heldSlots, othersHold}
+use Rattle.state.specs.Held.{isOpen, somePrepared, heldAt, heldSlots, othersHold}
 use Rattle.operations.specs.Operations.{live, slotFor, slotted, needs, lineTaken, noneFree, frameBad, writeRows, commitRows, opRows, commitNeeds}
 use Rattle.operations.proofs.Taken.{WriteTaken, write-taken, EventTaken, event-taken}
 use Rattle.validity.specs.Validity.{stateOk}
@@ -55,6 +55,7 @@ pub record Ready (s : State) (k m f : ℕ) : Type 0 where
   pub full : Sixteen (s .table)
   pub lines : length (s .writers .held) ≡ 64
   pub opened : isOpen (s .writers .opened) 1 ≡ true
+  pub none-prepared : somePrepared (s .writers .prepared) ≡ false
   pub first-free : lineTaken (s .sizes) (s .writers .held) 1 (slotFor s 0) (firstMeter k m) ≡ false
   pub own-free : lineTaken (s .sizes) (s .writers .held) 1 (slotFor s 0) (ownMeter k m) ≡ false
   pub some-free : noneFree (s .sizes) (s .table .page) (s .next) (slotFor s 0) ≡ false
@@ -116,7 +117,7 @@ module _ (s : State) (k m f l : ℕ) (words : List ℕ) (R : Ready s k m f) (low
   pub write-row : refusal (opRows s (Write 1 0 l 0 8) f) ≡ 0
   write-row =
       sym (row-none (writeRows s 1 0 l 0 8 f)
-      (rw (lt-leb (z .pages) 0 (omega (arith, legal .pages-low)), le-ltb 63 l (omega arith)), (rw (R .opened), (free, (R .some-free, (R .frame-good, tt))))))
+      (rw (lt-leb (z .pages) 0 (omega (arith, legal .pages-low)), le-ltb 63 l (omega arith)), (rw (R .opened), (ne-eqb (s .writers .prepared) 1 (λ e. omega (arith, e, ltb-false (s .writers .prepared) 4 (R .none-prepared))), (free, (R .some-free, (R .frame-good, tt)))))))
 
   pub asked-ok : stateOk asked ≡ true
   unfolding needs
@@ -192,6 +193,7 @@ module _ (s : State) (k m f l : ℕ) (words : List ℕ) (R : Ready s k m f) (low
               full = done-full;
               lines = length-set (s .writers .held) (16 * 1 + writeSlot asked 0) _ ∙ R .lines;
               opened = R .opened;
+              none-prepared = R .none-prepared;
               first-free = free-kept (firstMeter k m) (R .first-free);
               own-free = free-kept (ownMeter k m) (R .own-free);
               some-free = rw (lt-leb (z .slots) (slotFor done 0) slot-low);
@@ -250,7 +252,7 @@ module _ (s : State) (k m f : ℕ) (W : Wrote s k m f) where
   pub commit-row : refusal (commitRows s 1) ≡ 0
   commit-row =
       sym (row-none (commitRows s 1)
-      (refl, (rw (W .ready .opened), (rw one-slot (le-ltb (s .sizes .places) (live s + 1) (W .ready .fits)), tt))))
+      (refl, (rw (W .ready .opened), (W .ready .none-prepared, (rw one-slot (le-ltb (s .sizes .places) (live s + 1) (W .ready .fits)), tt)))))
 
 -- ---- a pending event
 
@@ -263,7 +265,7 @@ module _ (st : State) (k m a : ℕ) (e : stateOk st ≡ true) (full : Sixteen (s
   begun-ok =
       let v = valid st e in
       valid-ok (withOpen st 1)
-      (record { legal = v .legal; positions = v .positions; slots = v .slots; held = opened-fine st 1 e (E .closed); next-low = v .next-low; lasts = v .lasts; pending = idle-ok (withOpen st 1) refl })
+      (record { legal = v .legal; positions = v .positions; slots = v .slots; held = opened-fine st 1 e (E .closed); next-low = v .next-low; lasts = v .lasts; prepared = λ l. absurd (omega (arith, l, ltb-false (st .writers .prepared) 4 (E .none-prepared))); pending = idle-ok (withOpen st 1) refl })
 
   -- a closed writer holds nothing
   pub nothing-held : (q : ℕ) → q < st .sizes .slots → heldAt (st .writers .held) 1 q ≡ 0
@@ -279,6 +281,7 @@ module _ (st : State) (k m a : ℕ) (e : stateOk st ≡ true) (full : Sixteen (s
         full = full;
         lines = lines;
         opened = getD-set-same (st .writers .opened) 1 true false (omega arith);
+        none-prepared = E .none-prepared;
         first-free = E .first-free;
         own-free = E .own-free;
         some-free = E .some-free;

@@ -15,6 +15,7 @@ use Rattle.bounded.proofs.Tests.{caseOn, contradicts}
 use Rattle.layout.specs.Layout.{imageLength}
 use Rattle.state.specs.declared.State.{State}
 use Rattle.state.specs.declared.Op.the-variants.{Consolidate}
+use Rattle.state.specs.Held.{somePrepared}
 use Rattle.operations.specs.Operations.{isIdle, journalFull}
 use Rattle.validity.specs.Validity.{stateOk}
 use Rattle.refinement.specs.Freeing.{freedSlot, freedPage, Freeable, Chosen}
@@ -79,31 +80,32 @@ module _ (st : State) where
     unfolding after exec
     later s c calls = ap (λ (o : Outcome). after calls (result o img .world)) (as-chosen s c)
 
--- the fourth of five rows is the first that applies
-fourth : (a b c d e : Bool) → refusal ((a, 8) ∷ (b, 4) ∷ (c, 9) ∷ (d, 22) ∷ (e, 19) ∷ []) ≡ 22 → (refusal ((a, 8) ∷ (b, 4) ∷ (c, 9) ∷ []) ≡ 0) × (d ≡ true)
-fourth true b c d e h = absurd (omega arith)
-fourth false true c d e h = absurd (omega arith)
-fourth false false true d e h = absurd (omega arith)
-fourth false false false true e h = (refl, refl)
-fourth false false false false true h = absurd (omega arith)
-fourth false false false false false h = absurd (omega arith)
+-- the fifth of six rows is the first that applies
+fifth : (a b c f d e : Bool) → refusal ((a, 8) ∷ (b, 4) ∷ (c, 9) ∷ (f, 23) ∷ (d, 22) ∷ (e, 19) ∷ []) ≡ 22 → (refusal ((a, 8) ∷ (b, 4) ∷ (c, 9) ∷ []) ≡ 0) × (f ≡ false) × (d ≡ true)
+fifth true b c f d e h = absurd (omega arith)
+fifth false true c f d e h = absurd (omega arith)
+fifth false false true f d e h = absurd (omega arith)
+fifth false false false true d e h = absurd (omega arith)
+fifth false false false false true e h = (refl, refl, refl)
+fifth false false false false false true h = absurd (omega arith)
+fifth false false false false false false h = absurd (omega arith)
 
 module _ (st : State) (img : List ℕ) where
-  is-22 : freeOf st img .number ≡ 22 → (refusal (quietRows st (length img)) ≡ 0) × ((s : ℕ) → Freeable st s → ⊥)
+  is-22 : freeOf st img .number ≡ 22 → (refusal (quietRows st (length img)) ≡ 0) × (somePrepared (st .writers .prepared) ≡ false) × ((s : ℕ) → Freeable st s → ⊥)
   unfolding freeOf
   is-22 e =
-      let h = fourth (not (stateOk st)) (ltb (length img) (imageLength (st .sizes))) (not (isIdle (st .pending .op))) (leb (slots st) (freedSlot st)) (journalFull st 1) e in
-      (h .0, no-slot st (leb-true (slots st) (freedSlot st) (h .1)))
+      let h = fifth (not (stateOk st)) (ltb (length img) (imageLength (st .sizes))) (not (isIdle (st .pending .op))) (somePrepared (st .writers .prepared)) (leb (slots st) (freedSlot st)) (journalFull st 1) e in
+      (h .0, h .1, no-slot st (leb-true (slots st) (freedSlot st) (h .2)))
 
-  as-22 : (refusal (quietRows st (length img)) ≡ 0) × ((s : ℕ) → Freeable st s → ⊥) → freeOf st img .number ≡ 22
+  as-22 : (refusal (quietRows st (length img)) ≡ 0) × (somePrepared (st .writers .prepared) ≡ false) × ((s : ℕ) → Freeable st s → ⊥) → freeOf st img .number ≡ 22
   unfolding freeOf
   as-22 h =
       let q = none-apply (quietRows st (length img)) (omega arith) (h .0) in
       let l : leb (slots st) (freedSlot st) ≡ true =
       caseOn (leb (slots st) (freedSlot st))
       (λ t. t)
-      (λ t. absurd (h .1 (freedSlot st) (chosen st (leb-false (slots st) (freedSlot st) t) .freeable))) in
-      sym (row-at (freeCallRows st img) 3 (omega arith) (q .0, (q .1 .0, (q .1 .1 .0, tt))) l)
+      (λ t. absurd (h .2 (freedSlot st) (chosen st (leb-false (slots st) (freedSlot st) t) .freeable))) in
+      sym (row-at (freeCallRows st img) 4 (omega arith) (q .0, (q .1 .0, (q .1 .1 .0, (h .1, tt)))) l)
 
 pub frees-slot : FreesSlot
 frees-slot st img =

@@ -13,12 +13,12 @@ use Rattle.bounded.specs.Rows.{refusal}
 use Rattle.replay.specs.Table.{slotsShaped}
 use Rattle.state.specs.declared.State.{State}
 use Rattle.state.specs.declared.Op.{Op}
-use Rattle.state.specs.declared.Op.the-variants.{Write, Commit, Consolidate, Checkpoint, Event}
-use Rattle.operations.specs.Operations.{Ranged, isIdle, opRows, needs, commitNeeds, checkpointNeeds, recordedSlots}
+use Rattle.state.specs.declared.Op.the-variants.{Write, Commit, Consolidate, Checkpoint, Event, Prepare, Confirm}
+use Rattle.operations.specs.Operations.{Ranged, isIdle, opRows, needs, commitNeeds, confirmNeeds, checkpointNeeds, recordedSlots}
 use Rattle.validity.specs.Validity.{stateOk}
 use Rattle.validity.proofs.Ranged.{slots-good, ranged}
 use Rattle.meters.specs.Meters.{eventNeeds}
-use Rattle.operations.proofs.Taken.{WriteTaken, write-taken, CommitTaken, commit-taken, ConsolidateTaken, consolidate-taken, EventTaken, event-taken}
+use Rattle.operations.proofs.Taken.{WriteTaken, write-taken, CommitTaken, commit-taken, ConfirmTaken, confirm-taken, ConsolidateTaken, consolidate-taken, EventTaken, event-taken}
 use Rattle.refinement.specs.Frames.{pageSlot}
 use Rattle.refinement.specs.Commit.{commitSlots}
 use Rattle.refinement.specs.Consolidate.{copyStoreCount}
@@ -54,6 +54,12 @@ module _ (st : State) (taken : refusal (opRows st (st .pending .op) (st .pending
   pub commit-of : {w : ℕ} → st .pending .op ≡ Commit w → CommitTaken st w
   commit-of {w} e = commit-taken st w (rw e at taken)
 
+  pub prepare-of : {w : ℕ} → st .pending .op ≡ Prepare w → CommitTaken st w
+  prepare-of {w} e = commit-taken st w (rw e at taken)
+
+  pub confirm-of : {w : ℕ} → st .pending .op ≡ Confirm w → ConfirmTaken st w
+  confirm-of {w} e = confirm-taken st w (rw e at taken)
+
   pub consolidate-of : {p : ℕ} → st .pending .op ≡ Consolidate p → ConsolidateTaken st p
   consolidate-of {p} e = consolidate-taken st p (rw e at taken)
 
@@ -75,6 +81,21 @@ module _ (st : State) (g : Going st) (n : ℕ) (h : n ≤ left st) where
   commit-left {w} e =
       let q : needs st (st .pending .op) ≡ commitNeeds (length (commitSlots st w)) = rw e in
       let m : commitNeeds (length (commitSlots st w)) ≤ 4 * length (commitSlots st w) + 1 = row-keeps (λ (x : ℕ). x ≤ 4 * length (commitSlots st w) + 1) (eqb (length (commitSlots st w)) 0) 0 (4 * length (commitSlots st w) + 1) (omega arith) (omega arith) in
+      (omega (arith, g .made-low), omega (arith, g .made-low))
+
+  pub prepare-left : {w : ℕ} → st .pending .op ≡ Prepare w → st .pending .made + n ≤ 4 * length (commitSlots st w)
+  unfolding needs
+  prepare-left {w} e =
+      let q : needs st (st .pending .op) ≡ 4 * length (commitSlots st w) = rw e in
+      omega (arith, g .made-low)
+
+  -- all that is left of a confirm is its one store
+  pub confirm-left : {w : ℕ} → st .pending .op ≡ Confirm w → (st .pending .made ≡ 0) × (n ≤ 1)
+  unfolding needs
+  confirm-left {w} e =
+      let c : ℕ = length (commitSlots st w) in
+      let q : needs st (st .pending .op) ≡ confirmNeeds c = rw e in
+      let m : confirmNeeds c ≤ 1 = row-keeps (λ (x : ℕ). x ≤ 1) (eqb c 0) 0 1 (omega arith) (omega arith) in
       (omega (arith, g .made-low), omega (arith, g .made-low))
 
   pub consolidate-left : {p : ℕ} → st .pending .op ≡ Consolidate p → st .pending .made + n ≤ copyStoreCount (pageSlot st p) + 6

@@ -17,7 +17,7 @@ use Rattle.replay.specs.Table.{noPosition, slotIn}
 use Rattle.replay.proofs.Tables.{Sixteen}
 use Rattle.state.specs.declared.State.{State}
 use Rattle.state.specs.declared.Op.{Op}
-use Rattle.state.specs.declared.Op.the-variants.{Idle, Write, Commit, Consolidate, Checkpoint, Event}
+use Rattle.state.specs.declared.Op.the-variants.{Idle, Write, Commit, Consolidate, Checkpoint, Event, Prepare, Confirm}
 use Rattle.operations.specs.Operations.{isIdle, opRows, needs, recordedSlots}
 use Rattle.validity.specs.Validity.{stateOk}
 use Rattle.operations.proofs.Taken.{write-taken, consolidate-taken, EventTaken, event-taken}
@@ -164,6 +164,8 @@ module _ (st : State) (e : stateOk st ≡ true) where
   op-in-range full lines four (Consolidate p) r i l = consolidate-in st e full p i r
   op-in-range full lines four Checkpoint r i l = checkpoint-in st e i
   op-in-range full lines four (Event k m a) r i l = event-in st k m a e full lines four r i
+  op-in-range full lines four (Prepare w) r i l = commit-in st e w i
+  op-in-range full lines four (Confirm w) r i l = header-in (st .sizes) (valid st e .legal) headWord (omega arith)
 
   -- store i of the pending operation: its eight bytes, on a word, lie inside the image
   pub store-in-range : Sixteen (st .table) → length (st .writers .held) ≡ 64 → length (st .writers .opened) ≡ 4 → isIdle (st .pending .op) ≡ false → (i : ℕ) → i < needs st (st .pending .op) → 8 * storeAt st (st .pending .op) i + 8 ≤ imageLength (st .sizes)

@@ -17,7 +17,7 @@ use Rattle.mount.proofs.Verdict.{Taken}
 use Rattle.replay.proofs.Tables.{Sixteen}
 use Rattle.state.specs.declared.State.{State}
 use Rattle.state.specs.declared.Op.{Op}
-use Rattle.state.specs.declared.Op.the-variants.{Idle, Write, Commit, Consolidate, Checkpoint, Event}
+use Rattle.state.specs.declared.Op.the-variants.{Idle, Write, Commit, Consolidate, Checkpoint, Event, Prepare, Confirm}
 use Rattle.state.specs.Held.{heldAt}
 use Rattle.operations.specs.Operations.{slotFor, needs}
 use Rattle.validity.specs.Validity.{stateOk}
@@ -25,6 +25,7 @@ use Rattle.refinement.specs.Frames.{otherFrame, pageFrame}
 use Rattle.refinement.specs.Settled.{noPending}
 use Rattle.refinement.specs.Stores.{World, storeAt, storeValue}
 use Rattle.refinement.specs.Recall.{frameOf}
+use Rattle.refinement.proofs.Records.{Stored}
 use Rattle.refinement.specs.Reference.{Reference, none, idle, under, writing, committing, nothing, written, readLine, recallLine}
 pub use Rattle.refinement.specs.Frames.{holds}
 
@@ -56,7 +57,7 @@ pub record Durable (past : List ℕ) (st : State) (img : List ℕ) (b : Referenc
   pub committed : (p l : ℕ) → p < st .sizes .pages → l < 64 → lineBytes img (st .sizes) (frameOf (word img) (st .sizes) (st .table) p l) l ≡ recallLine b p l
 
 -- of the writers: held lines are masks of 64 bits; the other copy of a held line is the writer's, unless it is being written; a line
--- that is not held has no unfinished writes
+-- that is not held has no unfinished writes; the records of a prepared writer are in the journal
 pub record Writing (st : State) (img : List ℕ) (b : Reference) (written : ℕ → ℕ → ℕ → Type 0) : Type 0 where
   pub four : length (st .writers .opened) ≡ 4
   pub sixty-four : length (st .writers .held) ≡ 64
@@ -64,6 +65,7 @@ pub record Writing (st : State) (img : List ℕ) (b : Reference) (written : ℕ 
   pub own-copy : (w p l : ℕ) → w < 4 → p < st .sizes .pages → l < 64 → (written w p l → ⊥) → holds st w p l ≡ true
       → lineBytes img (st .sizes) (otherFrame (slotIn (st .table) (slotFor st p)) l) l ≡ readLine b w p l
   pub no-writes : (w p l i : ℕ) → w < 4 → p < st .sizes .pages → l < 64 → i < 64 → holds st w p l ≡ false → b .writes w p l i ≡ none
+  pub ready : st .writers .prepared < 4 → Stored st img (st .writers .prepared)
 
 -- nothing is pending
 abbrev pub Never : ℕ → ℕ → ℕ → Type 0
@@ -92,6 +94,8 @@ Doing st img b (Commit w) = b .work ≡ under (committing w) (needs st (Commit w
 Doing st img b (Consolidate p) = b .work ≡ under nothing (needs st (Consolidate p) - st .pending .made)
 Doing st img b Checkpoint = b .work ≡ under nothing (needs st Checkpoint - st .pending .made)
 Doing st img b (Event k m a) = ⊥
+Doing st img b (Prepare w) = b .work ≡ under nothing (needs st (Prepare w) - st .pending .made)
+Doing st img b (Confirm w) = b .work ≡ under (committing w) (needs st (Confirm w) - st .pending .made)
 
 -- the line that a pending write is changing
 abbrev pub Changing : Op → ℕ → ℕ → ℕ → Type 0
@@ -101,6 +105,8 @@ Changing (Commit w) v q m = ⊥
 Changing (Consolidate p) v q m = ⊥
 Changing Checkpoint v q m = ⊥
 Changing (Event k i a) v q m = ⊥
+Changing (Prepare w) v q m = ⊥
+Changing (Confirm w) v q m = ⊥
 
 pub record Busy (past : List ℕ) (st : State) (img : List ℕ) (b : Reference) : Type 0 where
   pub valid : stateOk st ≡ true

@@ -49,6 +49,7 @@ quiet-pages st img b pages e q =
                 ws .own-copy w p l h k m n t
                 ∙ tab-ext 64 (λ i. laidOver (b .writes w p l i) (b .pages p l i)) (λ i. laidOver (b .writes w p l i) (pages p l i)) (λ i j. ap (laidOver (b .writes w p l i)) (e p l i k m j));
             no-writes = ws .no-writes;
+            ready = ws .ready;
           };
       work = q .work;
     }

@@ -9,6 +9,7 @@ pub mod LinesAsked
 pub mod OneSlot
 pub mod LinePut
 pub mod Appended
+pub mod Records
 pub mod Closed
 pub mod WriteValid
 pub mod CommitValid
@@ -49,6 +50,7 @@ pub mod Asked
 pub mod Rewritten
 pub mod AskWrite
 pub mod AskCommit
+pub mod AskPrepare
 pub mod AskCheckpoint
 pub mod AskConsolidate
 pub mod AskFree
@@ -71,6 +73,7 @@ pub mod CommitNames
 pub mod CommitCopies
 pub mod CommitMid
 pub mod StepCommit
+pub mod StepPrepare
 pub mod StepCall
 pub mod Moving
 pub mod EventKept

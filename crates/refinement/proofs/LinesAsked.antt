@@ -6,7 +6,7 @@ use mathlib.Core.Path.{_≡_, refl, _∙_}
 use Rattle.bounded.specs.Rows.{refusal}
 use Rattle.state.specs.declared.State.{State}
 use Rattle.state.specs.declared.Op.{Op}
-use Rattle.state.specs.declared.Op.the-variants.{Idle, Write, Commit, Consolidate, Checkpoint, Event}
+use Rattle.state.specs.declared.Op.the-variants.{Idle, Write, Commit, Consolidate, Checkpoint, Event, Prepare, Confirm}
 use Rattle.operations.specs.Operations.{needs, opRows}
 use Rattle.validity.specs.Validity.{stateOk}
 use Rattle.refinement.specs.Settled.{withLines}
@@ -22,6 +22,8 @@ module _ (st : State) (line second : List ℕ) (frame : ℕ) where
   needs-lines (Consolidate p) o = refl
   needs-lines Checkpoint o = refl
   needs-lines (Event k m a) o = refl
+  needs-lines (Prepare w) o = refl
+  needs-lines (Confirm w) o = refl
 
   pub rows-lines : (op o : Op) (f : ℕ) → refusal (opRows (withLines st o line second frame) op f) ≡ refusal (opRows st op f)
   rows-lines Idle o f = refl
@@ -30,6 +32,8 @@ module _ (st : State) (line second : List ℕ) (frame : ℕ) where
   rows-lines (Consolidate p) o f = refl
   rows-lines Checkpoint o f = refl
   rows-lines (Event k m a) o f = refl
+  rows-lines (Prepare w) o f = refl
+  rows-lines (Confirm w) o f = refl
 
   pub lines-valid : (op : Op) → stateOk st ≡ true → refusal (opRows st op frame) ≡ 0 → 0 < needs st op → stateOk (withLines st op line second frame) ≡ true
   lines-valid op e r l =
@@ -42,5 +46,6 @@ module _ (st : State) (line second : List ℕ) (frame : ℕ) where
         held = v .held;
         next-low = v .next-low;
         lasts = v .lasts;
+        prepared = v .prepared;
         pending = pends-ok (withLines st op line second frame) op refl (record { made-low = rw (needs-lines op op) l; taken = rows-lines op op frame ∙ r });
       })

@@ -23,8 +23,8 @@ use Rattle.operations.specs.Operations.{isIdle}
 use Rattle.operations.proofs.Taken.{event-taken}
 use Rattle.refinement.specs.Frames.{pageFrame}
 use Rattle.refinement.specs.Stores.{World}
-use Rattle.refinement.specs.Calls.{commitCallRows, commitOf, consolidateCallRows, consolidateOf, freeCallRows, freeOf, checkpointCallRows, checkpointOf, writeCallRows, writeOf, eventCallRows, eventOf}
-use Rattle.refinement.specs.Run.{Call, Result, mount, checkpoint, free, step, begin, abort, commit, consolidate, run, write, read, recall, event, exec, formattedWorld, after}
+use Rattle.refinement.specs.Calls.{commitCallRows, commitOf, prepareOf, confirmCallRows, confirmOf, withdrawOf, consolidateCallRows, consolidateOf, freeCallRows, freeOf, checkpointCallRows, checkpointOf, writeCallRows, writeOf, eventCallRows, eventOf}
+use Rattle.refinement.specs.Run.{Call, Result, mount, checkpoint, free, step, begin, abort, commit, prepare, confirm, withdraw, consolidate, run, write, read, recall, event, exec, formattedWorld, after}
 use Rattle.refinement.specs.Reference.{Reference, Cell, none, laidOver, Task, Work, idle, under, writing, committing, moving, nothing, blank, withWork, emptied, written, laid, meterOn, firstMoved, moved, does, starts, continues, advances, taken, turn}
 use Rattle.refinement.specs.Statement.{AllLent}
 use Rattle.refinement.specs.Beside.{follows, lineOf}
@@ -141,6 +141,9 @@ none-completed step n b = refl
 none-completed (begin w) n b = refl
 none-completed (abort w) n b = refl
 none-completed (commit w) n b = refl
+none-completed (prepare w) n b = refl
+none-completed (confirm w) n b = refl
+none-completed (withdraw w) n b = refl
 none-completed (consolidate p) n b = refl
 none-completed (run k) n b = refl
 none-completed (write w p l o i bytes) n b = refl
@@ -168,7 +171,7 @@ module _ {past : List ℕ} (v : World) (b : Reference) (h : List Move) (R : Betw
       subst (λ (c : Reference). Tally c (h ++ [])) (sym (starts-some (moving k m a) (eventNeeds k) b (event-some k))) (no-move book h T′)
 
   taken-tally : (c : Call) → Spares c (exec c v .number) → exec c v .number ≡ 0 → Tally (taken c (exec c v .stores) b) (h ++ completes c 0 b)
-  unfolding exec commitOf consolidateOf freeOf checkpointOf writeOf eventOf
+  unfolding exec commitOf prepareOf confirmOf withdrawOf consolidateOf freeOf checkpointOf writeOf eventOf
   taken-tally mount s e = no-move (taken mount 0 b) h (record { clean = λ w l i. refl; adds = T .adds; fits = tt })
   taken-tally step s e = advance 1 (b .work) b h (T .fits) T
   taken-tally (run k) s e = advance k (b .work) b h (T .fits) T
@@ -183,6 +186,11 @@ module _ {past : List ℕ} (v : World) (b : Reference) (h : List Move) (R : Betw
       starts-tally nothing (exec free v .stores) b h refl (quiet (none-apply (freeCallRows (v .st) (v .image)) (omega arith) e .1 .1 .0)) tt T
   taken-tally (commit w) s e =
       starts-tally (committing w) (exec (commit w) v .stores) b h refl (quiet (none-apply (commitCallRows (v .st) (v .image) w) (omega arith) e .1 .1 .0)) tt T
+  taken-tally (prepare w) s e =
+      starts-tally nothing (exec (prepare w) v .stores) b h refl (quiet (none-apply (commitCallRows (v .st) (v .image) w) (omega arith) e .1 .1 .0)) tt T
+  taken-tally (confirm w) s e =
+      starts-tally (committing w) (exec (confirm w) v .stores) b h refl (quiet (none-apply (confirmCallRows (v .st) (v .image) w) (omega arith) e .1 .1 .0)) tt T
+  taken-tally (withdraw w) s e = no-move b h T
   taken-tally (consolidate p) s e =
       starts-tally nothing (exec (consolidate p) v .stores) b h refl (quiet (none-apply (consolidateCallRows (v .st) (v .image) p) (omega arith) e .1 .1 .0)) tt T
   taken-tally (write w p l o n bytes) s e =

@@ -67,6 +67,7 @@ mounted-quiet img v b bytes past shows taken committed none-written work =
             held-low = λ w s k l. rw (none-held w s) (omega arith);
             own-copy = λ w p l k h m n t. contradicts t (none-holds v w p l);
             no-writes = λ w p l i k h m j t. none-written w p l i;
+            ready = λ l. absurd (omega arith);
           };
       work = work;
     }

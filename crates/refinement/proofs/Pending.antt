@@ -9,7 +9,7 @@ use Rattle.bounded.specs.Rows.{refusal}
 use Rattle.bounded.proofs.Tests.{and-left, and-right}
 use Rattle.state.specs.declared.State.{State}
 use Rattle.state.specs.declared.Op.{Op}
-use Rattle.state.specs.declared.Op.the-variants.{Idle, Write, Commit, Consolidate, Checkpoint, Event}
+use Rattle.state.specs.declared.Op.the-variants.{Idle, Write, Commit, Consolidate, Checkpoint, Event, Prepare, Confirm}
 use Rattle.operations.specs.Operations.{isIdle, opRows, needs}
 use Rattle.validity.specs.Validity.{pendingOk, stateOk}
 use Rattle.refinement.specs.Stores.{withMade}
@@ -59,6 +59,8 @@ needs-made st m (Commit w) = refl
 needs-made st m (Consolidate p) = refl
 needs-made st m Checkpoint = refl
 needs-made st m (Event k i a) = refl
+needs-made st m (Prepare w) = refl
+needs-made st m (Confirm w) = refl
 
 -- nor do its rows
 pub rows-made : (st : State) (m : ℕ) (op : Op) (f : ℕ) → refusal (opRows (withMade st m) op f) ≡ refusal (opRows st op f)
@@ -68,6 +70,8 @@ rows-made st m (Commit w) f = refl
 rows-made st m (Consolidate p) f = refl
 rows-made st m Checkpoint f = refl
 rows-made st m (Event k i a) f = refl
+rows-made st m (Prepare w) f = refl
+rows-made st m (Confirm w) f = refl
 
 pub made-valid : (st : State) (m : ℕ) → stateOk st ≡ true → isIdle (st .pending .op) ≡ false → m < needs st (st .pending .op) → stateOk (withMade st m) ≡ true
 made-valid st m e i l =
@@ -82,6 +86,7 @@ made-valid st m e i l =
       held = v .held;
       next-low = v .next-low;
       lasts = v .lasts;
+      prepared = v .prepared;
       pending =
           pends-ok (withMade st m) op refl
           (record { made-low = rw (needs-made st m op) l; taken = rows-made st m op (st .pending .frame) ∙ h .taken });

@@ -25,7 +25,7 @@ use Rattle.masks.proofs.Members.{with-lt, exclusive-or-lt}
 use Rattle.state.specs.declared.State.{State}
 use Rattle.state.specs.declared.Writers.{Writers}
 use Rattle.state.specs.declared.Op.{Op}
-use Rattle.state.specs.declared.Op.the-variants.{Idle, Write, Commit, Consolidate, Checkpoint, Event}
+use Rattle.state.specs.declared.Op.the-variants.{Idle, Write, Commit, Consolidate, Checkpoint, Event, Prepare, Confirm}
 use Rattle.state.specs.Held.{heldAt}
 use Rattle.operations.specs.Operations.{slotted, opRows}
 use Rattle.meters.specs.Meters.{eventKnown, movesCredit, firstMeter, ownMeter}
@@ -119,13 +119,14 @@ module _ (st : State) (h : Sized st) where
   committed-sized : (w : ℕ) → Sized (commitDone st w)
   committed-sized w =
       let n = length (commitSlots st w) in
+      let c = closed-sized (st .sizes) (st .writers) w (h .writers) in
       record {
         table =
             record {
               sixteen = sixteen-replay (st .sizes) (st .head) n (commitRecord st w) (st .table) (h .table .sixteen);
               bitmap-low = replay-low (st .sizes) (st .head) n (commitRecord st w) (st .table) (h .table .bitmap-low) (commit-low w);
             };
-        writers = closed-sized (st .sizes) (st .writers) w (h .writers);
+        writers = record { four = c .four; sixty-four = c .sixty-four; held-low = c .held-low };
       }
 
 -- the states of an event
@@ -151,6 +152,8 @@ module _ (st : State) (h : Sized st) where
   completed-sized Idle r = h
   completed-sized (Write w p l o n) r = written-sized st h w p l (write-taken st w p l o n (st .pending .frame) r .args .line-low)
   completed-sized (Commit w) r = committed-sized st h w
+  completed-sized (Prepare w) r = record { table = h .table; writers = record { four = h .writers .four; sixty-four = h .writers .sixty-four; held-low = h .writers .held-low } }
+  completed-sized (Confirm w) r = committed-sized st h w
   completed-sized (Event k m a) r = event-sized st k m h (event-taken st k m a (st .pending .frame) r .known)
   completed-sized (Consolidate p) r =
       record {

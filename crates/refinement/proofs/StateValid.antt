@@ -1,13 +1,13 @@
 -- Row 8 as facts: what a valid state keeps of its slots, its writers and its last positions, from the test and back.
-use Prim.Native.Nat.{ℕ, _*_, _<_}
+use Prim.Native.Nat.{ℕ, _+_, _*_, _<_, _≤_}
 use mathlib.Core.Bool.{Bool, true, _&&_, _||_, not, or-true}
 use mathlib.Core.List.{List, [], _∷_}
 use mathlib.Core.Logic.{⊎-elim}
 use mathlib.Core.Path.{_≡_, sym, ap, _∙_}
 use native.Mathlib.Omega.{arith}
 use lib.Dec.{ltb, eqb}
-use lib.ListN.{getD}
-use borrow.Author.Tests.{eqb-true, eqb-false, ne-eqb, ltb-true, ltb-false, lt-ltb, not-true}
+use lib.ListN.{length, getD}
+use borrow.Author.Tests.{eqb-true, eqb-false, ne-eqb, ltb-true, ltb-false, lt-ltb, le-ltb, not-true}
 use Rattle.bounded.specs.Below.{allBelow}
 use Rattle.bounded.proofs.Below.{all-at, all-made}
 use Rattle.bounded.proofs.Tests.{caseOn, and-left, and-right, every-held, held-every}
@@ -25,8 +25,9 @@ use Rattle.masks.specs.Lines.{disjoint}
 use Rattle.masks.proofs.Disjoint.{disjoint-sym, none-disjoint}
 use Rattle.state.specs.declared.State.{State}
 use Rattle.state.specs.Slots.{freeAt, slotsApart, framesApart}
-use Rattle.state.specs.Held.{isOpen, heldAt, holderOk, heldOk}
-use Rattle.validity.specs.Validity.{slotsOk, isLive, lastOk, lastsOk, pendingOk, stateOk}
+use Rattle.state.specs.Held.{isOpen, heldAt, heldSlots, holderOk, heldOk}
+use Rattle.operations.specs.Operations.{journalFullOf}
+use Rattle.validity.specs.Validity.{slotsOk, isLive, lastOk, lastsOk, preparedOk, pendingOk, stateOk}
 use Rattle.validity.proofs.Ranged.{slots-good}
 
 -- what holds of each two of which the second is lower, and goes both ways, holds of each two
@@ -269,6 +270,35 @@ module _ (z : Sizes) (head tail : ℕ) (t : Table) where
         all-made (λ k. not (eqb (lastAt t s) (lastAt t k))) s (λ k m. ap not (ne-eqb (lastAt t s) (lastAt t k) (h .apart s k l (omega arith) (λ e. omega arith) n))),
       )))
 
+-- ---- the prepared writer
+
+-- writer w is open, and its records fit
+pub record PreparedFine (z : Sizes) (head tail : ℕ) (opened : List Bool) (held : List ℕ) (w : ℕ) : Type 0 where
+  pub opens : isOpen opened w ≡ true
+  pub fits : liveCount z head tail + length (heldSlots z held w) ≤ z .places
+
+module _ (z : Sizes) (head tail : ℕ) (opened : List Bool) (held : List ℕ) (w : ℕ) where
+  abbrev fills : Bool
+  fills = journalFullOf z head tail (length (heldSlots z held w))
+
+  prepared-fine : preparedOk z head tail opened held w ≡ true → w < 4 → PreparedFine z head tail opened held w
+  unfolding preparedOk
+  prepared-fine e l =
+      let h : isOpen opened w && not fills ≡ true = rw (lt-ltb w 4 l) at e in
+      record {
+        opens = and-left (isOpen opened w) (not fills) h;
+        fits = ltb-false (z .places) (liveCount z head tail + length (heldSlots z held w)) (not-true fills (and-right (isOpen opened w) (not fills) h));
+      }
+
+  prepared-ok : (w < 4 → PreparedFine z head tail opened held w) → preparedOk z head tail opened held w ≡ true
+  unfolding preparedOk
+  prepared-ok h =
+      caseOn (ltb w 4)
+      (λ t.
+      let p = h (ltb-true w 4 t) in
+      rw (t, p .opens, le-ltb (z .places) (liveCount z head tail + length (heldSlots z held w)) (p .fits)))
+      (λ t. rw t)
+
 -- ---- the state
 
 pub record Valid (st : State) : Type 0 where
@@ -278,6 +308,7 @@ pub record Valid (st : State) : Type 0 where
   pub held : HeldFine (st .sizes) (slotIn (st .table)) (st .writers .opened) (st .writers .held)
   pub next-low : st .next < st .sizes .slots
   pub lasts : LastsFine (st .sizes) (st .head) (st .tail) (lastAt (st .table))
+  pub prepared : st .writers .prepared < 4 → PreparedFine (st .sizes) (st .head) (st .tail) (st .writers .opened) (st .writers .held) (st .writers .prepared)
   pub pending : pendingOk st ≡ true
 
 -- the parts of row 8
@@ -286,6 +317,7 @@ pub record Parts (st : State) : Type 0 where
   pub held : heldOk (st .sizes) (st .table .page) (st .writers .opened) (st .writers .held) ≡ true
   pub next : ltb (st .next) (st .sizes .slots) ≡ true
   pub lasts : lastsOk (st .sizes) (st .head) (st .tail) (st .table .last) ≡ true
+  pub prepared : preparedOk (st .sizes) (st .head) (st .tail) (st .writers .opened) (st .writers .held) (st .writers .prepared) ≡ true
   pub pending : pendingOk st ≡ true
 
 pub parts : (st : State) → stateOk st ≡ true → Parts st
@@ -295,15 +327,18 @@ parts st e =
     let b = heldOk (st .sizes) (st .table .page) (st .writers .opened) (st .writers .held) in
     let c = ltb (st .next) (st .sizes .slots) in
     let d = lastsOk (st .sizes) (st .head) (st .tail) (st .table .last) in
-    let e₁ = and-right a (b && (c && (d && pendingOk st))) e in
-    let e₂ = and-right b (c && (d && pendingOk st)) e₁ in
-    let e₃ = and-right c (d && pendingOk st) e₂ in
+    let f = preparedOk (st .sizes) (st .head) (st .tail) (st .writers .opened) (st .writers .held) (st .writers .prepared) in
+    let e₁ = and-right a (b && (c && (d && (f && pendingOk st)))) e in
+    let e₂ = and-right b (c && (d && (f && pendingOk st))) e₁ in
+    let e₃ = and-right c (d && (f && pendingOk st)) e₂ in
+    let e₄ = and-right d (f && pendingOk st) e₃ in
     record {
-      slots = and-left a (b && (c && (d && pendingOk st))) e;
-      held = and-left b (c && (d && pendingOk st)) e₁;
-      next = and-left c (d && pendingOk st) e₂;
-      lasts = and-left d (pendingOk st) e₃;
-      pending = and-right d (pendingOk st) e₃;
+      slots = and-left a (b && (c && (d && (f && pendingOk st)))) e;
+      held = and-left b (c && (d && (f && pendingOk st))) e₁;
+      next = and-left c (d && (f && pendingOk st)) e₂;
+      lasts = and-left d (f && pendingOk st) e₃;
+      prepared = and-left f (pendingOk st) e₄;
+      pending = and-right f (pendingOk st) e₄;
     }
 
 pub valid : (st : State) → stateOk st ≡ true → Valid st
@@ -317,6 +352,7 @@ valid st e =
       held = held-fine (st .sizes) (st .table) (st .writers .opened) (st .writers .held) (h .held);
       next-low = ltb-true (st .next) (st .sizes .slots) (h .next);
       lasts = lasts-fine (st .sizes) (st .head) (st .tail) (st .table) (h .lasts);
+      prepared = prepared-fine (st .sizes) (st .head) (st .tail) (st .writers .opened) (st .writers .held) (st .writers .prepared) (h .prepared);
       pending = h .pending;
     }
 
@@ -334,5 +370,6 @@ valid-ok st v =
       held-ok z t (st .writers .opened) (st .writers .held) (v .held),
       lt-ltb (st .next) (z .slots) (v .next-low),
       lasts-ok z (st .head) (st .tail) t (v .lasts),
+      prepared-ok z (st .head) (st .tail) (st .writers .opened) (st .writers .held) (st .writers .prepared) (v .prepared),
       v .pending,
     )

@@ -11,7 +11,7 @@ use Rattle.bounded.proofs.Rows.{none-apply}
 use Rattle.bounded.proofs.Tests.{caseOn, contradicts}
 use Rattle.state.specs.declared.State.{State}
 use Rattle.state.specs.declared.Op.{Op}
-use Rattle.state.specs.declared.Op.the-variants.{Idle, Write, Commit, Consolidate, Checkpoint, Event}
+use Rattle.state.specs.declared.Op.the-variants.{Idle, Write, Commit, Consolidate, Checkpoint, Event, Prepare, Confirm}
 use Rattle.operations.specs.Operations.{needs}
 use Rattle.refinement.specs.Stores.{World, completed, stepped, steppedBy, left}
 use Rattle.refinement.proofs.Pending.{pends}
@@ -24,6 +24,7 @@ use Rattle.refinement.proofs.Sound.{Sound, answered-after, is-busy, bus
 use Rattle.refinement.proofs.StepCheckpoint.{step-checkpoint}
 use Rattle.refinement.proofs.StepCommit.{step-commit}
 use Rattle.refinement.proofs.StepConsolidate.{step-consolidate}
+use Rattle.refinement.proofs.StepPrepare.{step-prepare, step-confirm}
 use Rattle.refinement.proofs.StepWrite.{step-write}
 
 -- ---- one store of the pending operation
@@ -36,6 +37,8 @@ module _ (past : List ℕ) (st : State) (img : List ℕ) (b : Reference) (B : Bu
   step-of (Consolidate p) e = step-consolidate past st img b B p e
   step-of Checkpoint e = step-checkpoint past st img b B e
   step-of (Event k m a) e = absurd (subst (Doing st img b) e (B .doing))
+  step-of (Prepare w) e = step-prepare past st img b B w e
+  step-of (Confirm w) e = step-confirm past st img b B w e
 
   pub one-store : Related past (stepped (worldOf st img)) (advances 1 (b .work) b)
   one-store = step-of (st .pending .op) refl
@@ -48,6 +51,8 @@ completed-sizes st (Commit w) = refl
 completed-sizes st (Consolidate p) = refl
 completed-sizes st Checkpoint = refl
 completed-sizes st (Event k m a) = done-sizes st k m
+completed-sizes st (Prepare w) = refl
+completed-sizes st (Confirm w) = refl
 
 pub stepped-sizes : (v : World) → stepped v .st .sizes ≡ v .st .sizes
 unfolding stepped
@@ -70,6 +75,8 @@ doing-work st img b (Commit w) d = (committing w, d)
 doing-work st img b (Consolidate p) d = (nothing, d)
 doing-work st img b Checkpoint d = (nothing, d)
 doing-work st img b (Event k m a) d = absurd d
+doing-work st img b (Prepare w) d = (nothing, d)
+doing-work st img b (Confirm w) d = (committing w, d)
 
 no-work : Work → Bool
 no-work idle = true

@@ -25,6 +25,7 @@ use Rattle.state.specs.declared.State.{State}
 use Rattle.state.specs.declared.Op.{Op}
 use Rattle.state.specs.declared.Op.the-variants.{Checkpoint}
 use Rattle.operations.specs.Operations.{needs}
+use Rattle.refinement.specs.Commit.{commitRecordOf, commitValueOf}
 use Rattle.refinement.specs.Checkpoint.{checkpointAt, checkpointValue, withoutLasts}
 use Rattle.refinement.specs.Stores.{stepped, completed, storeAt, storeValue, storeMade}
 use Rattle.refinement.proofs.Pending.{pends}
@@ -35,6 +36,7 @@ use Rattle.refinement.proofs.Copies.{durable-legal, durable-fits}
 use Rattle.refinement.proofs.Invariant.{TakenOnly, Behind, Durable, Writing, Never, Changing, Doing, Quiet, Busy, Related}
 use Rattle.refinement.proofs.CheckpointMid.{recorded, slot-stored, at-slot, value-slot, at-tail, value-tail, checkpoint-mid}
 use Rattle.refinement.proofs.HeaderStore.{header-fits, header-page, header-line, header-copy}
+use Rattle.refinement.proofs.Records.{stored-kept}
 use Rattle.refinement.proofs.Stepping.{needs-made, step-mid}
 use Rattle.refinement.proofs.StepLast.{step-last}
 
@@ -111,6 +113,7 @@ module _ (past : List ℕ) (st : State) (img : List ℕ) (b : Reference) (D : Du
       }
 
   checkpointed-writing : Writing st img b Never → Writing (completed st Checkpoint) after (withWork idle b) Never
+  unfolding commitValueOf commitRecordOf
   checkpointed-writing W =
       record {
         four = W .four;
@@ -118,6 +121,10 @@ module _ (past : List ℕ) (st : State) (img : List ℕ) (b : Reference) (D : Du
         held-low = W .held-low;
         own-copy = λ w p l lw lp ll out h. header-line img z tailWord (st .head) (omega arith) whole _ l ∙ W .own-copy w p l lw lp ll out h;
         no-writes = W .no-writes;
+        ready =
+            λ l.
+            stored-kept z (st .head) (st .table) (st .writers .held) img (st .writers .prepared) tailWord (st .head) (durable-legal past st img b D)
+            (header-fits img z tailWord (st .head) (omega arith) whole) (inl (omega arith)) (W .ready l);
       }
 
 -- ---- a store of it

@@ -1,5 +1,5 @@
--- The last store of a pending commit, that of head: a mount finds its records then, all at once, and the lines that the writer held are
--- committed.
+-- The last store of a pending commit, or the one of a confirm, that of head: a mount finds the records then, all at once, and the lines that the writer held
+-- are committed.
 use Prim.Native.Nat.{ℕ, _+_, _*_, _/_, _%_, _^_, _<_, _≤_}
 use mathlib.Core.Bool.{true, false}
 use mathlib.Core.List.{List}
@@ -32,11 +32,11 @@ use Rattle.state.specs.Held.{heldAt}
 use Rattle.operations.specs.Operations.{slotFor, slotted, needs}
 use Rattle.validity.specs.Validity.{stateOk}
 use Rattle.operations.proofs.Taken.{CommitTaken}
-use Rattle.refinement.specs.Commit.{commitRecord, commitAt, commitValue, commitTable}
+use Rattle.refinement.specs.Commit.{commitRecord, commitAt, commitValue, commitHead, commitTable}
 use Rattle.refinement.specs.Frames.{otherFrame}
 use Rattle.refinement.specs.Stores.{stepped, completed, storeAt, storeValue, storeMade}
 use Rattle.refinement.proofs.Closed.{closed-holds, others-hold, closed-opened-length, closed-held-length}
-use Rattle.refinement.proofs.CommitValid.{commit-valid}
+use Rattle.refinement.proofs.CommitValid.{committed-valid}
 use Rattle.refinement.proofs.Pending.{pends}
 use Rattle.refinement.proofs.StateValid.{valid}
 use Rattle.refinement.specs.Recall.{frameOf}
@@ -49,6 +49,7 @@ use Rattle.refinement.proofs.Copies.{names-once, durable-fits}
 use Rattle.refinement.proofs.HeaderStore.{header-fits, header-page, header-line, header-copy}
 use Rattle.refinement.proofs.CallMounted.{view-sixteen}
 use Rattle.refinement.proofs.Stepping.{behind-ext}
+use Rattle.refinement.proofs.Records.{Stored}
 use Rattle.refinement.proofs.StepLast.{step-last}
 use Rattle.refinement.proofs.Valid.{good}
 
@@ -147,13 +148,10 @@ others-same b w v p l ne h =
     tab-ext 64 (λ i. laidOver (b .writes v p l i) (b .pages p l i)) (λ i. laidOver (committedBook w b .writes v p l i) (laidOver (b .writes w p l i) (b .pages p l i)))
     (λ i m. rw (ne-eqb v w ne, h i m))
 
--- ---- the last store
+-- ---- head stored, where the records are in the image
 
-module _ (past : List ℕ) (st : State) (img : List ℕ) (b : Reference) (B : Busy past st img b) (w : ℕ) (e : st .pending .op ≡ Commit w)
-    (last : st .pending .made ≡ 4 * count st w) where
-  abbrev D₀ : Durable past st img b
-  D₀ = B .durable
-
+module _ (past : List ℕ) (st : State) (img : List ℕ) (b : Reference) (ok : stateOk st ≡ true) (D₀ : Durable past st img b) (writing : Writing st img b Never)
+    (w : ℕ) (can : CommitTaken st w) (stored : Stored st img w) where
   abbrev after : State
   after = completed st (Commit w)
 
@@ -163,14 +161,8 @@ module _ (past : List ℕ) (st : State) (img : List ℕ) (b : Reference) (B : Bu
   abbrev book : Reference
   book = committedBook w (withWork idle b)
 
-  writing : Writing st img b (Changing (Commit w))
-  writing = subst (λ (q : Op). Writing st img b (Changing q)) e (B .writers)
-
-  can : CommitTaken st w
-  can = commit-pending st w (B .valid) e
-
   done-ok : stateOk after ≡ true
-  done-ok = commit-valid st w (B .valid) (D₀ .behind .sixteen) (pends st (Commit w) (B .valid) e refl .taken)
+  done-ok = committed-valid st w ok (D₀ .behind .sixteen) can
 
   -- the records are there
   all-landed : Landed (word img) (st .sizes) (st .head) (count st w) (commitRecord st w)
@@ -178,10 +170,8 @@ module _ (past : List ℕ) (st : State) (img : List ℕ) (b : Reference) (B : Bu
       let i : ℕ = 4 * j + k in
       let x : i / 4 ≡ j = omega arith in
       let y : i % 4 ≡ k = omega arith in
-      let h : word img (commitAt st w i) ≡ commitValue st w i =
-      subst (λ (q : Op). (j : ℕ) → j < st .pending .made → word img (storeAt st q j) ≡ storeValue st img q j) e (B .landed) i (omega arith) in
       ap (word img) (sym (at-record st w i (omega arith) ∙ ap₂ (λ (q c : ℕ). recordWord (st .sizes) (position (st .sizes) (st .head) q) + c) x y))
-      ∙ h
+      ∙ stored i (omega arith)
       ∙ value-record st w i (omega arith)
       ∙ ap₂ (λ (q c : ℕ). wordOfRecord (commitRecord st w q) c) x y
 
@@ -194,27 +184,27 @@ module _ (past : List ℕ) (st : State) (img : List ℕ) (b : Reference) (B : Bu
   copies p l lp ll =
       caseOn (holds st w p l)
       (λ h.
-      ap (λ (f : ℕ). lineBytes img (st .sizes) f l) (frame-held st w (B .valid) (D₀ .behind .sixteen) can (word img) p l h)
+      ap (λ (f : ℕ). lineBytes img (st .sizes) f l) (frame-held st w ok (D₀ .behind .sixteen) can (word img) p l h)
       ∙ writing .own-copy w p l (can .writer-low) lp ll (λ x. x) h)
       (λ h.
-      ap (λ (f : ℕ). lineBytes img (st .sizes) f l) (frame-other st w (B .valid) (D₀ .behind .sixteen) can (word img) p l h)
+      ap (λ (f : ℕ). lineBytes img (st .sizes) f l) (frame-other st w ok (D₀ .behind .sixteen) can (word img) p l h)
       ∙ D₀ .committed p l lp ll
       ∙ pages-same (withWork idle b) w p l (none-laid p l lp ll h))
 
   durable : Durable past after image book
-  durable = committed-durable past st img b (B .valid) D₀ w can done-ok all-landed book copies
+  durable = committed-durable past st img b ok D₀ w can done-ok all-landed book copies
 
   is-other : (v p l : ℕ) → holds after v p l ≡ true → v ≡ w → ⊥
   is-other v p l h q =
-      contradicts (subst (λ (x : ℕ). holds after x p l ≡ true) q h) (closed-none st w (B .valid) (D₀ .behind .sixteen) can p l)
+      contradicts (subst (λ (x : ℕ). holds after x p l ≡ true) q h) (closed-none st w ok (D₀ .behind .sixteen) can p l)
 
   keep : (v p l : ℕ) → (v ≡ w → ⊥) → holds after v p l ≡ holds st v p l
-  keep = others-keep st w (B .valid) (D₀ .behind .sixteen) can
+  keep = others-keep st w ok (D₀ .behind .sixteen) can
 
   writers : Writing after image book Never
   writers =
       let z : Sizes = st .sizes in
-      let g : Legal z = valid st (B .valid) .legal in
+      let g : Legal z = valid st ok .legal in
       let ws = st .writers in
       record {
         four = closed-opened-length z g ws w ∙ writing .four;
@@ -228,10 +218,10 @@ module _ (past : List ℕ) (st : State) (img : List ℕ) (b : Reference) (B : Bu
             λ v p l lv lp ll _ h.
             let ne = is-other v p l h in
             let was : holds st v p l ≡ true = sym (keep v p l ne) ∙ h in
-            let out : holds st w p l ≡ false = not-both st w (B .valid) (D₀ .behind .sixteen) can v p l lv ne was in
+            let out : holds st w p l ≡ false = not-both st w ok (D₀ .behind .sixteen) can v p l lv ne was in
             let low : slotFor st p < z .slots = ltb-true (slotFor st p) (z .slots) (and-left (slotted st p) (inMask (heldAt (ws .held) v (slotFor st p)) l) was) in
             header-line img z headWord (position z (st .head) (count st w)) (omega arith) (durable-fits past st img b D₀) (otherFrame (slotIn (after .table) (slotFor after p)) l) l
-            ∙ ap (λ (f : ℕ). lineBytes img z f l) (other-after st w (B .valid) (D₀ .behind .sixteen) can (word img) p l low out)
+            ∙ ap (λ (f : ℕ). lineBytes img z f l) (other-after st w ok (D₀ .behind .sixteen) can (word img) p l low out)
             ∙ writing .own-copy v p l lv lp ll (λ x. x) was
             ∙ others-same (withWork idle b) w v p l ne (none-laid p l lp ll out);
         no-writes =
@@ -239,21 +229,31 @@ module _ (past : List ℕ) (st : State) (img : List ℕ) (b : Reference) (B : Bu
             caseOn (eqb v w)
             (λ c. rw c)
             (λ c. rw c (writing .no-writes v p l i lv lp ll li (sym (keep v p l (eqb-false v w c)) ∙ h)));
+        ready = λ p. absurd (omega arith);
       }
 
   -- the records join what the image showed
   pub commit-shows : Shows image (appended (word img) (ownView past st img b D₀) (count st w) (commitRecord st w))
-  commit-shows = head-shows past st img b (B .valid) D₀ w can done-ok all-landed
-
-  pub image-is : storeMade st img (Commit w) (st .pending .made) ≡ image
-  image-is =
-      ap (λ (m : ℕ). store img (commitAt st w m) (commitValue st w m)) last ∙ ap₂ (λ (a x : ℕ). store img a x) (at-head st w) (value-head st w)
+  commit-shows = head-shows past st img b ok D₀ w can done-ok all-landed
 
   pub commit-quiet : Quiet past after image book
   commit-quiet = record { valid = done-ok; pending = refl; durable = durable; writers = writers; work = refl }
 
-  pub commit-ends : st .pending .made + 1 ≡ needs st (Commit w) → Related past (stepped (record { st = st; image = img })) (advances 1 (b .work) b)
-  commit-ends q = step-last past st img b (Commit w) (committing w) image e (commit-doing past st img b B w e) q image-is commit-quiet
+-- ---- the last store of a commit
+
+module _ (past : List ℕ) (st : State) (img : List ℕ) (b : Reference) (B : Busy past st img b) (w : ℕ) (e : st .pending .op ≡ Commit w)
+    (last : st .pending .made ≡ 4 * count st w) where
+  pub records-there : Stored st img w
+  records-there i l = subst (λ (q : Op). (j : ℕ) → j < st .pending .made → word img (storeAt st q j) ≡ storeValue st img q j) e (B .landed) i (omega arith)
+
+  pub image-is : storeMade st img (Commit w) (st .pending .made) ≡ store img headWord (commitHead st w)
+  image-is =
+      ap (λ (m : ℕ). store img (commitAt st w m) (commitValue st w m)) last ∙ ap₂ (λ (a x : ℕ). store img a x) (at-head st w) (value-head st w)
+
+  commit-ends : st .pending .made + 1 ≡ needs st (Commit w) → Related past (stepped (record { st = st; image = img })) (advances 1 (b .work) b)
+  commit-ends q =
+      step-last past st img b (Commit w) (committing w) (store img headWord (commitHead st w)) e (commit-doing past st img b B w e) q image-is
+      (commit-quiet past st img b (B .valid) (B .durable) (subst (λ (o : Op). Writing st img b (Changing o)) e (B .writers)) w (commit-pending st w (B .valid) e) records-there)
 
 -- one step of a pending commit
 pub step-commit : (past : List ℕ) (st : State) (img : List ℕ) (b : Reference) → Busy past st img b → (w : ℕ) → st .pending .op ≡ Commit w

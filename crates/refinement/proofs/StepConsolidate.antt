@@ -99,6 +99,7 @@ module _ (st : State) (img : List ℕ) (b : Reference) (p x : ℕ) (F : Freed st
             caseOn (eqb q p)
             (λ e. W .no-writes w q l i lw lq ll li (subst (λ (y : ℕ). holds st w y l ≡ false) (sym (eqb-true q p e)) (gone-held w l lw)))
             (λ e. W .no-writes w q l i lw lq ll li (sym (holds-kept q lq (eqb-false q p e) w l) ∙ h));
+        ready = λ l. absurd (omega (arith, l, F .alone));
       }
 
 -- ---- a store of it

@@ -34,12 +34,13 @@ use Rattle.refinement.proofs.WriteValid.{write-valid}
 use Rattle.refinement.specs.Reference.{Reference, idle, writing, withWork, advances, written, readLine}
 use Rattle.refinement.proofs.Copies.{durable-legal, durable-fits}
 use Rattle.refinement.proofs.Invariant.{Durable, holds, Writing, Never, Changing, Busy, Related}
+use Rattle.refinement.proofs.Records.{stored-same}
 use Rattle.refinement.proofs.Stepping.{Mid, unslotted-durable, mid-durable, mid-writing, mid-landed}
 use Rattle.refinement.proofs.StepLast.{step-last}
 use Rattle.refinement.proofs.Valid.{good}
 use Rattle.refinement.proofs.WriteTable.{Own, Takes, own-or-takes, page-slot, slot-whole, other-kept, frame-kept, write-behind}
 use Rattle.refinement.proofs.WriteMid.{at-work, write-pending, target-low, given, newLine, new-length, new-bytes, value-is, write-doing, write-mid, page-frame-kept, write-on}
-use Rattle.refinement.proofs.WriteHeld.{same-or-not, holds-new, holds-kept, held-low-kept, writes-kept, line-same}
+use Rattle.refinement.proofs.WriteHeld.{same-or-not, holds-new, holds-kept, mask-other, held-slot-kept, held-low-kept, writes-kept, line-same}
 
 module _ (past : List ℕ) (st : State) (img : List ℕ) (b : Reference) (B : Busy past st img b) (w p l o n : ℕ) (e : st .pending .op ≡ Write w p l o n)
     (last : st .pending .made + 1 ≡ 8) where
@@ -177,6 +178,11 @@ module _ (past : List ℕ) (st : State) (img : List ℕ) (b : Reference) (B : Bu
             (subst (λ (x : ℕ). holds after w p x ≡ false) (s .2) (subst (λ (x : ℕ). holds after w x i ≡ false) (s .1) (subst (λ (x : ℕ). holds after x q i ≡ false) (s .0) h))))
             (λ out. writes-kept (withWork idle b) w p l o n bytes v q i j out ∙ W .no-writes v q i j lv lq li lj (sym (holds-other v q i lv lq out) ∙ h))
             (same-or-not st w p l o n (B .valid) T (D .behind .sixteen) (W .sixty-four) apart v q i);
+        ready =
+            λ k.
+            stored-same z (st .head) (st .table) (after .table) (st .writers .held) (after .writers .held) (st .writers .prepared)
+            (λ s. mask-other st w p l o n (B .valid) T (D .behind .sixteen) (W .sixty-four) apart (st .writers .prepared) s (T .unprepared))
+            (λ s. held-slot-kept st w p l o n (B .valid) T (D .behind .sixteen) (W .sixty-four) apart (st .writers .prepared) s k) image (W .ready k);
       }
 
   pub write-ends : Related past (stepped (record { st = st; image = img })) (advances 1 (b .work) b)

@@ -26,7 +26,7 @@ use Rattle.mount.proofs.Verdict.{Taken}
 use Rattle.mount.proofs.Dead.{Dead, dead-view, store-old}
 use Rattle.state.specs.declared.State.{State}
 use Rattle.state.specs.declared.Op.{Op}
-use Rattle.state.specs.declared.Op.the-variants.{Idle, Write, Commit, Consolidate, Checkpoint, Event}
+use Rattle.state.specs.declared.Op.the-variants.{Idle, Write, Commit, Consolidate, Checkpoint, Event, Prepare, Confirm}
 use Rattle.operations.specs.Operations.{slotFor, needs, isIdle}
 use Rattle.refinement.specs.Frames.{otherFrame}
 use Rattle.refinement.specs.Write.{writeSlot}
@@ -42,6 +42,7 @@ use Rattle.refinement.specs.Reference.{Reference, Task, idle, under, wit
 use Rattle.refinement.proofs.Copies.{durable-legal, durable-fits}
 use Rattle.refinement.proofs.Invariant.{TakenOnly, Behind, Durable, holds, Writing, Doing, Changing, Busy, Related}
 use Rattle.refinement.proofs.PageSlots.{slotted-of, unslotted-of}
+use Rattle.refinement.proofs.Records.{OffJournal, stored-kept}
 
 -- ---- one store of a word
 
@@ -157,8 +158,12 @@ module _ (st : State) (img : List ℕ) (b : Reference) (Being : ℕ → ℕ → 
       (v p l k : ℕ) → v < 4 → p < st .sizes .pages → l < 64 → k < 8 → (Being v p l → ⊥) → holds st v p l ≡ true
       → lineWord (st .sizes) (otherFrame (slotIn (st .table) (slotFor st p)) l) l + k ≡ a → ⊥
 
-  pub writing-kept : (a w : ℕ) → 8 * a + 8 ≤ length img → Unowned a → Writing st img b Being → Writing st (store img a w) b Being
-  writing-kept a w fits free W =
+  -- nor one of the journal where a writer is prepared
+  abbrev pub Off : ℕ → Type 0
+  Off a = st .writers .prepared < 4 → OffJournal (st .sizes) a
+
+  pub writing-kept : Legal (st .sizes) → (a w : ℕ) → 8 * a + 8 ≤ length img → Unowned a → Off a → Writing st img b Being → Writing st (store img a w) b Being
+  writing-kept g a w fits free off W =
       record {
         four = W .four;
         sixty-four = W .sixty-four;
@@ -168,10 +173,11 @@ module _ (st : State) (img : List ℕ) (b : Reference) (Being : ℕ → ℕ → 
             line-kept img a w (st .sizes) (otherFrame (slotIn (st .table) (slotFor st p)) l) l fits (λ k m. free v p l k lv lp ll m out h)
             ∙ W .own-copy v p l lv lp ll out h;
         no-writes = W .no-writes;
+        ready = λ p. stored-kept (st .sizes) (st .head) (st .table) (st .writers .held) img (st .writers .prepared) a w g fits (off p) (W .ready p);
       }
 
   pub writing-made : (n : ℕ) (k : _) → Writing st img b Being → Writing (withMade st n) img (withWork k b) Being
-  writing-made n k W = record { four = W .four; sixty-four = W .sixty-four; held-low = W .held-low; own-copy = W .own-copy; no-writes = W .no-writes }
+  writing-made n k W = record { four = W .four; sixty-four = W .sixty-four; held-low = W .held-low; own-copy = W .own-copy; no-writes = W .no-writes; ready = W .ready }
 
 -- ---- the state with one store more made
 
@@ -184,6 +190,8 @@ module _ (st : State) (n : ℕ) where
   at-made (Consolidate p) j = refl
   at-made Checkpoint j = refl
   at-made (Event k m a) j = refl
+  at-made (Prepare w) j = refl
+  at-made (Confirm w) j = refl
 
   pub value-made : (img : List ℕ) (op : Op) (j : ℕ) → storeValue (withMade st n) img op j ≡ storeValue st img op j
   unfolding commitValueOf commitRecordOf consolidateValue freeingRecord checkpointValueOf eventValue
@@ -193,6 +201,8 @@ module _ (st : State) (n : ℕ) where
   value-made img (Consolidate p) j = refl
   value-made img Checkpoint j = refl
   value-made img (Event k m a) j = refl
+  value-made img (Prepare w) j = refl
+  value-made img (Confirm w) j = refl
 
 -- ---- a step
 
@@ -226,11 +236,12 @@ module _ (b : Reference) (t : Task) (n m : ℕ) (work : b .work ≡ under t (n -
 -- ---- a store that is not the last
 
 -- store a of the pending operation op, of value w: it stores what is there; or mount does not read a, and no committed line and no
--- writer's own copy has it
+-- writer's own copy has it, and it is no word of the journal where a writer is prepared
 pub record Aside (past : List ℕ) (st : State) (img : List ℕ) (b : Reference) (D : Durable past st img b) (op : Op) (a : ℕ) : Type 0 where
   pub dead : Dead (D .view) a
   pub uncommitted : Uncommitted past st img b D a
   pub unowned : Unowned st img b (Changing op) a
+  pub off : Off st img b (Changing op) a
 
 pub record Mid (past : List ℕ) (st : State) (img : List ℕ) (b : Reference) (D : Durable past st img b) (op : Op) (m : ℕ) : Type 0 where
   pub inside : 8 * storeAt st op m + 8 ≤ imageLength (st .sizes)
@@ -240,10 +251,10 @@ pub record Mid (past : List ℕ) (st : State) (img : List ℕ) (b : Reference) (
   pub harmless : (storeValue st img op m ≡ word img (storeAt st op m)) ⊎ Aside past st img b D op (storeAt st op m)
 
 -- a word before the frames is no word of a line
-pub aside-before : (past : List ℕ) (st : State) (img : List ℕ) (b : Reference) (D : Durable past st img b) (op : Op) (a : ℕ) → a < frameWord (st .sizes) → Dead (D .view) a
+pub aside-before : (past : List ℕ) (st : State) (img : List ℕ) (b : Reference) (D : Durable past st img b) (op : Op) (a : ℕ) → a < frameWord (st .sizes) → Off st img b (Changing op) a → Dead (D .view) a
     → Aside past st img b D op a
-aside-before past st img b D op a early dead =
-    record { dead = dead; uncommitted = λ p l k lp ll lk e. omega arith; unowned = λ v p l k lv lp ll lk out h e. omega arith }
+aside-before past st img b D op a early off dead =
+    record { dead = dead; uncommitted = λ p l k lp ll lk e. omega arith; unowned = λ v p l k lv lp ll lk out h e. omega arith; off = off }
 
 module _ (past : List ℕ) (st : State) (img : List ℕ) (b : Reference) (D : Durable past st img b) (op : Op) (m : ℕ) (M : Mid past st img b D op m) where
   abbrev a : ℕ
@@ -266,7 +277,7 @@ module _ (past : List ℕ) (st : State) (img : List ℕ) (b : Reference) (D : Du
   mid-writing W =
       ⊎-elim
       (λ e. subst (λ (i : List ℕ). Writing st i b (Changing op)) (sym (store-none past st img b D a w (M .inside) e)) W)
-      (λ (s : Aside past st img b D op a). writing-kept st img b (Changing op) a w (store-fits past st img b D a w (M .inside)) (s .unowned) W)
+      (λ (s : Aside past st img b D op a). writing-kept st img b (Changing op) (durable-legal past st img b D) a w (store-fits past st img b D a w (M .inside)) (s .unowned) (s .off) W)
       (M .harmless)
 
   pub mid-landed : ((j : ℕ) → j < m → word img (storeAt st op j) ≡ storeValue st img op j) → (j : ℕ) → j < m + 1 → word after (storeAt st op j) ≡ storeValue st after op j

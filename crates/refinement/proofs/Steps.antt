@@ -13,7 +13,7 @@ use Rattle.bounded.proofs.Tests.{caseOn, contradicts}
 use Rattle.replay.proofs.Tables.{Sixteen}
 use Rattle.state.specs.declared.State.{State}
 use Rattle.state.specs.declared.Op.{Op}
-use Rattle.state.specs.declared.Op.the-variants.{Idle, Write, Commit, Consolidate, Checkpoint, Event}
+use Rattle.state.specs.declared.Op.the-variants.{Idle, Write, Commit, Consolidate, Checkpoint, Event, Prepare, Confirm}
 use Rattle.operations.specs.Operations.{isIdle, needs}
 use Rattle.validity.specs.Validity.{stateOk}
 use Rattle.refinement.specs.Write.{writeSlot}
@@ -85,6 +85,8 @@ completed-made st m (Commit w) i = refl
 completed-made st m (Consolidate p) i = refl
 completed-made st m Checkpoint i = refl
 completed-made st m (Event k j a) i = refl
+completed-made st m (Prepare w) i = refl
+completed-made st m (Confirm w) i = refl
 
 -- all that are left
 pub run-all : (v : World) → isIdle (v .st .pending .op) ≡ false → 0 < left (v .st) → steppedBy (left (v .st)) v .st ≡ completed (v .st) (v .st .pending .op)
@@ -113,6 +115,8 @@ store-of st m img (Commit w) i = refl
 store-of st m img (Consolidate p) i = refl
 store-of st m img Checkpoint i = refl
 store-of st m img (Event k j a) i = refl
+store-of st m img (Prepare w) i = refl
+store-of st m img (Confirm w) i = refl
 
 -- so that the image after a run is the one after that many stores
 pub run-image : (n : ℕ) (v : World) → n ≤ left (v .st) → steppedBy n v .image ≡ storesMade (v .st) n (v .image)

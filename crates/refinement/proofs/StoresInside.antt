@@ -8,7 +8,7 @@ use Rattle.layout.specs.declared.Sizes.{Sizes}
 use Rattle.layout.specs.Layout.{imageLength}
 use Rattle.state.specs.declared.State.{State}
 use Rattle.state.specs.declared.Op.{Op}
-use Rattle.state.specs.declared.Op.the-variants.{Idle, Write, Commit, Consolidate, Checkpoint, Event}
+use Rattle.state.specs.declared.Op.the-variants.{Idle, Write, Commit, Consolidate, Checkpoint, Event, Prepare, Confirm}
 use Rattle.operations.specs.Operations.{isIdle, needs}
 use Rattle.refinement.specs.Stores.{World, storeAt}
 use Rattle.refinement.proofs.InRange.{store-in-range}
@@ -26,6 +26,8 @@ needing st (Commit w) i l = refl
 needing st (Consolidate p) i l = refl
 needing st Checkpoint i l = refl
 needing st (Event k m a) i l = refl
+needing st (Prepare w) i l = refl
+needing st (Confirm w) i l = refl
 
 inside : {past : List ℕ} (z : Sizes) (v : World) (b : Reference) → Reached z past v b → (i : ℕ) → i < needs (v .st) (v .st .pending .op)
     → 8 * storeAt (v .st) (v .st .pending .op) i + 8 ≤ imageLength z

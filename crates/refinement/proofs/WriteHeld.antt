@@ -14,8 +14,8 @@ use Rattle.layout.specs.declared.Sizes.{Sizes}
 use Rattle.layout.specs.Layout.{Legal}
 use Rattle.journal.specs.declared.Slot.{Slot}
 use Rattle.replay.specs.declared.Table.{Table}
-use Rattle.replay.specs.Table.{pagesApart}
-use Rattle.replay.proofs.Tables.{Sixteen}
+use Rattle.replay.specs.Table.{pagesApart, slotIn}
+use Rattle.replay.proofs.Tables.{Sixteen, slot-other}
 use Rattle.masks.specs.Lines.{inMask, withLine}
 use Rattle.masks.proofs.Members.{in-none, in-with-same, in-with-other, with-lt}
 use Rattle.state.specs.declared.State.{State}
@@ -131,6 +131,20 @@ module _ (st : State) (w p l o n : ℕ) (ok : stateOk st ≡ true) (T : WriteTak
       (held-slot held w s (withLine (heldAt held w s) l) lines (T .args .writer-low) (omega (arith, slot-low, g .slots-high)) v (slotFor st q) (omega (arith, m, g .slots-high))
       (slot-differs st p g full (T .args .page-low) apart cases slot-low q lq ne m)))
       (λ e. ap (λ (d : Bool). d && inMask (now (slotFor st q)) i) e ∙ sym (ap (λ (d : Bool). d && inMask (heldAt held v (slotFor st q)) i) e)))
+
+  -- another writer's masks stay, and so do the slots of which it holds lines
+  pub mask-other : (v k : ℕ) → (v ≡ w → ⊥) → k < z .slots → heldAt (after .writers .held) v k ≡ heldAt held v k
+  mask-other v k ne lk =
+      held-writer held w s (withLine (heldAt held w s) l) lines (T .args .writer-low) (omega (arith, slot-low, g .slots-high)) v k (omega (arith, lk, g .slots-high)) ne
+
+  pub held-slot-kept : (v k : ℕ) → v < 4 → k < z .slots → (heldAt held v k ≡ 0 → ⊥) → slotIn (after .table) k ≡ slotIn (st .table) k
+  held-slot-kept v k lv lk some =
+      ⊎-elim
+      (λ (h : Own st p). ap (λ (t : Table). slotIn t k) (h .table))
+      (λ (h : Takes st p).
+      ap (λ (t : Table). slotIn t k) (h .table)
+      ∙ slot-other (st .table) s _ k (λ q. valid st ok .held .owned k v lk lv some (ap (λ (x : ℕ). slotIn (st .table) x .page) q ∙ ap (λ (t : Slot). t .page) (h .free))))
+      cases
 
   -- masks stay below 2 ^ 64
   pub held-low-kept : ((v k : ℕ) → v < 4 → k < z .slots → heldAt held v k < 2 ^ 64) → (v k : ℕ) → v < 4 → k < z .slots → heldAt (after .writers .held) v k < 2 ^ 64

@@ -118,6 +118,7 @@ module _ (past : List ℕ) (st : State) (img : List ℕ) (b : Reference) (valid 
             let x : i ≡ l = a .1 in
             target-owned v q lv lq (subst (λ (y : ℕ). holds st v q y ≡ true) x h) (λ c. out (c .0, c .1, x))
             (sym (a .0) ∙ ap (otherFrame (slotIn (st .table) (slotFor st q))) x);
+        off = λ p. inr (omega arith);
       }
 
 -- ---- the finished line

@@ -20,7 +20,7 @@ use Rattle.replay.specs.Table.{slotIn, withSlot}
 use Rattle.journal.proofs.SlotWords.{Owning, Free, shape, owning-shaped}
 use Rattle.replay.proofs.Tables.{Sixteen, slot-same, slot-other}
 use Rattle.mount.proofs.View.{slot-none}
-use Rattle.masks.specs.Lines.{inMask}
+use Rattle.masks.specs.Lines.{inMask, withLine}
 use Rattle.masks.proofs.Members.{in-none}
 use Rattle.state.specs.declared.State.{State}
 use Rattle.state.specs.declared.Op.the-variants.{Write}
@@ -30,11 +30,12 @@ use Rattle.operations.specs.Operations.{slotFor, slotted}
 use Rattle.validity.specs.Validity.{stateOk}
 use Rattle.operations.proofs.Taken.{WriteTaken, write-taken}
 use Rattle.refinement.specs.Stores.{completed}
-use Rattle.refinement.specs.Write.{writeSlot, writeTable, writeNext}
+use Rattle.refinement.specs.Write.{writeSlot, writeTable, writeNext, writeWriters}
 use Rattle.refinement.proofs.StateValid.{Apart, SlotsFine, HeldFine, LastsFine, lastAt, valid, valid-ok}
 use Rattle.refinement.proofs.Pending.{idle-ok, pends}
 use Rattle.refinement.proofs.OneSlot.{slots-changed, held-changed}
-use Rattle.refinement.proofs.LinePut.{line-put}
+use Rattle.refinement.proofs.LinePut.{held-writer, line-put}
+use Rattle.refinement.proofs.Records.{slots-same}
 
 -- where a write of line l by writer w goes: slot s of table t, with the next slot to try
 pub record Target (st : State) (w l s next : ℕ) (t : Table) : Type 0 where
@@ -198,6 +199,13 @@ module _ (st : State) (w p l o n : ℕ) (e : stateOk st ≡ true) (full : Sixtee
         held = line-put z (v .legal) (slotIn (writeTable st p)) (st .writers .opened) (st .writers .held) w (writeSlot st p) l lines (h .args .writer-low) (g .slot-low) (g .held) (h .opened) (g .owned) (g .line-free);
         next-low = g .next-low;
         lasts = g .lasts;
+        prepared =
+            λ k.
+            let b : ℕ = st .writers .prepared in
+            let same =
+            slots-same z (st .writers .held) (writeWriters st w p l .held) b
+            (λ s i. held-writer (st .writers .held) w (writeSlot st p) (withLine (heldAt (st .writers .held) w (writeSlot st p)) l) lines (h .args .writer-low) (omega (arith, g .slot-low, v .legal .slots-high)) b s (omega (arith, i, v .legal .slots-high)) (h .unprepared)) in
+            record { opens = v .prepared k .opens; fits = rw same (v .prepared k .fits) };
         pending = idle-ok (completed st (Write w p l o n)) refl;
       })
 

@@ -18,7 +18,7 @@ use Rattle.state.specs.declared.Op.the-variants.{Checkpoint}
 use Rattle.operations.specs.Operations.{needs}
 use Rattle.refinement.specs.Stores.{World, storeAt, left}
 use Rattle.refinement.specs.Recall.{frameOf}
-use Rattle.refinement.specs.Run.{Call, mount, checkpoint, step, commit, run, exec, formattedWorld, after}
+use Rattle.refinement.specs.Run.{Call, mount, checkpoint, step, commit, prepare, confirm, run, exec, formattedWorld, after}
 use Rattle.refinement.specs.Reference.{Reference, blank, turn, readLine, recallLine}
 use Rattle.refinement.specs.Statement.{AllLent}
 
@@ -87,23 +87,27 @@ StoresInside =
 abbrev pub PastKept : Type 0
 PastKept = Always (λ z buffer v b. drop (imageLength z) (v .image) ≡ drop (imageLength z) buffer)
 
--- ---- a commit is whole or absent
+-- ---- a commit is whole or absent, and so is a confirm
 
--- a commit by writer w is asked for, a run of k follows, and power goes: with fewer stores made than it needs (the last is that of head) a
--- mount finds every page as it was before the commit; with all of them, as the writer read it
-pub record Whole (z : Sizes) (v : World) (b : Reference) (w k : ℕ) : Type 0 where
-  pub absent : k < exec (commit w) v .stores → Finds z (exec (run k) (exec (commit w) v .world) .world) (recallLine b)
-  pub landed : exec (commit w) v .stores ≤ k → Finds z (exec (run k) (exec (commit w) v .world) .world) (readLine b w)
+-- the call c, a commit or a confirm by writer w, is asked for, a run of k follows, and power goes: with fewer stores made than it needs (the last is that of
+-- head) a mount finds every page as it was before the call; with all of them, as the writer read it
+pub record Whole (z : Sizes) (v : World) (b : Reference) (c : Call) (w k : ℕ) : Type 0 where
+  pub absent : k < exec c v .stores → Finds z (exec (run k) (exec c v .world) .world) (recallLine b)
+  pub landed : exec c v .stores ≤ k → Finds z (exec (run k) (exec c v .world) .world) (readLine b w)
 
--- every commit that is taken
+-- every one of the two that is taken
+pub record WholeOrAbsent (z : Sizes) (v : World) (b : Reference) : Type 0 where
+  pub committed : (w k : ℕ) → exec (commit w) v .number ≡ 0 → Whole z v b (commit w) w k
+  pub confirmed : (w k : ℕ) → exec (confirm w) v .number ≡ 0 → Whole z v b (confirm w) w k
+
 abbrev pub CommitWhole : Type 0
-CommitWhole = Always (λ z buffer v b. (w k : ℕ) → exec (commit w) v .number ≡ 0 → Whole z v b w k)
+CommitWhole = Always (λ z buffer v b. WholeOrAbsent z v b)
 
 -- ---- a checkpoint makes room
 
--- no commit is answered 19
+-- no commit and no prepare is answered 19
 abbrev pub HasRoom : World → Type 0
-HasRoom v = (w : ℕ) → exec (commit w) v .number ≡ 19 → ⊥
+HasRoom v = (w : ℕ) → (exec (commit w) v .number ≡ 19 → ⊥) × (exec (prepare w) v .number ≡ 19 → ⊥)
 
 -- none is, right after a checkpoint is completed: by the call that asks for one that needs no store, and, where one is under way, by the
 -- step or the run that makes the last of its stores

@@ -12,11 +12,11 @@ use Rattle.meters.specs.Meters.{movesCredit, firstMeter, ownMeter, eventNeeds, 
 use Rattle.state.specs.declared.State.{State}
 use Rattle.state.specs.declared.Writers.{Writers}
 use Rattle.state.specs.declared.Op.{Op}
-use Rattle.state.specs.declared.Op.the-variants.{Idle, Write, Commit, Consolidate, Checkpoint, Event}
-use Rattle.state.specs.Held.{isOpen}
-use Rattle.operations.specs.Operations.{isIdle, slotFor, frameBad, journalFull, writeRows, commitRows, consolidateRows, needs, eventFirstRows}
+use Rattle.state.specs.declared.Op.the-variants.{Idle, Write, Commit, Consolidate, Checkpoint, Event, Prepare, Confirm}
+use Rattle.state.specs.Held.{isOpen, noWriter, somePrepared}
+use Rattle.operations.specs.Operations.{isIdle, slotFor, frameBad, journalFull, writeRows, commitRows, confirmRows, consolidateRows, needs, eventFirstRows}
 use Rattle.validity.specs.Validity.{stateOk}
-use Rattle.refinement.specs.Settled.{withLines}
+use Rattle.refinement.specs.Settled.{withPrepared, withLines}
 use Rattle.refinement.specs.Commit.{closedWriter}
 use Rattle.refinement.specs.Frames.{pageFrame, seenFrame, holds}
 use Rattle.refinement.specs.Freeing.{freedSlot, freedPage}
@@ -52,10 +52,12 @@ beginRows st w = rowState st ∷ rowPending st ∷ (ltb 3 w, 11) ∷ (isOpen (st
 
 unfoldable pub beginOf : State → ℕ → Outcome
 beginOf st w =
-    answered (refusal (beginRows st w)) st 0 (withWriters st (record { opened = set (st .writers .opened) w true; held = st .writers .held }))
+    answered (refusal (beginRows st w)) st 0 (withWriters st (record { opened = set (st .writers .opened) w true; held = st .writers .held; prepared = st .writers .prepared }))
 
+-- 23: the writer is prepared
 abbrev pub abortRows : State → ℕ → List Row
-abortRows st w = rowState st ∷ rowPending st ∷ (ltb 3 w, 11) ∷ (not (isOpen (st .writers .opened) w), 13) ∷ []
+abortRows st w =
+    rowState st ∷ rowPending st ∷ (ltb 3 w, 11) ∷ (not (isOpen (st .writers .opened) w), 13) ∷ (eqb (st .writers .prepared) w, 23) ∷ []
 
 unfoldable pub abortOf : State → ℕ → Outcome
 abortOf st w = answered (refusal (abortRows st w)) st 0 (withWriters st (closedWriter (st .sizes) (st .writers) w))
@@ -94,16 +96,35 @@ commitCallRows st img w = rowState st ∷ rowShort st (length img) ∷ rowPendin
 unfoldable pub commitOf : State → List ℕ → ℕ → Outcome
 commitOf st img w = asked (refusal (commitCallRows st img w)) st (Commit w) (replicate 8 0) 0
 
+-- prepare, confirm and withdraw (document 02, L8): a commit in two parts. A withdraw needs no stores: no writer is prepared, and the transaction goes on
+unfoldable pub prepareOf : State → List ℕ → ℕ → Outcome
+prepareOf st img w = asked (refusal (commitCallRows st img w)) st (Prepare w) (replicate 8 0) 0
+
+abbrev pub confirmCallRows : State → List ℕ → ℕ → List Row
+confirmCallRows st img w = rowState st ∷ rowShort st (length img) ∷ rowPending st ∷ confirmRows st w
+
+unfoldable pub confirmOf : State → List ℕ → ℕ → Outcome
+confirmOf st img w = asked (refusal (confirmCallRows st img w)) st (Confirm w) (replicate 8 0) 0
+
+unfoldable pub withdrawOf : State → List ℕ → ℕ → Outcome
+withdrawOf st img w = answered (refusal (confirmCallRows st img w)) st 0 (withWriters st (withPrepared (st .writers) noWriter))
+
 abbrev pub consolidateCallRows : State → List ℕ → ℕ → List Row
 consolidateCallRows st img p = rowState st ∷ rowShort st (length img) ∷ rowPending st ∷ consolidateRows st p
 
 unfoldable pub consolidateOf : State → List ℕ → ℕ → Outcome
 consolidateOf st img p = asked (refusal (consolidateCallRows st img p)) st (Consolidate p) (replicate 8 0) 0
 
--- a slot freed: the consolidation of the slot chosen. 22: every taken slot has a held line, or none is taken
+-- a slot freed: the consolidation of the slot chosen. 23: a writer is prepared; 22: every taken slot has a held line, or none is taken
 abbrev pub freeCallRows : State → List ℕ → List Row
 freeCallRows st img =
-    rowState st ∷ rowShort st (length img) ∷ rowPending st ∷ (leb (st .sizes .slots) (freedSlot st), 22) ∷ (journalFull st 1, 19) ∷ []
+    rowState st
+    ∷ rowShort st (length img)
+    ∷ rowPending st
+    ∷ (somePrepared (st .writers .prepared), 23)
+    ∷ (leb (st .sizes .slots) (freedSlot st), 22)
+    ∷ (journalFull st 1, 19)
+    ∷ []
 
 unfoldable pub freeOf : State → List ℕ → Outcome
 freeOf st img = asked (refusal (freeCallRows st img)) st (Consolidate (freedPage st)) (replicate 8 0) 0
@@ -131,7 +152,7 @@ abbrev pub eventSecond : State → List ℕ → ℕ → ℕ → ℕ → List ℕ
 eventSecond st img k m a =
     cond (movesCredit k) (meterLine st img (ownMeter k m) (rolled (ownMeter k m) (meterIn st img (ownMeter k m)) a)) (replicate 8 0)
 
--- 20, 12, 14, 15, 16, then 21, then 19
+-- 20, 12, 23, 14, 15, 16, then 21, then 19
 abbrev pub eventCallRows : State → List ℕ → ℕ → ℕ → ℕ → List Row
 eventCallRows st img k m a =
     rowState st ∷ rowShort st (length img) ∷ rowPending st

@@ -17,8 +17,8 @@ use Rattle.replay.specs.Table.{slotIn, replay}
 use Rattle.masks.specs.Lines.{exclusiveOr}
 use Rattle.state.specs.declared.State.{State}
 use Rattle.state.specs.declared.Writers.{Writers}
-use Rattle.state.specs.Held.{heldAt, heldSlots}
-use Rattle.refinement.specs.Settled.{settled}
+use Rattle.state.specs.Held.{noWriter, heldAt, heldSlots}
+use Rattle.refinement.specs.Settled.{settled, withPrepared}
 
 abbrev pub commitSlots : State → ℕ → List ℕ
 commitSlots st w = heldSlots (st .sizes) (st .writers .held) w
@@ -73,8 +73,19 @@ commitHead st w = position (st .sizes) (st .head) (length (commitSlots st w))
 
 -- a writer closed, its held lines emptied
 unfoldable pub closedWriter : Sizes → Writers → ℕ → Writers
-closedWriter z ws w = record { opened = set (ws .opened) w false; held = upTo (z .slots) (λ s h. set h (16 * w + s) 0) (ws .held) }
+closedWriter z ws w = record { opened = set (ws .opened) w false; held = upTo (z .slots) (λ s h. set h (16 * w + s) 0) (ws .held); prepared = ws .prepared }
 
--- the state when its last store is made
+-- the state when its last store is made: no writer is prepared
 abbrev pub commitDone : State → ℕ → State
-commitDone st w = settled st (commitHead st w) (st .tail) (st .next) (commitTable st w) (closedWriter (st .sizes) (st .writers) w)
+commitDone st w =
+    settled st (commitHead st w) (st .tail) (st .next) (commitTable st w) (withPrepared (closedWriter (st .sizes) (st .writers) w) noWriter)
+
+-- ---- in two parts (document 02, L8)
+
+-- n stores of a confirm, which has one: that of head
+abbrev pub confirmStores : Sizes → ℕ → List ℕ → ℕ → ℕ → List ℕ → List ℕ
+confirmStores z head held w n img = upTo n (λ i m. store m headWord (position z head (length (heldSlots z held w)))) img
+
+-- prepare stores the records alone; then the writer is prepared, and nothing else has changed
+abbrev pub prepareDone : State → ℕ → State
+prepareDone st w = settled st (st .head) (st .tail) (st .next) (st .table) (withPrepared (st .writers) w)

@@ -8,10 +8,10 @@ use lib.ListN.{drop}
 use Rattle.layout.specs.declared.Sizes.{Sizes}
 use Rattle.layout.specs.Layout.{imageLength}
 use Rattle.refinement.specs.Stores.{World}
-use Rattle.refinement.specs.Run.{Call, mount, commit, exec}
+use Rattle.refinement.specs.Run.{Call, mount, exec}
 use Rattle.refinement.specs.Reference.{Reference, recallLine}
 use Rattle.refinement.specs.Statement.{Right, Lent}
-use Rattle.refinement.specs.Beside.{Always, Finds, ReadsBack, Whole, MakesRoom, broken}
+use Rattle.refinement.specs.Beside.{Always, Finds, ReadsBack, WholeOrAbsent, MakesRoom, broken}
 use Rattle.refinement.specs.Refused.{Unchanged, targetOf}
 
 pub record Demand (z : Sizes) (buffer : List ℕ) (v : World) (b : Reference) : Type 0 where
@@ -21,9 +21,9 @@ pub record Demand (z : Sizes) (buffer : List ℕ) (v : World) (b : Reference) : 
   pub sound : (c : Call) → broken (exec c v .number) ≡ false
   -- a refused one changes no state and no byte
   pub refused : (c : Call) → (exec c v .number ≡ 0 → ⊥) → Unchanged (exec c v) v (targetOf c)
-  -- a commit is whole or absent, wherever in it power fails
-  pub whole : (w k : ℕ) → exec (commit w) v .number ≡ 0 → Whole z v b w k
-  -- right after a checkpoint no commit lacks journal space
+  -- a commit and a confirm are whole or absent, wherever in them power fails
+  pub whole : WholeOrAbsent z v b
+  -- right after a checkpoint no commit and no prepare lacks journal space
   pub room : MakesRoom v
   -- a mount finds the reference machine's pages, and reads back the state's committed pages, committed slots and journal
   pub finds : Finds z v (recallLine b)

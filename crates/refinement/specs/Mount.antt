@@ -1,4 +1,4 @@
--- Format and mount: the state that they return. No writer is open, next slot is 0, nothing is pending.
+-- Format and mount: the state that they return. No writer is open or prepared, next slot is 0, nothing is pending.
 use Prim.Native.Nat.{ℕ}
 use mathlib.Core.Bool.{Bool, false, cond}
 use mathlib.Core.List.{List}
@@ -12,11 +12,12 @@ use Rattle.mount.specs.Mount.{mountOf}
 use Rattle.replay.specs.Table.{emptyTable}
 use Rattle.state.specs.declared.State.{State}
 use Rattle.state.specs.declared.Writers.{Writers}
+use Rattle.state.specs.Held.{noWriter}
 use Rattle.refinement.specs.Settled.{noPending}
 use Rattle.refinement.specs.Outcome.{Outcome, answered}
 
 abbrev pub allClosed : Writers
-allClosed = record { opened = replicate 4 false; held = replicate 64 0 }
+allClosed = record { opened = replicate 4 false; held = replicate 64 0; prepared = noWriter }
 
 abbrev pub quietState : Sizes → ℕ → ℕ → Table → State
 quietState z head tail t =

@@ -7,7 +7,7 @@ use mathlib.Core.List.{List}
 use lib.Dec.{ltb, leb, eqb}
 use lib.ListN.{getD}
 use Rattle.bounded.specs.Tab.{tab}
-use Rattle.refinement.specs.Run.{Call, mount, checkpoint, free, step, begin, abort, commit, consolidate, run, write, read, recall, event}
+use Rattle.refinement.specs.Run.{Call, mount, checkpoint, free, step, begin, abort, commit, prepare, confirm, withdraw, consolidate, run, write, read, recall, event}
 use Rattle.words.specs.Words.{bytesOf, wordAt}
 use Rattle.meters.specs.Meters.{movesCredit, firstMeter, ownMeter, rolled, firstNumber}
 
@@ -119,6 +119,9 @@ taken step n b = advances 1 (b .work) b
 taken (begin w) n b = b
 taken (abort w) n b = emptied w b
 taken (commit w) n b = starts (committing w) n b
+taken (prepare w) n b = starts nothing n b
+taken (confirm w) n b = starts (committing w) n b
+taken (withdraw w) n b = b
 taken (consolidate p) n b = starts nothing n b
 taken (run k) n b = advances k (b .work) b
 taken (write w p l o m bytes) n b = starts (writing w p l o m bytes) n b

@@ -3,7 +3,7 @@ use Prim.Native.Nat.{ℕ}
 use mathlib.Core.List.{List, []}
 use mathlib.Core.Path.{_≡_}
 use Rattle.refinement.specs.Stores.{World}
-use Rattle.refinement.specs.Run.{Call, Result, mount, checkpoint, free, step, begin, abort, commit, consolidate, run, write, read, recall, event, exec}
+use Rattle.refinement.specs.Run.{Call, Result, mount, checkpoint, free, step, begin, abort, commit, prepare, confirm, withdraw, consolidate, run, write, read, recall, event, exec}
 
 -- the target that a read or a recall is lent; no other call has one
 abbrev pub targetOf : Call → List ℕ
@@ -16,6 +16,9 @@ targetOf step = []
 targetOf (begin w) = []
 targetOf (abort w) = []
 targetOf (commit w) = []
+targetOf (prepare w) = []
+targetOf (confirm w) = []
+targetOf (withdraw w) = []
 targetOf (consolidate p) = []
 targetOf (run k) = []
 targetOf (write w p l o n bytes) = []

@@ -24,10 +24,14 @@ abbrev pub withWriters : State → Writers → State
 withWriters st ws =
     record { sizes = st .sizes; head = st .head; tail = st .tail; next = st .next; table = st .table; writers = ws; pending = st .pending }
 
+-- the writers with writer w prepared
+abbrev pub withPrepared : Writers → ℕ → Writers
+withPrepared ws w = record { opened = ws .opened; held = ws .held; prepared = w }
+
 -- the state with writer w open and no operation pending
 abbrev pub withOpen : State → ℕ → State
 withOpen st w =
-    settled st (st .head) (st .tail) (st .next) (st .table) (record { opened = set (st .writers .opened) w true; held = st .writers .held })
+    settled st (st .head) (st .tail) (st .next) (st .table) (record { opened = set (st .writers .opened) w true; held = st .writers .held; prepared = st .writers .prepared })
 
 -- the state with an operation pending, none of its stores made; with two finished lines, and with one
 abbrev pub withLines : State → Op → List ℕ → List ℕ → ℕ → State

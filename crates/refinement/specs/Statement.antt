@@ -10,7 +10,7 @@ use Rattle.layout.specs.declared.Sizes.{Sizes}
 use Rattle.layout.specs.Layout.{sizesOk, imageLength}
 use Rattle.words.specs.Words.{Bytes, over}
 use Rattle.refinement.specs.Stores.{World}
-use Rattle.refinement.specs.Run.{Call, Result, mount, checkpoint, free, step, begin, abort, commit, consolidate, run, write, read, recall, exec, formattedWorld, event}
+use Rattle.refinement.specs.Run.{Call, Result, mount, checkpoint, free, step, begin, abort, commit, prepare, confirm, withdraw, consolidate, run, write, read, recall, exec, formattedWorld, event}
 use Rattle.refinement.specs.Reference.{Reference, blank, turn, readLine, recallLine}
 
 -- what one call must answer, b being the reference machine before it:
@@ -28,6 +28,9 @@ Right step d b = Unit
 Right (begin w) d b = Unit
 Right (abort w) d b = Unit
 Right (commit w) d b = Unit
+Right (prepare w) d b = Unit
+Right (confirm w) d b = Unit
+Right (withdraw w) d b = Unit
 Right (consolidate p) d b = Unit
 Right (run k) d b = Unit
 Right (write w p l o n bytes) d b = Unit
@@ -43,6 +46,9 @@ Lent step = Unit
 Lent (begin w) = Unit
 Lent (abort w) = Unit
 Lent (commit w) = Unit
+Lent (prepare w) = Unit
+Lent (confirm w) = Unit
+Lent (withdraw w) = Unit
 Lent (consolidate p) = Unit
 Lent (run k) = Unit
 Lent (read w p l target) = Unit

@@ -5,14 +5,15 @@ use mathlib.Core.List.{List}
 use lib.Dec.{eqb}
 use Rattle.bounded.specs.Below.{upTo}
 use Rattle.words.specs.Words.{store}
+use Rattle.layout.specs.Layout.{headWord}
 use Rattle.journal.specs.Records.{position}
 use Rattle.state.specs.declared.State.{State}
 use Rattle.state.specs.declared.Op.{Op}
-use Rattle.state.specs.declared.Op.the-variants.{Idle, Write, Commit, Consolidate, Checkpoint, Event}
+use Rattle.state.specs.declared.Op.the-variants.{Idle, Write, Commit, Consolidate, Checkpoint, Event, Prepare, Confirm}
 use Rattle.operations.specs.Operations.{needs}
 use Rattle.refinement.specs.Settled.{settled}
 use Rattle.refinement.specs.Write.{writeAt, writeValue, writeDone}
-use Rattle.refinement.specs.Commit.{commitAt, commitValue, commitDone}
+use Rattle.refinement.specs.Commit.{commitAt, commitValue, commitHead, commitDone, prepareDone}
 use Rattle.refinement.specs.Consolidate.{consolidateAt, consolidateValue, consolidateTable}
 use Rattle.refinement.specs.Checkpoint.{checkpointAt, checkpointValue, withoutLasts}
 use Rattle.refinement.specs.Event.{eventAt, eventValue, eventDone}
@@ -25,6 +26,8 @@ storeAt st (Commit w) i = commitAt st w i
 storeAt st (Consolidate p) i = consolidateAt st p i
 storeAt st Checkpoint i = checkpointAt st i
 storeAt st (Event k m a) i = eventAt st k m i
+storeAt st (Prepare w) i = commitAt st w i
+storeAt st (Confirm w) i = headWord
 
 abbrev pub storeValue : State → List ℕ → Op → ℕ → ℕ
 storeValue st img Idle i = 0
@@ -33,6 +36,8 @@ storeValue st img (Commit w) i = commitValue st w i
 storeValue st img (Consolidate p) i = consolidateValue st img p i
 storeValue st img Checkpoint i = checkpointValue st img i
 storeValue st img (Event k m a) i = eventValue st k m i
+storeValue st img (Prepare w) i = commitValue st w i
+storeValue st img (Confirm w) i = commitHead st w
 
 -- the image after store i
 abbrev pub storeMade : State → List ℕ → Op → ℕ → List ℕ
@@ -50,6 +55,8 @@ completed st (Commit w) = commitDone st w
 completed st (Consolidate p) = settled st (position (st .sizes) (st .head) 1) (st .tail) (st .next) (consolidateTable st p) (st .writers)
 completed st Checkpoint = settled st (st .head) (st .head) (st .next) (withoutLasts (st .sizes) (st .table)) (st .writers)
 completed st (Event k m a) = eventDone st k m
+completed st (Prepare w) = prepareDone st w
+completed st (Confirm w) = commitDone st w
 
 -- the state with m stores made
 abbrev pub withMade : State → ℕ → State

@@ -12,7 +12,7 @@ use Rattle.layout.specs.declared.Sizes.{Sizes}
 use Rattle.layout.specs.Layout.{sizesOk, imageLength}
 use Rattle.meters.specs.Meters.{modulusOf, ownMeter}
 use Rattle.refinement.specs.Stores.{World}
-use Rattle.refinement.specs.Run.{Call, mount, checkpoint, free, step, begin, abort, commit, consolidate, run, write, read, recall, event, exec, formattedWorld, after}
+use Rattle.refinement.specs.Run.{Call, mount, checkpoint, free, step, begin, abort, commit, prepare, confirm, withdraw, consolidate, run, write, read, recall, event, exec, formattedWorld, after}
 use Rattle.refinement.specs.Reference.{Reference, Work, idle, under, writing, committing, moving, nothing, blank, turn}
 use Rattle.refinement.specs.Statement.{AllLent}
 use Rattle.refinement.specs.Beside.{lineOf}
@@ -43,6 +43,9 @@ completes free n b = []
 completes (begin w) n b = []
 completes (abort w) n b = []
 completes (commit w) n b = []
+completes (prepare w) n b = []
+completes (confirm w) n b = []
+completes (withdraw w) n b = []
 completes (consolidate p) n b = []
 completes (write w p l o i bytes) n b = []
 completes (read w p l target) n b = []
@@ -69,6 +72,9 @@ Spares step n = Unit
 Spares (begin w) n = Unit
 Spares (abort w) n = Unit
 Spares (commit w) n = Unit
+Spares (prepare w) n = Unit
+Spares (confirm w) n = Unit
+Spares (withdraw w) n = Unit
 Spares (consolidate p) n = Unit
 Spares (run k) n = Unit
 Spares (read w p l target) n = Unit

@@ -53,7 +53,7 @@ writeNext st p = cond (slotted st p) (st .next) ((writeSlot st p + 1) % st .size
 
 -- the writers with line l of slot s held, and the line of a write
 abbrev pub withHeld : Writers → ℕ → ℕ → ℕ → Writers
-withHeld ws w s l = record { opened = ws .opened; held = set (ws .held) (16 * w + s) (withLine (heldAt (ws .held) w s) l) }
+withHeld ws w s l = record { opened = ws .opened; held = set (ws .held) (16 * w + s) (withLine (heldAt (ws .held) w s) l); prepared = ws .prepared }
 
 abbrev pub writeWriters : State → ℕ → ℕ → ℕ → Writers
 writeWriters st w p l = withHeld (st .writers) w (writeSlot st p) l

@@ -58,7 +58,7 @@ pub write-met : (st : State) (img : List ℕ) (w p l o n : ℕ) (bytes : List �
     → Lowest (holdsLine (st .writers .held) w (slotFor st p) l) (lineHolder st w p l)
 unfolding othersHold
 write-met st img w p l o n bytes e =
-    let s = stopped (writeCallRows st img w p l o n bytes) 6 14 refl e in
+    let s = stopped (writeCallRows st img w p l o n bytes) 7 14 refl e in
     let others = othersHold (st .writers .held) w (slotFor st p) l in
     let has = and-left (slotted st p) others (s .applies) in
     let args = s .past .1 .1 .1 .1 .0 in
@@ -73,8 +73,8 @@ pub consolidate-met : (st : State) (img : List ℕ) (p : ℕ) → refusal (conso
     → Lowest (holdsSlot (st .writers .held) (slotFor st p)) (pageHolder st p)
 unfolding someHold
 consolidate-met st img p e =
-    let s = stopped (consolidateCallRows st img p) 5 18 refl e in
-    let has = not-false (slotted st p) (s .past .1 .1 .1 .1 .0) in
+    let s = stopped (consolidateCallRows st img p) 6 18 refl e in
+    let has = not-false (slotted st p) (s .past .1 .1 .1 .1 .1 .0) in
     subst (λ (v : ℕ). Lowest (holdsSlot (st .writers .held) (slotFor st p)) v)
     (page-first st p (slotFor st p) (slot st p (s .past .0) has) (slot-low st p (s .past .0) has))
     (lowest (holdsSlot (st .writers .held) (slotFor st p)) (s .applies))
@@ -111,7 +111,7 @@ pub event-met : (st : State) (img : List ℕ) (k m a : ℕ) → refusal (eventCa
     → Lowest (λ v. holdsLine (st .writers .held) 1 (slotFor st 0) (firstMeter k m) v || holdsLine (st .writers .held) 1 (slotFor st 0) (ownMeter k m) v) (eventHolder st k m)
 unfolding othersHold eventHolder
 event-met st img k m a e =
-    let s = stopped (eventCallRows st img k m a) 5 14 refl e in
+    let s = stopped (eventCallRows st img k m a) 6 14 refl e in
     let f = holdsLine (st .writers .held) 1 (slotFor st 0) (firstMeter k m) in
     let g = holdsLine (st .writers .held) 1 (slotFor st 0) (ownMeter k m) in
     let h = both (slotted st 0) (someBelow 4 f) (someBelow 4 g) (s .applies) in

@@ -13,9 +13,9 @@ use Rattle.words.specs.Words.{word}
 use Rattle.mount.specs.Mount.{mountRows}
 use Rattle.fresh.specs.Fresh.{formatRows}
 use Rattle.state.specs.declared.State.{State}
-use Rattle.refinement.specs.Calls.{beginRows, abortRows, writeCallRows, commitCallRows, consolidateCallRows, freeCallRows, checkpointCallRows, readRows, stepRows, eventCallRows}
+use Rattle.refinement.specs.Calls.{beginRows, abortRows, writeCallRows, commitCallRows, confirmCallRows, consolidateCallRows, freeCallRows, checkpointCallRows, readRows, stepRows, eventCallRows}
 use Rattle.refinement.specs.Recall.{recallRows}
-use Rattle.wording.specs.Calls.{format, mount, recall, begin, abort, write, commit, consolidate, checkpoint, read, step, run, freeSlot, event, numberCount, places, oneMore, oneOf, standsIn, canReturn}
+use Rattle.wording.specs.Calls.{format, mount, recall, begin, abort, write, commit, consolidate, checkpoint, read, step, run, freeSlot, event, prepare, confirm, withdraw, numberCount, places, oneMore, oneOf, standsIn, canReturn}
 
 abbrev numbersOf : List Row → List ℕ
 numbersOf [] = []
@@ -86,6 +86,18 @@ module _ (st : State) (img : List ℕ) where
   pub commit-returns : (w : ℕ) → Returns commit (commitCallRows st img w)
   unfolding canReturn standsIn places oneOf oneMore allBelow
   commit-returns w = returns commit (commitCallRows st img w) refl refl
+
+  pub prepare-returns : (w : ℕ) → Returns prepare (commitCallRows st img w)
+  unfolding canReturn standsIn places oneOf oneMore allBelow
+  prepare-returns w = returns prepare (commitCallRows st img w) refl refl
+
+  pub confirm-returns : (w : ℕ) → Returns confirm (confirmCallRows st img w)
+  unfolding canReturn standsIn places oneOf oneMore allBelow
+  confirm-returns w = returns confirm (confirmCallRows st img w) refl refl
+
+  pub withdraw-returns : (w : ℕ) → Returns withdraw (confirmCallRows st img w)
+  unfolding canReturn standsIn places oneOf oneMore allBelow
+  withdraw-returns w = returns withdraw (confirmCallRows st img w) refl refl
 
   pub consolidate-returns : (p : ℕ) → Returns consolidate (consolidateCallRows st img p)
   unfolding canReturn standsIn places oneOf oneMore allBelow

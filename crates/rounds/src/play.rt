@@ -176,6 +176,7 @@ pub fn rounds(image: &mut [u8; 84288], n: usize, stay: usize) -> Played {
         head: fresh.head,
         tail: fresh.tail,
         next: fresh.next,
+        prepared: fresh.writers.prepared,
     };
     let mut stores = 0;
     let end = 32 * (n % 4294967296);
@@ -209,7 +210,11 @@ pub fn rounds(image: &mut [u8; 84288], n: usize, stay: usize) -> Played {
         bitmap,
         last,
     };
-    let writers = Writers { opened, held };
+    let writers = Writers {
+        opened,
+        held,
+        prepared: at.prepared,
+    };
     let pending = settled::no_pending();
     let state = State {
         sizes: z,

@@ -19,11 +19,12 @@ pub fn first_row<'a>(
     last: &'a [usize; 16],
     opened: &'a [bool; 4],
     held: &'a [u64; 64],
+    prepared: usize,
     pending: Pending,
     n: usize,
     busy: bool,
 ) -> usize
-    ensures { λ r. ⌜ r ≡ refusal (firstRows busy (stateOf z head tail next (now (page .entry)) (now (original .entry)) (now (spare .entry)) (now (bitmap .entry)) (now (last .entry)) (now (opened .entry)) (now (held .entry)) pending) n) ⌝ }
+    ensures { λ r. ⌜ r ≡ refusal (firstRows busy (stateOf z head tail next (now (page .entry)) (now (original .entry)) (now (spare .entry)) (now (bitmap .entry)) (now (last .entry)) (now (opened .entry)) (now (held .entry)) prepared pending) n) ⌝ }
 {
     if !validity::state_ok(
         z,
@@ -37,6 +38,7 @@ pub fn first_row<'a>(
         last,
         opened,
         held,
+        prepared,
         pending,
     ) {
         return 8;

@@ -23,6 +23,7 @@ pub fn start() -> Machine
     let writers = Writers {
         opened: [false; 4],
         held: [0; 64],
+        prepared: 4,
     };
     let table = replay::empty_table();
     let pending = settled::no_pending();

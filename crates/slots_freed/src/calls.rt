@@ -4,8 +4,8 @@ use answers::Done;
 use state::State;
 
 // Calls, by the first digits: 1 begin, 2 abort, 3 write, 4 commit, 5 consolidate, 6 checkpoint, 7 mount, 8 free a slot, 9 the same in a buffer
-// that is a byte too short, 10 an edit of the state.
-const TABLE: [usize; 70] = [
+// that is a byte too short, 10 an edit of the state, 11 prepare, 12 confirm, 13 withdraw.
+const TABLE: [usize; 102] = [
     // No slot is taken.
     8_0_0_00_00_1000,
     // The only taken slot is held.
@@ -88,6 +88,42 @@ const TABLE: [usize; 70] = [
     10_0_0_17_17_0000,
     8_0_0_00_00_0000,
     7_0_0_00_00_0000,
+    // A transaction is prepared: a slot to free, another's prepare and commit, its own abort, write and commit, a consolidation, and a confirm and a
+    // withdraw by another writer; another's write and a checkpoint are taken.
+    6_0_0_00_00_1000,
+    1_0_0_00_00_0000,
+    3_0_0_00_01_1000,
+    1_1_0_00_00_0000,
+    11_0_0_00_00_1000,
+    8_0_0_00_00_1000,
+    11_1_0_00_00_1000,
+    4_1_0_00_00_1000,
+    2_0_0_00_00_0000,
+    3_0_1_00_00_1000,
+    4_0_0_00_00_1000,
+    5_0_0_00_00_1000,
+    12_1_0_00_00_1000,
+    13_1_0_00_00_0000,
+    3_1_1_00_00_1000,
+    6_0_0_00_00_1000,
+    // A cut before confirm's store; one before prepare's last.
+    12_0_0_00_00_0000,
+    7_0_0_00_00_0000,
+    1_0_0_00_00_0000,
+    3_0_0_00_00_1000,
+    11_0_0_00_00_0003,
+    7_0_0_00_00_0000,
+    // Withdrawn, prepared again with a slot more, confirmed; then an empty one.
+    1_0_0_00_00_0000,
+    3_0_0_00_00_1000,
+    11_0_0_00_00_1000,
+    13_0_0_00_00_0000,
+    3_0_1_00_00_1000,
+    11_0_0_00_00_1000,
+    12_0_0_00_00_1000,
+    1_2_0_00_00_0000,
+    11_2_0_00_00_1000,
+    12_2_0_00_00_1000,
 ];
 
 // The walk's calls; writer, page and line are added.
@@ -108,9 +144,9 @@ const WALK: [usize; 32] = [
     3_0_0_00_00_1000,
     3_0_0_00_00_1000,
     3_0_0_00_00_1000,
-    3_0_0_00_00_1000,
-    3_0_0_00_00_1000,
-    3_0_0_00_00_1000,
+    11_0_0_00_00_1000,
+    12_0_0_00_00_1000,
+    13_0_0_00_00_0000,
     3_0_0_00_00_0000,
     3_0_0_00_00_0007,
     3_0_0_00_00_0009,
@@ -133,7 +169,7 @@ pub fn following(call: usize) -> usize {
     }
     let at = call / 1000000000000 % 10000;
     let so_far = (at + 1) * 1000000000000;
-    if at < 70 {
+    if at < 102 {
         return so_far + TABLE[at] % 1000000000000;
     }
     let x = at * 1103515245 % 2147483647;
@@ -163,6 +199,9 @@ pub fn made(st: State, image: &[u8], call: usize) -> Done {
         7 => mounting::mount(image),
         8 => freeing::free_slot(st, image),
         9 => freeing::free_slot(st, &[0; 41407]),
+        11 => preparing::prepare(st, image, writer),
+        12 => preparing::confirm(st, image, writer),
+        13 => preparing::withdraw(st, image, writer),
         _ => {
             let mut edited = st;
             edited.next = page;

@@ -9,11 +9,11 @@ fn summed(sum: u64, a: Answer) -> u64 {
     (31 * (sum % 4294967291) + 1000 * (answers::number_of(a) as u64 % 100)) % 4294967291
 }
 
-// The checksum after a call and its run, and the call's line if it frees a slot.
+// The checksum after a call and its run, and the call's line if it frees a slot, prepares, confirms or withdraws.
 pub fn shown(sum: u64, call: usize, answer: Answer, ran: Answer, image: &[u8]) -> u64 {
     let sum = summed(summed(sum, answer), ran);
     let kind = call / 10000000000 % 100;
-    if (kind < 8) | (kind > 9) {
+    if (kind < 8) | (kind == 10) {
         return sum;
     }
     io::print_decimal(1, summed(0, answer));

@@ -4,7 +4,7 @@ use crate::out;
 use layout::Sizes;
 
 // Turns of the table, a line each, and 6,000 of the walk.
-const TURNS: usize = 6261;
+const TURNS: usize = 6294;
 
 // Plays the list on a fresh store of 6 pages, 4 slots and 6 journal places.
 pub fn play(image: &mut [u8]) {

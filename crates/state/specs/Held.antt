@@ -2,7 +2,7 @@
 use Prim.Native.Nat.{ℕ, _+_, _*_}
 use mathlib.Core.Bool.{Bool, false, _&&_, _||_, not}
 use mathlib.Core.List.{List}
-use lib.Dec.{eqb}
+use lib.Dec.{ltb, eqb}
 use lib.ListN.{getD, set}
 use Rattle.bounded.specs.Below.{allBelow, someBelow, those, upTo}
 use Rattle.layout.specs.declared.Sizes.{Sizes}
@@ -11,6 +11,14 @@ use Rattle.state.specs.Slots.{freeAt}
 
 abbrev pub isOpen : List Bool → ℕ → Bool
 isOpen opened w = getD opened w false
+
+-- the number that stands for no writer, where one would be prepared; any above 3 does
+abbrev pub noWriter : ℕ
+noWriter = 4
+
+-- whether a writer is prepared
+abbrev pub somePrepared : ℕ → Bool
+somePrepared prepared = ltb prepared 4
 
 -- the lines of slot s that writer w holds
 abbrev pub heldAt : List ℕ → ℕ → ℕ → ℕ

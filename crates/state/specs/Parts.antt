@@ -6,15 +6,15 @@ use Rattle.layout.specs.declared.Sizes.{Sizes}
 use Rattle.state.specs.declared.State.{State}
 use Rattle.state.specs.declared.Pending.{Pending}
 
--- sizes, head, tail and next slot; the slots' pages, originals, spares, bitmaps and last positions; the writers; what is pending
-abbrev pub stateOf : Sizes → ℕ → ℕ → ℕ → List ℕ → List ℕ → List ℕ → List ℕ → List ℕ → List Bool → List ℕ → Pending → State
-stateOf z head tail next page original spare bitmap last opened held pending =
+-- sizes, head, tail and next slot; the slots' pages, originals, spares, bitmaps and last positions; the writers, with the one that is prepared; what is pending
+abbrev pub stateOf : Sizes → ℕ → ℕ → ℕ → List ℕ → List ℕ → List ℕ → List ℕ → List ℕ → List Bool → List ℕ → ℕ → Pending → State
+stateOf z head tail next page original spare bitmap last opened held prepared pending =
     record {
       sizes = z;
       head = head;
       tail = tail;
       next = next;
       table = record { page = page; original = original; spare = spare; bitmap = bitmap; last = last };
-      writers = record { opened = opened; held = held };
+      writers = record { opened = opened; held = held; prepared = prepared };
       pending = pending;
     }

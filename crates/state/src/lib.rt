@@ -27,12 +27,19 @@ pub enum Op {
         meter: usize,
         amount: u64,
     },
+    Prepare {
+        writer: usize,
+    },
+    Confirm {
+        writer: usize,
+    },
 }
 
-// Four writers: open or not, and the lines that each holds of each slot, at 16 × writer + slot.
+// Four writers: open or not, the lines that each holds of each slot, at 16 × writer + slot, and the one that is prepared: 4, or any number above 3, is none.
 pub struct Writers {
     pub opened: [bool; 4],
     pub held: [u64; 64],
+    pub prepared: usize,
 }
 
 // The pending operation, how many of its stores are made, and for a write the finished line's words and the page's

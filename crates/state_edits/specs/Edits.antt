@@ -50,10 +50,10 @@ withTable st t =
 
 -- 11 writer i open, 12 held lines at i = 16 × writer + slot
 abbrev pub withOpen : Writers → ℕ → ℕ → Writers
-withOpen ws i v = record { opened = set (ws .opened) i (eqb v 1); held = ws .held }
+withOpen ws i v = record { opened = set (ws .opened) i (eqb v 1); held = ws .held; prepared = ws .prepared }
 
 abbrev pub withHeld : Writers → ℕ → ℕ → Writers
-withHeld ws i v = record { opened = ws .opened; held = set (ws .held) i v }
+withHeld ws i v = record { opened = ws .opened; held = set (ws .held) i v; prepared = ws .prepared }
 
 abbrev pub headerTurn : Bench → ℕ → ℕ → ℕ → Turn
 headerTurn b f i v = formed (eqb i 0) b (edited (withState b (withHeader (b .st) f v)))

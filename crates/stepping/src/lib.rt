@@ -42,6 +42,7 @@ pub fn run(st: State, image: &mut [u8], k: usize) -> Done
         &mut last,
         &mut opened,
         &mut held,
+        st.writers.prepared,
         pending,
         k,
     );
@@ -54,7 +55,11 @@ pub fn run(st: State, image: &mut [u8], k: usize) -> Done
         bitmap,
         last,
     };
-    let writers = Writers { opened, held };
+    let writers = Writers {
+        opened,
+        held,
+        prepared: gone.to.prepared,
+    };
     let state = State {
         sizes,
         head: gone.to.head,

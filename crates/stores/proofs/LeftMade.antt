@@ -57,7 +57,7 @@ module _ (st : State) (n k : ℕ) (m : Made) (e : m ≡ madeOf st n k) where
       (rw q at (ap (λ (x : Made). x .stores) e), rw q at (ap (λ (x : Made). x .total) e), rw q at (ap (λ (x : Made). x .whole) e))
 
 -- the state that the code puts together, with i pending
-pub put-together : (z : Sizes) (head tail next : ℕ) (page original spare bitmap last : List ℕ) (opened : List Bool) (held : List ℕ) (i : Pending) (after : State)
-    → i ≡ noPending → stateOf z head tail next page original spare bitmap last opened held noPending ≡ after
-    → stateOf z head tail next page original spare bitmap last opened held i ≡ after
-put-together z head tail next page original spare bitmap last opened held i after a b = rw a b
+pub put-together : (z : Sizes) (head tail next : ℕ) (page original spare bitmap last : List ℕ) (opened : List Bool) (held : List ℕ) (prepared : ℕ) (i : Pending) (after : State)
+    → i ≡ noPending → stateOf z head tail next page original spare bitmap last opened held prepared noPending ≡ after
+    → stateOf z head tail next page original spare bitmap last opened held prepared i ≡ after
+put-together z head tail next page original spare bitmap last opened held prepared i after a b = rw a b

@@ -12,11 +12,12 @@ use layout::Sizes;
 use state::Op;
 use state::Pending;
 
-// Head, tail and the next slot to try.
+// Head, tail, the next slot to try, and the prepared writer.
 pub struct Places {
     pub head: usize,
     pub tail: usize,
     pub next: usize,
+    pub prepared: usize,
 }
 
 // Completes the pending operation: the arrays are changed where they lie, since a state that is passed on by value is copied each time.
@@ -32,14 +33,20 @@ pub fn complete(
     last: &mut [usize; 16],
     opened: &mut [bool; 4],
     held: &mut [u64; 64],
+    prepared: usize,
     pending: Pending,
 ) -> Places
-    requires { ⌜ Ranged (stateOf z head tail next (now page) (now original) (now spare) (now bitmap) (now last) (now opened) (now held) pending) × (refusal (opRows (stateOf z head tail next (now page) (now original) (now spare) (now bitmap) (now last) (now opened) (now held) pending) (pending .op) (pending .frame)) ≡ 0) × (isIdle (pending .op) ≡ false) ⌝ }
-    ensures { λ r. ⌜ stateOf z (r .head) (r .tail) (r .next) (now (page .exit)) (now (original .exit)) (now (spare .exit)) (now (bitmap .exit)) (now (last .exit)) (now (opened .exit)) (now (held .exit)) noPending ≡ completedOf (stateOf z head tail next (now (page .entry)) (now (original .entry)) (now (spare .entry)) (now (bitmap .entry)) (now (last .entry)) (now (opened .entry)) (now (held .entry)) pending) (pending .op) ⌝ }
+    requires { ⌜ Ranged (stateOf z head tail next (now page) (now original) (now spare) (now bitmap) (now last) (now opened) (now held) prepared pending) × (refusal (opRows (stateOf z head tail next (now page) (now original) (now spare) (now bitmap) (now last) (now opened) (now held) prepared pending) (pending .op) (pending .frame)) ≡ 0) × (isIdle (pending .op) ≡ false) ⌝ }
+    ensures { λ r. ⌜ stateOf z (r .head) (r .tail) (r .next) (now (page .exit)) (now (original .exit)) (now (spare .exit)) (now (bitmap .exit)) (now (last .exit)) (now (opened .exit)) (now (held .exit)) (r .prepared) noPending ≡ completedOf (stateOf z head tail next (now (page .entry)) (now (original .entry)) (now (spare .entry)) (now (bitmap .entry)) (now (last .entry)) (now (opened .entry)) (now (held .entry)) prepared pending) (pending .op) ⌝ }
 {
     let op = pending.op;
     match op {
-        Op::Idle => Places { head, tail, next },
+        Op::Idle => Places {
+            head,
+            tail,
+            next,
+            prepared,
+        },
         Op::Write {
             writer,
             page: p,
@@ -59,11 +66,21 @@ pub fn complete(
                 p,
                 line,
             );
-            Places { head, tail, next }
+            Places {
+                head,
+                tail,
+                next,
+                prepared,
+            }
         }
         Op::Commit { writer } => {
             let head = commits::complete_commit(z, head, bitmap, last, opened, held, writer);
-            Places { head, tail, next }
+            Places {
+                head,
+                tail,
+                next,
+                prepared: 4,
+            }
         }
         Op::Consolidate { page: p } => {
             let head = consolidations::complete_consolidate(
@@ -76,7 +93,12 @@ pub fn complete(
                 last,
                 p,
             );
-            Places { head, tail, next }
+            Places {
+                head,
+                tail,
+                next,
+                prepared,
+            }
         }
         Op::Checkpoint => {
             checkpoints::complete_checkpoint(last, z);
@@ -84,6 +106,7 @@ pub fn complete(
                 head,
                 tail: head,
                 next,
+                prepared,
             }
         }
         Op::Event {
@@ -103,6 +126,7 @@ pub fn complete(
                 last,
                 opened,
                 held,
+                prepared,
                 pending,
                 kind,
                 meter,
@@ -111,6 +135,22 @@ pub fn complete(
                 head: moved.head,
                 tail,
                 next: moved.next,
+                prepared: 4,
+            }
+        }
+        Op::Prepare { writer } => Places {
+            head,
+            tail,
+            next,
+            prepared: writer,
+        },
+        Op::Confirm { writer } => {
+            let head = commits::complete_commit(z, head, bitmap, last, opened, held, writer);
+            Places {
+                head,
+                tail,
+                next,
+                prepared: 4,
             }
         }
     }

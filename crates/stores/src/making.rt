@@ -29,11 +29,12 @@ pub fn make_stores<'a>(
     last: &'a [usize; 16],
     opened: &'a [bool; 4],
     held: &'a [u64; 64],
+    prepared: usize,
     pending: Pending,
     n: usize,
 )
-    requires { ⌜ (stateOk (stateOf z head tail next (now page) (now original) (now spare) (now bitmap) (now last) (now opened) (now held) pending) ≡ true) × (isIdle (pending .op) ≡ false) × (n ≤ left (stateOf z head tail next (now page) (now original) (now spare) (now bitmap) (now last) (now opened) (now held) pending)) × (imageLength z ≤ length (now image)) × Lengths (now page) (now original) (now spare) (now bitmap) (now last) (now opened) (now held) ⌝ }
-    ensures { λ _. ⌜ now (image .exit) ≡ storesMade (stateOf z head tail next (now (page .entry)) (now (original .entry)) (now (spare .entry)) (now (bitmap .entry)) (now (last .entry)) (now (opened .entry)) (now (held .entry)) pending) n (now (image .entry)) ⌝ }
+    requires { ⌜ (stateOk (stateOf z head tail next (now page) (now original) (now spare) (now bitmap) (now last) (now opened) (now held) prepared pending) ≡ true) × (isIdle (pending .op) ≡ false) × (n ≤ left (stateOf z head tail next (now page) (now original) (now spare) (now bitmap) (now last) (now opened) (now held) prepared pending)) × (imageLength z ≤ length (now image)) × Lengths (now page) (now original) (now spare) (now bitmap) (now last) (now opened) (now held) ⌝ }
+    ensures { λ _. ⌜ now (image .exit) ≡ storesMade (stateOf z head tail next (now (page .entry)) (now (original .entry)) (now (spare .entry)) (now (bitmap .entry)) (now (last .entry)) (now (opened .entry)) (now (held .entry)) prepared pending) n (now (image .entry)) ⌝ }
 {
     let op = pending.op;
     let made = pending.made;
@@ -102,11 +103,26 @@ pub fn make_stores<'a>(
             last,
             opened,
             held,
+            prepared,
             pending,
             kind,
             meter,
             n,
         ),
+        Op::Prepare { writer } => commits::make_commit_stores(
+            image,
+            z,
+            head,
+            page,
+            original,
+            spare,
+            bitmap,
+            held,
+            writer,
+            made,
+            n,
+        ),
+        Op::Confirm { writer } => commits::make_confirm_stores(image, z, head, held, writer, n),
     }
 }
 
@@ -132,12 +148,13 @@ pub fn make_left<'a>(
     last: &'a [usize; 16],
     opened: &'a [bool; 4],
     held: &'a [u64; 64],
+    prepared: usize,
     pending: Pending,
     k: usize,
 ) -> Made
     requires { ⌜ Lengths (now page) (now original) (now spare) (now bitmap) (now last) (now opened) (now held) ⌝ }
-    ensures made { λ r. ⌜ r ≡ madeOf (stateOf z head tail next (now (page .entry)) (now (original .entry)) (now (spare .entry)) (now (bitmap .entry)) (now (last .entry)) (now (opened .entry)) (now (held .entry)) pending) (length (now (image .entry))) k ⌝ }
-    ensures bytes { λ _. ⌜ now (image .exit) ≡ runBytes (stateOf z head tail next (now (page .entry)) (now (original .entry)) (now (spare .entry)) (now (bitmap .entry)) (now (last .entry)) (now (opened .entry)) (now (held .entry)) pending) (now (image .entry)) k ⌝ }
+    ensures made { λ r. ⌜ r ≡ madeOf (stateOf z head tail next (now (page .entry)) (now (original .entry)) (now (spare .entry)) (now (bitmap .entry)) (now (last .entry)) (now (opened .entry)) (now (held .entry)) prepared pending) (length (now (image .entry))) k ⌝ }
+    ensures bytes { λ _. ⌜ now (image .exit) ≡ runBytes (stateOf z head tail next (now (page .entry)) (now (original .entry)) (now (spare .entry)) (now (bitmap .entry)) (now (last .entry)) (now (opened .entry)) (now (held .entry)) prepared pending) (now (image .entry)) k ⌝ }
 {
     let row = rows::first_row(
         z,
@@ -151,6 +168,7 @@ pub fn make_left<'a>(
         last,
         opened,
         held,
+        prepared,
         pending,
         image.len(),
         true,
@@ -180,6 +198,7 @@ pub fn make_left<'a>(
         last,
         opened,
         held,
+        prepared,
         pending,
         n,
     );

@@ -33,6 +33,7 @@ pub fn write(
         &next.table.last,
         &next.writers.opened,
         &next.writers.held,
+        next.writers.prepared,
         next.pending,
         image,
         writer,

@@ -3,7 +3,7 @@ use Prim.Native.Nat.{ℕ, _*_}
 use mathlib.Core.Bool.{Bool, _&&_, _||_, not}
 use mathlib.Core.List.{List}
 use lib.Dec.{ltb, eqb}
-use lib.ListN.{getD}
+use lib.ListN.{length, getD}
 use Rattle.bounded.specs.Below.{allBelow}
 use Rattle.bounded.specs.Rows.{refusal}
 use Rattle.layout.specs.declared.Sizes.{Sizes}
@@ -13,8 +13,8 @@ use Rattle.journal.specs.Records.{liveCount, positionsOk}
 use Rattle.replay.specs.Table.{noPosition, slotsShaped, pagesApart}
 use Rattle.state.specs.declared.State.{State}
 use Rattle.state.specs.Slots.{framesApart}
-use Rattle.state.specs.Held.{heldOk}
-use Rattle.operations.specs.Operations.{isIdle, opRows, needs}
+use Rattle.state.specs.Held.{isOpen, somePrepared, heldSlots, heldOk}
+use Rattle.operations.specs.Operations.{isIdle, journalFullOf, opRows, needs}
 
 -- the rules of rows 3, 5 and 7 for its slots (unslotted page words aside)
 unfoldable pub slotsOk : Sizes → ℕ → ℕ → Table → Bool
@@ -41,6 +41,11 @@ lastOk z head tail last s = lastOkOf z tail (liveCount z head tail) last s
 unfoldable pub lastsOk : Sizes → ℕ → ℕ → List ℕ → Bool
 lastsOk z head tail last = allBelow (z .slots) (lastOk z head tail last)
 
+-- a prepared writer is open, and its records fit (document 02, L8)
+unfoldable pub preparedOk : Sizes → ℕ → ℕ → List Bool → List ℕ → ℕ → Bool
+preparedOk z head tail opened held prepared =
+    not (somePrepared prepared) || (isOpen opened prepared && not (journalFullOf z head tail (length (heldSlots z held prepared))))
+
 -- a pending call: fewer stores made than it needs, and no row from 11 on turns it back
 unfoldable pub pendingOk : State → Bool
 pendingOk st =
@@ -52,4 +57,5 @@ stateOk st =
     slotsOk (st .sizes) (st .head) (st .tail) (st .table)
     && (heldOk (st .sizes) (st .table .page) (st .writers .opened) (st .writers .held)
     && (ltb (st .next) (st .sizes .slots)
-    && (lastsOk (st .sizes) (st .head) (st .tail) (st .table .last) && pendingOk st)))
+    && (lastsOk (st .sizes) (st .head) (st .tail) (st .table .last)
+    && (preparedOk (st .sizes) (st .head) (st .tail) (st .writers .opened) (st .writers .held) (st .writers .prepared) && pendingOk st))))

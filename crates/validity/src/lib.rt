@@ -1,11 +1,12 @@
 // Row 8: whether a state keeps the rules. Nothing of it reads the image.
 ghost use mathlib.Core.Path.{_≡_};
-ghost use Prim.Native.Nat.{_*_, _<_};
+ghost use Prim.Native.Nat.{_*_, _<_, _≤_};
 ghost use Rattle.layout.specs.Layout.{Legal};
+ghost use Rattle.journal.specs.Records.{liveCount};
 ghost use Rattle.replay.specs.Table.{slotsOfArrays};
 ghost use Rattle.state.specs.Parts.{stateOf};
 ghost use Rattle.operations.specs.Operations.{Ranged};
-ghost use Rattle.validity.specs.Validity.{slotsOk, isLiveOf, lastOkOf, lastsOk, pendingOk, stateOk};
+ghost use Rattle.validity.specs.Validity.{slotsOk, isLiveOf, lastOkOf, lastsOk, preparedOk, pendingOk, stateOk};
 use layout::Sizes;
 use state::Pending;
 
@@ -79,6 +80,28 @@ fn lasts_ok(z: Sizes, head: usize, tail: usize, last: &[usize; 16]) -> bool
     true
 }
 
+// Whether a prepared writer is open and its records fit.
+fn prepared_ok<'a>(
+    z: Sizes,
+    head: usize,
+    tail: usize,
+    opened: &'a [bool; 4],
+    held: &'a [u64; 64],
+    prepared: usize,
+) -> bool
+    requires { ⌜ Legal z × (head < 2 * z .places) × (tail < 2 * z .places) × (liveCount z head tail ≤ z .places) ⌝ }
+    ensures { λ r. ⌜ r ≡ preparedOk z head tail (now (opened .entry)) (now (held .entry)) prepared ⌝ }
+{
+    if 4 <= prepared {
+        return true;
+    }
+    if !state::held::is_open(opened, prepared) {
+        return false;
+    }
+    let n = state::held::held_count(z, held, prepared);
+    !(z.places < journal::records::live_count(z, head, tail) + n)
+}
+
 // Whether the pending call, if there is one, has stores left and no row from 11 on turns it back.
 fn pending_ok<'a>(
     z: Sizes,
@@ -92,10 +115,11 @@ fn pending_ok<'a>(
     last: &'a [usize; 16],
     opened: &'a [bool; 4],
     held: &'a [u64; 64],
+    prepared: usize,
     pending: Pending,
 ) -> bool
-    requires { ⌜ Ranged (stateOf z head tail next (now page) (now original) (now spare) (now bitmap) (now last) (now opened) (now held) pending) ⌝ }
-    ensures { λ r. ⌜ r ≡ pendingOk (stateOf z head tail next (now (page .entry)) (now (original .entry)) (now (spare .entry)) (now (bitmap .entry)) (now (last .entry)) (now (opened .entry)) (now (held .entry)) pending) ⌝ }
+    requires { ⌜ Ranged (stateOf z head tail next (now page) (now original) (now spare) (now bitmap) (now last) (now opened) (now held) prepared pending) ⌝ }
+    ensures { λ r. ⌜ r ≡ pendingOk (stateOf z head tail next (now (page .entry)) (now (original .entry)) (now (spare .entry)) (now (bitmap .entry)) (now (last .entry)) (now (opened .entry)) (now (held .entry)) prepared pending) ⌝ }
 {
     let op = pending.op;
     if operations::is_idle(op) {
@@ -111,6 +135,7 @@ fn pending_ok<'a>(
         spare,
         opened,
         held,
+        prepared,
         op,
         pending.frame,
     );
@@ -133,9 +158,10 @@ pub fn state_ok<'a>(
     last: &'a [usize; 16],
     opened: &'a [bool; 4],
     held: &'a [u64; 64],
+    prepared: usize,
     pending: Pending,
 ) -> bool
-    ensures { λ r. ⌜ r ≡ stateOk (stateOf z head tail next (now (page .entry)) (now (original .entry)) (now (spare .entry)) (now (bitmap .entry)) (now (last .entry)) (now (opened .entry)) (now (held .entry)) pending) ⌝ }
+    ensures { λ r. ⌜ r ≡ stateOk (stateOf z head tail next (now (page .entry)) (now (original .entry)) (now (spare .entry)) (now (bitmap .entry)) (now (last .entry)) (now (opened .entry)) (now (held .entry)) prepared pending) ⌝ }
 {
     if !slots_ok(z, head, tail, page, original, spare, bitmap) {
         return false;
@@ -147,6 +173,9 @@ pub fn state_ok<'a>(
         return false;
     }
     if !lasts_ok(z, head, tail, last) {
+        return false;
+    }
+    if !prepared_ok(z, head, tail, opened, held, prepared) {
         return false;
     }
     pending_ok(
@@ -161,6 +190,7 @@ pub fn state_ok<'a>(
         last,
         opened,
         held,
+        prepared,
         pending,
     )
 }

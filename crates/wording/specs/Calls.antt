@@ -46,12 +46,21 @@ freeSlot = 12
 abbrev pub event : ℕ
 event = 13
 
+abbrev pub prepare : ℕ
+prepare = 14
+
+abbrev pub confirm : ℕ
+confirm = 15
+
+abbrev pub withdraw : ℕ
+withdraw = 16
+
 -- how many calls and numbers the tables have; a request that adds one raises these, and CALLS and NUMBERS in the code
 abbrev pub callCount : ℕ
-callCount = 14
+callCount = 17
 
 abbrev pub numberCount : ℕ
-numberCount = 23
+numberCount = 25
 
 -- ---- the places of the table
 
@@ -60,7 +69,7 @@ readers = mount ∷ recall ∷ []
 
 -- the calls that take a state and the image, but step and run
 abbrev pub askers : List ℕ
-askers = write ∷ commit ∷ consolidate ∷ checkpoint ∷ read ∷ freeSlot ∷ event ∷ []
+askers = write ∷ commit ∷ consolidate ∷ checkpoint ∷ read ∷ freeSlot ∷ event ∷ prepare ∷ confirm ∷ withdraw ∷ []
 
 -- the table, row by row: the number and the calls of its place; then the rows of document 02
 unfoldable pub places : List (ℕ × List ℕ)
@@ -76,18 +85,20 @@ places =
     ∷ (4, step ∷ run ∷ askers)
     ∷ (9, begin ∷ abort ∷ askers)
     ∷ (10, step ∷ run ∷ [])
-    ∷ (11, recall ∷ begin ∷ abort ∷ write ∷ commit ∷ consolidate ∷ read ∷ [])
+    ∷ (11, recall ∷ begin ∷ abort ∷ write ∷ commit ∷ consolidate ∷ read ∷ prepare ∷ confirm ∷ withdraw ∷ [])
     ∷ (12, begin ∷ event ∷ [])
-    ∷ (13, write ∷ commit ∷ abort ∷ [])
+    ∷ (13, write ∷ commit ∷ abort ∷ prepare ∷ [])
     ∷ (14, write ∷ event ∷ [])
     ∷ (15, write ∷ event ∷ [])
     ∷ (16, write ∷ read ∷ event ∷ [])
     ∷ (17, consolidate ∷ [])
     ∷ (18, consolidate ∷ [])
-    ∷ (19, commit ∷ consolidate ∷ freeSlot ∷ event ∷ [])
+    ∷ (19, commit ∷ consolidate ∷ freeSlot ∷ event ∷ prepare ∷ [])
     ∷ (20, event ∷ [])
     ∷ (21, event ∷ [])
     ∷ (22, freeSlot ∷ [])
+    ∷ (23, abort ∷ write ∷ commit ∷ consolidate ∷ freeSlot ∷ event ∷ prepare ∷ [])
+    ∷ (24, confirm ∷ withdraw ∷ [])
     ∷ []
 
 -- whether x is one of a list, which computes to `x == y | x == z | ..`
@@ -111,7 +122,7 @@ canReturn c n = standsIn places c n
 -- ---- what a call is given
 
 unfoldable pub takesWriter : ℕ → Bool
-takesWriter c = oneOf (begin ∷ abort ∷ write ∷ commit ∷ read ∷ []) c
+takesWriter c = oneOf (begin ∷ abort ∷ write ∷ commit ∷ read ∷ prepare ∷ confirm ∷ withdraw ∷ []) c
 
 unfoldable pub takesPage : ℕ → Bool
 takesPage c = oneOf (recall ∷ write ∷ consolidate ∷ read ∷ []) c

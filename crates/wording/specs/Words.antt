@@ -15,6 +15,7 @@ unfoldable pub codes : String → List ℕ
 codes endText = []
 codes (c then s) = code c ∷ codes s
 
+-- `A confirm`, since the first three letters of `Confirm` are those of `Consolidate`
 unfoldable pub names : List (List ℕ)
 names =
     codes "Format"
@@ -31,6 +32,9 @@ names =
     ∷ codes "Run"
     ∷ codes "Free slot"
     ∷ codes "Event"
+    ∷ codes "Prepare"
+    ∷ codes "A confirm"
+    ∷ codes "Withdraw"
     ∷ []
 
 -- by number, from 0 on; 0 turns nothing back and has none
@@ -59,6 +63,8 @@ texts =
     ∷ codes "the event or its meter is unknown"
     ∷ codes "the amount or the new credit is out of range"
     ∷ codes "there is no taken slot without a held line"
+    ∷ codes "a transaction is prepared"
+    ∷ codes "the writer is not prepared"
     ∷ []
 
 abbrev pub nameOf : ℕ → List ℕ

@@ -35,36 +35,44 @@ pub const FREE_SLOT: usize = 12;
 
 pub const EVENT: usize = 13;
 
-// How many calls and numbers the tables have.
-const CALLS: usize = 14;
+pub const PREPARE: usize = 14;
 
-const NUMBERS: usize = 23;
+pub const CONFIRM: usize = 15;
+
+pub const WITHDRAW: usize = 16;
+
+// How many calls and numbers the tables have.
+const CALLS: usize = 17;
+
+const NUMBERS: usize = 25;
 
 // A row for each number from 0 on, a column for each call: `x` where the call can return the number.
 const RETURNS: [[u8; CALLS]; NUMBERS] = [
-    *b"              ",
-    *b" xx           ",
-    *b" xx           ",
-    *b"xxx           ",
-    *b"xxx  xxxxxxxxx",
-    *b" xx           ",
-    *b" xx           ",
-    *b" xx           ",
-    *b"   xxxxxxxxxxx",
-    *b"   xxxxxxx  xx",
-    *b"          xx  ",
-    *b"  xxxxxx x    ",
-    *b"   x         x",
-    *b"    xxx       ",
-    *b"     x       x",
-    *b"     x       x",
-    *b"     x   x   x",
-    *b"       x      ",
-    *b"       x      ",
-    *b"      xx    xx",
-    *b"             x",
-    *b"             x",
-    *b"            x ",
+    *b"                 ",
+    *b" xx              ",
+    *b" xx              ",
+    *b"xxx              ",
+    *b"xxx  xxxxxxxxxxxx",
+    *b" xx              ",
+    *b" xx              ",
+    *b" xx              ",
+    *b"   xxxxxxxxxxxxxx",
+    *b"   xxxxxxx  xxxxx",
+    *b"          xx     ",
+    *b"  xxxxxx x    xxx",
+    *b"   x         x   ",
+    *b"    xxx       x  ",
+    *b"     x       x   ",
+    *b"     x       x   ",
+    *b"     x   x   x   ",
+    *b"       x         ",
+    *b"       x         ",
+    *b"      xx    xxx  ",
+    *b"             x   ",
+    *b"             x   ",
+    *b"            x    ",
+    *b"    xxxx    xxx  ",
+    *b"               xx",
 ];
 
 // The calls' names, each up to its dot.
@@ -83,6 +91,9 @@ const NAMES: [[u8; 12]; CALLS] = [
     *b"Run.        ",
     *b"Free slot.  ",
     *b"Event.      ",
+    *b"Prepare.    ",
+    *b"A confirm.  ",
+    *b"Withdraw.   ",
 ];
 
 // The numbers' texts, each up to its dot.
@@ -110,6 +121,8 @@ const TEXTS: [[u8; 49]; NUMBERS] = [
     *b"the event or its meter is unknown.               ",
     *b"the amount or the new credit is out of range.    ",
     *b"there is no taken slot without a held line.      ",
+    *b"a transaction is prepared.                       ",
+    *b"the writer is not prepared.                      ",
 ];
 
 // Whether a call can return a number.
@@ -129,7 +142,14 @@ pub fn can_return(call: usize, number: usize) -> bool
 pub fn takes_writer(call: usize) -> bool
     ensures { λ r. ⌜ r ≡ takesWriter call ⌝ }
 {
-    (call == BEGIN) | (call == ABORT) | (call == WRITE) | (call == COMMIT) | (call == READ)
+    (call == BEGIN)
+        | (call == ABORT)
+        | (call == WRITE)
+        | (call == COMMIT)
+        | (call == READ)
+        | (call == PREPARE)
+        | (call == CONFIRM)
+        | (call == WITHDRAW)
 }
 
 // Whether a call is given a page.

@@ -6,6 +6,7 @@ use lib.Dec.{eqb}
 use lib.ListN.{replicate}
 use Rattle.replay.specs.declared.Table.{Table}
 use Rattle.state.specs.declared.State.{State}
+use Rattle.state.specs.Held.{noWriter}
 use Rattle.refinement.specs.Settled.{noPending}
 use Rattle.refinement.specs.Outcome.{Outcome}
 use Rattle.text.specs.declared.Line.{Line}
@@ -28,7 +29,7 @@ firstBench =
         tail = 0;
         next = 0;
         table = firstTable;
-        writers = record { opened = replicate 4 false; held = replicate 64 0 };
+        writers = record { opened = replicate 4 false; held = replicate 64 0; prepared = noWriter };
         pending = noPending;
       };
       lent = 65536;

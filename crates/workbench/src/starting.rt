@@ -7,7 +7,7 @@ use replay::Table;
 use state::State;
 use state::Writers;
 
-// Every number is 0, no writer is open, nothing is pending; the calls are lent all 65,536 bytes.
+// Every number is 0, no writer is open or prepared, nothing is pending; the calls are lent all 65,536 bytes.
 pub fn first_bench() -> Bench
     ensures { λ r. ⌜ r ≡ firstBench ⌝ }
 {
@@ -26,6 +26,7 @@ pub fn first_bench() -> Bench
     let writers = Writers {
         opened: [false; 4],
         held: [0; 64],
+        prepared: 4,
     };
     let pending = settled::no_pending();
     let st = State {

@@ -41,6 +41,7 @@ pub fn write(
         last,
         opened,
         held,
+        at.prepared,
         idle,
         image,
         writer,

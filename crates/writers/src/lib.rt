@@ -10,7 +10,7 @@ use layout::Sizes;
 use state::Pending;
 use state::State;
 
-// The first row that turns back begin, which wants the writer closed, or abort, which wants it open.
+// The first row that turns back begin, which wants the writer closed, or abort, which wants it open and not prepared.
 pub fn writer_row<'a>(
     z: Sizes,
     head: usize,
@@ -23,11 +23,12 @@ pub fn writer_row<'a>(
     last: &'a [usize; 16],
     opened: &'a [bool; 4],
     held: &'a [u64; 64],
+    prepared: usize,
     pending: Pending,
     writer: usize,
     wanted: bool,
 ) -> usize
-    ensures { λ r. ⌜ r ≡ refusal (writerRows wanted (stateOf z head tail next (now (page .entry)) (now (original .entry)) (now (spare .entry)) (now (bitmap .entry)) (now (last .entry)) (now (opened .entry)) (now (held .entry)) pending) writer) ⌝ }
+    ensures { λ r. ⌜ r ≡ refusal (writerRows wanted (stateOf z head tail next (now (page .entry)) (now (original .entry)) (now (spare .entry)) (now (bitmap .entry)) (now (last .entry)) (now (opened .entry)) (now (held .entry)) prepared pending) writer) ⌝ }
 {
     if !validity::state_ok(
         z,
@@ -41,6 +42,7 @@ pub fn writer_row<'a>(
         last,
         opened,
         held,
+        prepared,
         pending,
     ) {
         return 8;
@@ -58,6 +60,9 @@ pub fn writer_row<'a>(
     }
     if wanted & !open {
         return 13;
+    }
+    if wanted & (prepared == writer) {
+        return 23;
     }
     0
 }
@@ -79,6 +84,7 @@ pub fn begin(st: State, writer: usize) -> Done
         &next.table.last,
         &next.writers.opened,
         &next.writers.held,
+        next.writers.prepared,
         next.pending,
         writer,
         false,
@@ -107,6 +113,7 @@ pub fn abort(st: State, writer: usize) -> Done
         &next.table.last,
         &next.writers.opened,
         &next.writers.held,
+        next.writers.prepared,
         next.pending,
         writer,
         true,

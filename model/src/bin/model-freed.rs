@@ -1,10 +1,12 @@
-//! The store's program `slots_freed`, by the model: calls of a table that frees slots in chosen situations, then calls that a generator picks.
+//! The store's program `slots_freed`, by the model: calls of a table that frees slots and prepares transactions in chosen situations, then calls that a generator picks.
 //!
 //! A call is a number. Its decimal digits are the call, its writer, its page, its first and last line, and the stores of the run after it.
 
 #![allow(clippy::inconsistent_digit_grouping)] // the groups are those fields
 
-use model::calls::{abort, begin, checkpoint, commit, consolidate, free_slot, run, write, Patch};
+use model::calls::{
+    abort, begin, checkpoint, commit, confirm, consolidate, free_slot, prepare, run, withdraw, write, Patch,
+};
 use model::layout::Sizes;
 use model::mount::{format, mount};
 use model::refusal::Answer;
@@ -13,7 +15,7 @@ use model::state::State;
 /// The largest prime below 2^32.
 const MODULUS: u64 = 4_294_967_291;
 
-const TABLE: [u64; 70] = [
+const TABLE: [u64; 102] = [
     // No slot is taken.
     8_0_0_00_00_1000,
     // The only taken slot is held.
@@ -96,6 +98,42 @@ const TABLE: [u64; 70] = [
     10_0_0_17_17_0000,
     8_0_0_00_00_0000,
     7_0_0_00_00_0000,
+    // A transaction is prepared: a slot to free, another's prepare and commit, its own abort, write and commit, a consolidation, and a confirm and a
+    // withdraw by another writer; another's write and a checkpoint are taken.
+    6_0_0_00_00_1000,
+    1_0_0_00_00_0000,
+    3_0_0_00_01_1000,
+    1_1_0_00_00_0000,
+    11_0_0_00_00_1000,
+    8_0_0_00_00_1000,
+    11_1_0_00_00_1000,
+    4_1_0_00_00_1000,
+    2_0_0_00_00_0000,
+    3_0_1_00_00_1000,
+    4_0_0_00_00_1000,
+    5_0_0_00_00_1000,
+    12_1_0_00_00_1000,
+    13_1_0_00_00_0000,
+    3_1_1_00_00_1000,
+    6_0_0_00_00_1000,
+    // A cut before confirm's store; one before prepare's last.
+    12_0_0_00_00_0000,
+    7_0_0_00_00_0000,
+    1_0_0_00_00_0000,
+    3_0_0_00_00_1000,
+    11_0_0_00_00_0003,
+    7_0_0_00_00_0000,
+    // Withdrawn, prepared again with a slot more, confirmed; then an empty one.
+    1_0_0_00_00_0000,
+    3_0_0_00_00_1000,
+    11_0_0_00_00_1000,
+    13_0_0_00_00_0000,
+    3_0_1_00_00_1000,
+    11_0_0_00_00_1000,
+    12_0_0_00_00_1000,
+    1_2_0_00_00_0000,
+    11_2_0_00_00_1000,
+    12_2_0_00_00_1000,
 ];
 
 /// The walk's calls; writer, page and line are added.
@@ -116,9 +154,9 @@ const WALK: [u64; 32] = [
     3_0_0_00_00_1000,
     3_0_0_00_00_1000,
     3_0_0_00_00_1000,
-    3_0_0_00_00_1000,
-    3_0_0_00_00_1000,
-    3_0_0_00_00_1000,
+    11_0_0_00_00_1000,
+    12_0_0_00_00_1000,
+    13_0_0_00_00_0000,
     3_0_0_00_00_0000,
     3_0_0_00_00_0007,
     3_0_0_00_00_0009,
@@ -163,8 +201,9 @@ impl Call {
         (first..=last).map(|line| Call { place, kind, writer, page, line, stores }).collect()
     }
 
-    fn frees(&self) -> bool {
-        self.kind == 8 || self.kind == 9
+    /// Frees a slot, prepares, confirms or withdraws.
+    fn shows(&self) -> bool {
+        [8, 9, 11, 12, 13].contains(&self.kind)
     }
 
     /// A byte to write that differs from call to call.
@@ -215,6 +254,9 @@ impl Store {
             7 => mount(image).map(|mounted| *state = mounted).map(|()| 0),
             8 => free_slot(state, image),
             9 => free_slot(state, &image[1..]),
+            11 => prepare(state, image, writer),
+            12 => confirm(state, image, writer),
+            13 => withdraw(state, image, writer),
             _ => {
                 (state.next, state.sizes.s) = (page, line);
                 Ok(0)
@@ -232,7 +274,7 @@ fn main() {
         let made = code(store.make(&call));
         let ran = code(run(&mut store.state, &mut store.image, call.stores));
         sum = (31 * (31 * sum + made) + ran) % MODULUS;
-        if call.frees() {
+        if call.shows() {
             println!("{made},{},{sum}", hash(&store.image));
         }
     }

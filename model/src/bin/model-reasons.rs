@@ -2,7 +2,7 @@
 //!
 //! Its tables stand by call, where document 01's table stands by number, and its reader goes from left to right.
 
-use model::calls::{abort, begin, consolidate, event, free_slot, run, write, Patch};
+use model::calls::{abort, begin, confirm, consolidate, event, free_slot, prepare, run, withdraw, write, Patch};
 use model::layout::Sizes;
 use model::meters::Asked;
 use model::mount::format;
@@ -31,26 +31,33 @@ const fn call(name: &'static str, given: &str, numbers: &'static [u64]) -> Call 
     Call { name, writer, page, line, numbers }
 }
 
-const CALLS: [Call; 14] = [
+const CALLS: [Call; 17] = [
     call("Format", "", &[3, 4]),
     call("Mount", "", &[1, 2, 3, 4, 5, 6, 7]),
     call("Recall", "pl", &[1, 2, 3, 4, 5, 6, 7, 11]),
     call("Begin", "w", &[8, 9, 11, 12]),
-    call("Abort", "w", &[8, 9, 11, 13]),
-    call("Write", "wpl", &[4, 8, 9, 11, 13, 14, 15, 16]),
-    call("Commit", "w", &[4, 8, 9, 11, 13, 19]),
-    call("Consolidate", "p", &[4, 8, 9, 11, 17, 18, 19]),
+    call("Abort", "w", &[8, 9, 11, 13, 23]),
+    call("Write", "wpl", &[4, 8, 9, 11, 13, 14, 15, 16, 23]),
+    call("Commit", "w", &[4, 8, 9, 11, 13, 19, 23]),
+    call("Consolidate", "p", &[4, 8, 9, 11, 17, 18, 19, 23]),
     call("Checkpoint", "", &[4, 8, 9]),
     call("Read", "wpl", &[4, 8, 9, 11, 16]),
     call("Step", "", &[4, 8, 10]),
     call("Run", "", &[4, 8, 10]),
-    call("Free slot", "", &[4, 8, 9, 19, 22]),
-    call("Event", "", &[4, 8, 9, 12, 14, 15, 16, 19, 20, 21]),
+    call("Free slot", "", &[4, 8, 9, 19, 22, 23]),
+    call("Event", "", &[4, 8, 9, 12, 14, 15, 16, 19, 20, 21, 23]),
+    call("Prepare", "w", &[4, 8, 9, 11, 13, 19, 23]),
+    call("A confirm", "w", &[4, 8, 9, 11, 24]),
+    call("Withdraw", "w", &[4, 8, 9, 11, 24]),
 ];
 const WRITE: usize = 5;
 const CONSOLIDATE: usize = 7;
 const FREE_SLOT: usize = 12;
 const EVENT: usize = 13;
+const ABORT: usize = 4;
+const PREPARE: usize = 14;
+const CONFIRM: usize = 15;
+const WITHDRAW: usize = 16;
 
 fn text(number: u64) -> &'static str {
     match number {
@@ -76,6 +83,8 @@ fn text(number: u64) -> &'static str {
         20 => "the event or its meter is unknown",
         21 => "the amount or the new credit is out of range",
         22 => "there is no taken slot without a held line",
+        23 => "a transaction is prepared",
+        24 => "the writer is not prepared",
         _ => unreachable!("no number of the table"),
     }
 }
@@ -209,7 +218,7 @@ fn show_odd() {
         sentence.replace(", held by writer 2", ""),
         sentence.replace("Write ", "Begin ").replace(", page 3, line 5", ""),
         sentence.replace("(14)", "(13)").replace(", held by writer 2", ""),
-        "Free slot refused (23): .".to_string(),
+        "Free slot refused (31): .".to_string(),
         format!("{mount} "),
         mount.trim_end_matches('.').to_string(),
         String::new(),
@@ -290,6 +299,33 @@ impl Store {
         self.event(5, 5);
     }
 
+    /// Of writer `writer`, turned back.
+    fn refused(&self, place: usize, writer: u64, answer: Result<u64, Refusal>) {
+        let refusal = answer.expect_err("a refusal");
+        self.tell(place, refusal, Met { writer, page: 0, line: 0, holder: 0 });
+    }
+
+    /// Writer 0, who holds nothing, is prepared, and then not.
+    fn prepared(&mut self) {
+        begin(&mut self.state, 0).expect("a taken begin");
+        prepare(&mut self.state, &self.image, 0).expect("a taken prepare");
+        let answer = prepare(&mut self.state, &self.image, 2);
+        self.refused(PREPARE, 2, answer);
+        let answer = abort(&mut self.state, 0);
+        self.refused(ABORT, 0, answer);
+        self.write(0, 0, 9);
+        self.consolidate(0);
+        self.free_slot();
+        self.event(5, 5);
+        let answer = confirm(&mut self.state, &self.image, 2);
+        self.refused(CONFIRM, 2, answer);
+        let answer = withdraw(&mut self.state, &self.image, 2);
+        self.refused(WITHDRAW, 2, answer);
+        withdraw(&mut self.state, &self.image, 0).expect("a taken withdraw");
+        let answer = prepare(&mut self.state, &self.image, 2);
+        self.refused(PREPARE, 2, answer);
+    }
+
     fn free_slot(&mut self) {
         let refusal = free_slot(&mut self.state, &self.image).expect_err("a refusal");
         self.tell(FREE_SLOT, refusal, Met { writer: 0, page: 0, line: 0, holder: 0 });
@@ -310,10 +346,11 @@ fn show_met() {
     store.consolidate(0);
     store.free_slot();
     store.events();
+    store.prepared();
 }
 
 fn main() {
-    (0..15).for_each(show_call);
+    (0..18).for_each(show_call);
     show_odd();
     show_met();
 }

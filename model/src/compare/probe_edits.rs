@@ -102,7 +102,9 @@ pub fn set_pending(scribe: &mut Scribe) {
         Operation::Commit { writer } => (2, *writer, 0, 0, 0, 0, 0),
         Operation::Consolidate { page } => (3, *page, 0, 0, 0, 0, 0),
         Operation::Checkpoint => (4, 0, 0, 0, 0, 0, 0),
-        Operation::Event(_) => unreachable!("probe has no events"),
+        Operation::Event(_) | Operation::Prepare { .. } | Operation::Confirm { .. } => {
+            unreachable!("probe has none of these")
+        }
     };
     state.pending = Some(Pending { operation: operation.clone(), made: 0 });
     let needed = if breach(&state).is_none() { plan(&state, &operation).len() as u64 } else { 8 };

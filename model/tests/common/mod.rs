@@ -52,6 +52,18 @@ impl Store {
         numbered(calls::commit(&mut self.state, &self.image, writer))
     }
 
+    pub fn ask_prepare(&mut self, writer: u64) -> Answer {
+        numbered(calls::prepare(&mut self.state, &self.image, writer))
+    }
+
+    pub fn ask_confirm(&mut self, writer: u64) -> Answer {
+        numbered(calls::confirm(&mut self.state, &self.image, writer))
+    }
+
+    pub fn withdraw(&mut self, writer: u64) -> Answer {
+        numbered(calls::withdraw(&mut self.state, &self.image, writer))
+    }
+
     pub fn ask_consolidate(&mut self, page: u64) -> Answer {
         numbered(calls::consolidate(&mut self.state, &self.image, page))
     }
@@ -93,6 +105,16 @@ impl Store {
 
     pub fn commit(&mut self, writer: u64) -> Answer {
         let asked = self.ask_commit(writer);
+        self.finish(asked)
+    }
+
+    pub fn prepare(&mut self, writer: u64) -> Answer {
+        let asked = self.ask_prepare(writer);
+        self.finish(asked)
+    }
+
+    pub fn confirm(&mut self, writer: u64) -> Answer {
+        let asked = self.ask_confirm(writer);
         self.finish(asked)
     }
 

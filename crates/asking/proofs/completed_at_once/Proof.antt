@@ -1,9 +1,9 @@
 use mathlib.Core.Path.{sym, ap, _∙_}
 use Rattle.bounded.proofs.Tests.{contradicts}
 use Rattle.operations.specs.Operations.{isIdle}
-use Rattle.operations.proofs.Taken.{commit-taken}
+use Rattle.operations.proofs.Taken.{commit-taken, confirm-taken}
 use Rattle.refinement.specs.Stores.{completed}
-use Rattle.asking.proofs.Taking.{empty-commit, empty-checkpoint, write-needs, consolidate-needs, event-needs}
+use Rattle.asking.proofs.Taking.{commit-none, confirm-none, empty-commit, empty-prepare, empty-checkpoint, write-needs, consolidate-needs, event-needs}
 use borrow.Author.Needs.{needs}
 use Rattle.asking.proofs.completed_at_once.Statement.{statement}
 use Rattle.asking.proofs.completed_at_once.Tie as tie
@@ -24,9 +24,10 @@ returns-2 : tie.Need-returns-2
 returns-2 c = absurd (write-needs (c .before .before .before .before .args .st) _ _ _ _ _ (rw (c .enum-told2 .given .1) at (c .before .before .before .before .pre .3)))
 
 returns-3 : tie.Need-returns-3
-returns-3 c = let s = c .before .before .before .before .before .before .before .before .before in
-    empty-commit (s .args .st) _ _ _ _ (s .pre .0) (rw (c .before .before .before .before .before .op .given .1) at (s .pre .3)) (c .let-go .ensures) (c .before .before .set-open .ensures) (c .before .before .before .before .before .before .before .no-pending .ensures)
-    ∙ sym (ap (completed (s .args .st)) (c .before .before .before .before .before .op .given .1))
+returns-3 c = let s = c .before .before .before .before .before .before .before .before .before .before in
+    let e = c .before .before .before .before .before .before .op .given .1 in
+    empty-commit (s .args .st) _ _ _ _ (s .pre .0) (commit-none (s .args .st) _ (rw e at (s .pre .3))) (c .before .let-go .ensures) (c .before .before .before .set-open .ensures) (c .before .before .before .before .before .before .before .before .no-pending .ensures)
+    ∙ sym (ap (completed (s .args .st)) e)
 
 returns-4 : tie.Need-returns-4
 returns-4 c = absurd (consolidate-needs (c .before .before .before .before .args .st) _ (rw (c .enum-told3 .given .1) at (c .before .before .before .before .pre .3)))
@@ -38,6 +39,22 @@ returns-5 c = let s = c .before .before .before .before .before .before in
 
 returns-6 : tie.Need-returns-6
 returns-6 c = absurd (event-needs (c .before .before .before .before .args .st) _ _ _ (rw (c .enum-told5 .given .1) at (c .before .before .before .before .pre .3)))
+
+returns-7 : tie.Need-returns-7
+returns-7 c = let s = c .before .before .before .before .before .before in
+    empty-prepare (s .args .st) _ _ (c .before .before .before .before .no-pending .ensures) ∙ sym (ap (completed (s .args .st)) (c .before .before .op2 .given .1))
+
+set-open-requires-2 : tie.Need-set-open-requires-2
+set-open-requires-2 c κs = confirm-taken (c .before .before .before .before .before .before .args .st) _ (rw (c .before .before .op3 .given .1) at (c .before .before .before .before .before .before .pre .1)) .writer-low
+
+let-go-requires-2 : tie.Need-let-go-requires-2
+let-go-requires-2 c κs = (c .before .before .before .before .before .before .before .before .pre .0 .legal, confirm-taken (c .before .before .before .before .before .before .before .before .args .st) _ (rw (c .before .before .before .before .op3 .given .1) at (c .before .before .before .before .before .before .before .before .pre .1)) .writer-low)
+
+returns-8 : tie.Need-returns-8
+returns-8 c = let s = c .before .before .before .before .before .before .before .before .before .before in
+    let e = c .before .before .before .before .before .before .op3 .given .1 in
+    empty-commit (s .args .st) _ _ _ _ (s .pre .0) (confirm-none (s .args .st) _ (rw e at (s .pre .3))) (c .before .let-go2 .ensures) (c .before .before .before .set-open2 .ensures) (c .before .before .before .before .before .before .before .before .no-pending .ensures)
+    ∙ sym (ap (completed (s .args .st)) e)
 
 pub completed-at-once-spec : {M : Type 1} → statement M
 completed-at-once-spec =
@@ -53,9 +70,15 @@ completed-at-once-spec =
     (λ c. search needs)
     complete-checkpoint-requires
     (λ c. search needs)
+    (λ c. search needs)
+    (λ c. search needs)
+    set-open-requires-2
+    let-go-requires-2
     returns
     returns-2
     returns-3
     returns-4
     returns-5
-    returns-6)
+    returns-6
+    returns-7
+    returns-8)

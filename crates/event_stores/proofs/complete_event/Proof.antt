@@ -9,7 +9,7 @@ use Rattle.event_stores.proofs.complete_event.Statement.{statement}
 use Rattle.event_stores.proofs.complete_event.Tie as tie
 
 abbrev st : tie.Start → State
-st c = let a = c .args in stateOf (a .z) (a .head) (a .tail) (a .next) (a .page .now) (a .original .now) (a .spare .now) (a .bitmap .now) (a .last .now) (a .opened .now) (a .held .now) (a .pending)
+st c = let a = c .args in stateOf (a .z) (a .head) (a .tail) (a .next) (a .page .now) (a .original .now) (a .spare .now) (a .bitmap .now) (a .last .now) (a .opened .now) (a .held .now) (a .prepared) (a .pending)
 
 returns : tie.Need-returns
 returns c =
@@ -18,7 +18,7 @@ returns c =
     let h = c .before .before .before .before .before .hold-lines in
     let o = c .before .before .before .before .before .before .before .before .before .before .before .before .before .set-open in
     let e = c .complete-commit .ensures in
-    let lines : State = stateOf (a .z) (a .head) (a .tail) (h .result) (h .last .1 .1 .1 .1 .0) (h .last .1 .1 .1 .1 .1 .0) (a .spare .now) (h .last .1 .1 .1 .1 .1 .1 .1 .0) (a .last .now) (o .last .0) (h .last .1 .1 .1 .1 .1 .1 .1 .1 .1 .1 .0) noPending in
+    let lines : State = stateOf (a .z) (a .head) (a .tail) (h .result) (h .last .1 .1 .1 .1 .0) (h .last .1 .1 .1 .1 .1 .0) (a .spare .now) (h .last .1 .1 .1 .1 .1 .1 .1 .0) (a .last .now) (o .last .0) (h .last .1 .1 .1 .1 .1 .1 .1 .1 .1 .1 .0) (a .prepared) noPending in
     event-done (st s) (a .kind) (a .meter) (o .last .0) lines _ (o .ensures) (h .ensures)
     (commit-done lines 1 _ _ _ _ _ _ _ refl (e .0) (e .1 .0) (e .1 .1 .0) (e .1 .1 .1 .1) (e .1 .1 .1 .0) refl)
 

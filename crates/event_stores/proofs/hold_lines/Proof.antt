@@ -13,7 +13,7 @@ use Rattle.event_stores.proofs.hold_lines.Tie as tie
 
 -- the state before
 abbrev st : tie.Start → State
-st c = let a = c .args in stateOf (a .z) (a .head) (a .tail) (a .next) (a .page .now) (a .original .now) (a .spare .now) (a .bitmap .now) (a .last .now) (a .opened .now) (a .held .now) noPending
+st c = let a = c .args in stateOf (a .z) (a .head) (a .tail) (a .next) (a .page .now) (a .original .now) (a .spare .now) (a .bitmap .now) (a .last .now) (a .opened .now) (a .held .now) (a .prepared) noPending
 
 complete-write-requires : tie.Need-complete-write-requires
 complete-write-requires c κs =
@@ -41,7 +41,7 @@ returns-2 c =
     let w = c .before .before .before .before .before .before .before .complete-write in
     let e = w .ensures in
     let d = c .complete-write2 .ensures in
-    let s₁ : State = stateOf (a .z) (a .head) (a .tail) (w .result) (w .last .1 .1 .0) (w .last .1 .1 .1 .0) (a .spare .now) (w .last .1 .1 .1 .1 .0) (a .last .now) (a .opened .now) (w .last .1 .1 .1 .1 .1 .0) noPending in
+    let s₁ : State = stateOf (a .z) (a .head) (a .tail) (w .result) (w .last .1 .1 .0) (w .last .1 .1 .1 .0) (a .spare .now) (w .last .1 .1 .1 .1 .0) (a .last .now) (a .opened .now) (w .last .1 .1 .1 .1 .1 .0) (a .prepared) noPending in
     two-lines (st s) s₁ _ (a .kind) (a .meter) (a .pending) (sym (c .before .before .before .before .before .before .moves-credit .ensures) ∙ not-false _ (c .before .before .before .before .before .if1 .left))
     (line-put (st s) _ _ (a .pending .frame) (a .pending .line) (c .before .before .before .before .before .before .before .before .before .before .before .before .before .first-meter .ensures) _ _ _ _ _ (e .0) (e .1 .0) (e .1 .1 .0) (e .1 .1 .1 .0) (e .1 .1 .1 .1))
     (line-put s₁ _ _ (a .pending .frame) (a .pending .second) (c .before .before .before .before .before .before .before .before .before .before .before .before .own-meter .ensures) _ _ _ _ _ (d .0) (d .1 .0) (d .1 .1 .0) (d .1 .1 .1 .0) (d .1 .1 .1 .1))

@@ -12,7 +12,7 @@ use Rattle.event_stores.proofs.make_event_commit.Statement.{statement}
 use Rattle.event_stores.proofs.make_event_commit.Tie as tie
 
 abbrev st : tie.Start → State
-st c = let a = c .args in stateOf (a .z) (a .head) (a .tail) (a .next) (a .page .now) (a .original .now) (a .spare .now) (a .bitmap .now) (a .last .now) (a .opened .now) (a .held .now) (a .pending)
+st c = let a = c .args in stateOf (a .z) (a .head) (a .tail) (a .next) (a .page .now) (a .original .now) (a .spare .now) (a .bitmap .now) (a .last .now) (a .opened .now) (a .held .now) (a .prepared) (a .pending)
 
 hold-lines-requires : tie.Need-hold-lines-requires
 hold-lines-requires c κs =
@@ -26,7 +26,7 @@ make-commit-stores-requires c κs =
     let a = s .args in
     let h = c .before .before .before .before .before .hold-lines in
     let o = c .before .before .before .before .before .before .before .before .before .before .before .set-open in
-    let lines : State = stateOf (a .z) (a .head) (a .tail) (h .result) (h .last .1 .1 .1 .1 .0) (h .last .1 .1 .1 .1 .1 .0) (a .spare .now) (h .last .1 .1 .1 .1 .1 .1 .1 .0) (a .last .now) (o .last .0) (h .last .1 .1 .1 .1 .1 .1 .1 .1 .1 .1 .0) noPending in
+    let lines : State = stateOf (a .z) (a .head) (a .tail) (h .result) (h .last .1 .1 .1 .1 .0) (h .last .1 .1 .1 .1 .1 .0) (a .spare .now) (h .last .1 .1 .1 .1 .1 .1 .1 .0) (a .last .now) (o .last .0) (h .last .1 .1 .1 .1 .1 .1 .1 .1 .1 .1 .0) (a .prepared) noPending in
     let T = s .pre .0 in
     let e : lines ≡ linesDone (st s) (a .kind) (a .meter) = lines-are (st s) (a .kind) (a .meter) (o .last .0) lines (o .ensures) (h .ensures) in
     let r = ranges (st s) (a .kind) (a .meter) T in
@@ -39,7 +39,7 @@ returns c =
     let a = s .args in
     let h = c .before .before .before .before .before .before .before .before .hold-lines in
     let o = c .before .before .before .before .before .before .before .before .before .before .before .before .before .before .set-open in
-    let lines : State = stateOf (a .z) (a .head) (a .tail) (h .result) (h .last .1 .1 .1 .1 .0) (h .last .1 .1 .1 .1 .1 .0) (a .spare .now) (h .last .1 .1 .1 .1 .1 .1 .1 .0) (a .last .now) (o .last .0) (h .last .1 .1 .1 .1 .1 .1 .1 .1 .1 .1 .0) noPending in
+    let lines : State = stateOf (a .z) (a .head) (a .tail) (h .result) (h .last .1 .1 .1 .1 .0) (h .last .1 .1 .1 .1 .1 .0) (a .spare .now) (h .last .1 .1 .1 .1 .1 .1 .1 .0) (a .last .now) (o .last .0) (h .last .1 .1 .1 .1 .1 .1 .1 .1 .1 .1 .0) (a .prepared) noPending in
     let e : lines ≡ linesDone (st s) (a .kind) (a .meter) = lines-are (st s) (a .kind) (a .meter) (o .last .0) lines (o .ensures) (h .ensures) in
     commit-part (st s) (a .kind) (a .meter) (s .pre .0) lines e (a .from) (a .n) (a .image .now) _ (c .before .before .make-commit-stores .ensures ∙ commit-stores-of lines 1 (a .from) (a .n) (a .image .now))
 

@@ -24,7 +24,7 @@ use Rattle.events.proofs.event_found.Statement.{statement}
 use Rattle.events.proofs.event_found.Tie as tie
 
 abbrev st : tie.Start → State
-st c = let a = c .args in stateOf (a .z) (a .head) (a .tail) (a .next) (a .page .now) (a .original .now) (a .spare .now) (a .bitmap .now) (a .last .now) (a .opened .now) (a .held .now) (a .pending)
+st c = let a = c .args in stateOf (a .z) (a .head) (a .tail) (a .next) (a .page .now) (a .original .now) (a .spare .now) (a .bitmap .now) (a .last .now) (a .opened .now) (a .held .now) (a .prepared) (a .pending)
 
 abbrev home : tie.Start → ℕ
 home s = pageFrame (st s) (s .args .image .now) 0

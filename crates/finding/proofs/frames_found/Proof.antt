@@ -11,7 +11,7 @@ use Rattle.finding.proofs.frames_found.Tie as tie
 good1 : (c : tie.Else1) → let a = c .before .before .before .before .before .args in ArgsGood (a .z) (a .writer) (a .p) (a .line) (a .offset) (a .length)
 good1 c =
     let a = c .before .before .before .before .before .args in
-    let rows = writeRowsOf (a .z) (a .next) (a .page .now) (a .original .now) (a .spare .now) (a .opened .now) (a .held .now) (a .writer) (a .p) (c .before .before .before .slot-of .result) (a .line) (a .offset) (a .length) (c .before .before .page-frame .result) in
+    let rows = writeRowsOf (a .z) (a .next) (a .page .now) (a .original .now) (a .spare .now) (a .opened .now) (a .held .now) (a .prepared) (a .writer) (a .p) (c .before .before .before .slot-of .result) (a .line) (a .offset) (a .length) (c .before .before .page-frame .result) in
     args-good (a .z) (a .writer) (a .p) (a .line) (a .offset) (a .length) (none-apply rows (omega arith) (sym (c .before .write-row .ensures) ∙ c .if1 .left) .0)
 
 returns : tie.Need-returns

@@ -10,7 +10,7 @@ use Rattle.going.proofs.go_on.Tie as tie
 abbrev st : tie.Start → State
 st c =
     let a = c .args in
-    stateOf (a .z) (a .head) (a .tail) (a .next) (a .page .now) (a .original .now) (a .spare .now) (a .bitmap .now) (a .last .now) (a .opened .now) (a .held .now) (a .pending)
+    stateOf (a .z) (a .head) (a .tail) (a .next) (a .page .now) (a .original .now) (a .spare .now) (a .bitmap .now) (a .last .now) (a .opened .now) (a .held .now) (a .prepared) (a .pending)
 
 make-left-requires : tie.Need-make-left-requires
 make-left-requires c κs = c .before .before .before .before .before .before .before .before .before .pre
@@ -30,7 +30,7 @@ complete-requires c κs = let s = c .before .before .before .before .before .bef
 returns-2 : tie.Need-returns-2
 returns-2 c = let s = c .before .before .before .before .before .before .before .before .before .before .before .before .before .before .before .before .before .before .before .before .before .before .before in
     let e = c .before .before .before .before .before .before .before .before .before .before .before .before .before .make-left .ensures in
-    (row-low (st s) (s .args .image .now) (s .args .k) _ (e .0), (went-whole (st s) (s .args .image .now) (s .args .k) _ (e .0) (not-false _ (c .before .before .before .before .before .before .before .before .before .if1 .left)) _ (put-together _ _ _ _ _ _ _ _ _ _ _ _ _ (c .no-pending .ensures) (c .before .complete .ensures)), e .1))
+    (row-low (st s) (s .args .image .now) (s .args .k) _ (e .0), (went-whole (st s) (s .args .image .now) (s .args .k) _ (e .0) (not-false _ (c .before .before .before .before .before .before .before .before .before .if1 .left)) _ (put-together _ _ _ _ _ _ _ _ _ _ _ _ _ _ (c .no-pending .ensures) (c .before .complete .ensures)), e .1))
 
 pub go-on-spec : {M : Type 1} → statement M
 go-on-spec =

@@ -3,7 +3,7 @@ use mathlib.Core.Path.{_≡_, sym, ap, _∙_, subst}
 use native.Mathlib.Omega.{arith}
 use borrow.Author.Needs.{needs}
 use Rattle.state.specs.declared.Op.{Op}
-use Rattle.operations.specs.Operations.{Asked, commitNeeds, needsOf}
+use Rattle.operations.specs.Operations.{Asked, commitNeeds, prepareNeeds, confirmNeeds, needsOf}
 use Rattle.state.proofs.Numbers.{held-le}
 use Rattle.needs.proofs.op_needs.Statement.{statement}
 use Rattle.needs.proofs.op_needs.Tie as tie
@@ -21,6 +21,15 @@ slot-low c =
 
 held-count-requires : tie.Need-held-count-requires
 held-count-requires c κs = (c .before .before .before .pre .0, subst (Asked (c .before .before .before .args .z) (c .before .before .before .args .page .now)) (c .before .op .given .1) (c .before .before .before .pre .1))
+
+held-count-requires-2 : tie.Need-held-count-requires-2
+held-count-requires-2 c κs = (c .before .before .before .pre .0, subst (Asked (c .before .before .before .args .z) (c .before .before .before .args .page .now)) (c .before .op4 .given .1) (c .before .before .before .pre .1))
+
+held-count-requires-3 : tie.Need-held-count-requires-3
+held-count-requires-3 c κs = (c .before .before .before .pre .0, subst (Asked (c .before .before .before .args .z) (c .before .before .before .args .page .now)) (c .before .op5 .given .1) (c .before .before .before .pre .1))
+
+prepare-needs-requires : tie.Need-prepare-needs-requires
+prepare-needs-requires c κs = omega (arith, held-le _ _ _ _ (c .held-count2 .ensures), c .before .before .before .before .pre .0)
 
 commit-needs-requires : tie.Need-commit-needs-requires
 commit-needs-requires c κs = omega (arith, held-le _ _ _ _ (c .held-count .ensures), c .before .before .before .before .pre .0)
@@ -49,6 +58,12 @@ returns-5 c = c .checkpoint-needs .ensures ∙ sym (ap (count (c .before .before
 returns-6 : tie.Need-returns-6
 returns-6 c = c .event-needs .ensures ∙ sym (ap (count (c .before .before .before .before)) (c .before .before .op3 .given .1))
 
+returns-7 : tie.Need-returns-7
+returns-7 c = c .prepare-needs .ensures ∙ ap prepareNeeds (c .before .held-count2 .ensures) ∙ sym (ap (count (c .before .before .before .before .before)) (c .before .before .before .op4 .given .1))
+
+returns-8 : tie.Need-returns-8
+returns-8 c = c .confirm-needs .ensures ∙ ap confirmNeeds (c .before .held-count3 .ensures) ∙ sym (ap (count (c .before .before .before .before .before)) (c .before .before .before .op5 .given .1))
+
 pub op-needs-spec : {M : Type 1} → statement M
 op-needs-spec =
     tie.close
@@ -67,9 +82,17 @@ op-needs-spec =
     (λ c κs. search needs)
     (λ c. search needs)
     (λ c κs. search needs)
+    (λ c. search needs)
+    held-count-requires-2
+    prepare-needs-requires
+    (λ c. search needs)
+    held-count-requires-3
+    (λ c κs. search needs)
     returns
     returns-2
     returns-3
     returns-4
     returns-5
-    returns-6)
+    returns-6
+    returns-7
+    returns-8)

@@ -5,7 +5,7 @@ use mathlib.Core.List.{List}
 use mathlib.Core.Path.{_≡_, sym, ap, ap₂, _∙_}
 use native.Mathlib.Omega.{arith}
 use borrow.Author.Needs.{needs}
-use borrow.Author.Tests.{not-false}
+use borrow.Author.Tests.{not-false, lt-ltb, le-ltb}
 use Rattle.bounded.specs.Rows.{Row, Past}
 use Rattle.bounded.proofs.Rows.{row-at, row-none}
 use Rattle.meters.specs.Meters.{eventKnown, firstMeter, ownMeter}
@@ -17,7 +17,7 @@ use Rattle.operations.proofs.event_first_row.Tie as tie
 abbrev rows : tie.Start → List Row
 rows c =
     let a = c .args in
-    eventFirstRowsOf (a .z) (a .next) (a .page .now) (a .original .now) (a .spare .now) (a .opened .now) (a .held .now) (a .kind) (a .meter) (a .s) (a .frame)
+    eventFirstRowsOf (a .z) (a .next) (a .page .now) (a .original .now) (a .spare .now) (a .opened .now) (a .held .now) (a .prepared) (a .kind) (a .meter) (a .s) (a .frame)
 
 past1 : (c : tie.Else1) → Past (rows (c .before .before)) 1
 past1 c = (sym (ap not (c .before .is-known .ensures)) ∙ c .if1 .left, tt)
@@ -34,47 +34,53 @@ returns c = row-at (rows (c .before .before)) 0 (omega arith) tt (sym (ap not (c
 returns-2 : tie.Need-returns-2
 returns-2 c = row-at (rows (c .before .before .before .before)) 1 (omega arith) (past1 (c .before .before)) (sym (c .before .is-open .ensures) ∙ c .if2 .taken)
 
+past3 : (c : tie.Else3) → Past (rows (c .before .before .before .before .before)) 3
+past3 c = let p = past2 (c .before) in (p .0, (p .1 .0, (le-ltb _ _ (c .if3 .left), tt)))
+
+returns-3 : tie.Need-returns-3
+returns-3 c = row-at (rows (c .before .before .before .before .before)) 2 (omega arith) (past2 (c .before)) (lt-ltb _ _ (c .if3 .taken))
+
 line-taken-requires : tie.Need-line-taken-requires
 line-taken-requires c κs =
-    let s = c .before .before .before .before .before in
-    let l = first-low (s .args .kind) (s .args .meter) (known (c .before .before .before)) in
+    let s = c .before .before .before .before .before .before in
+    let l = first-low (s .args .kind) (s .args .meter) (known (c .before .before .before .before)) in
     (s .pre .0, omega (arith, l, c .first-meter .ensures))
 
 line-taken-requires-2 : tie.Need-line-taken-requires-2
 line-taken-requires-2 c κs =
-    let s = c .before .before .before .before .before .before .before in
-    let l = own-range (s .args .kind) (s .args .meter) (known (c .before .before .before .before .before)) .1 in
+    let s = c .before .before .before .before .before .before .before .before in
+    let l = own-range (s .args .kind) (s .args .meter) (known (c .before .before .before .before .before .before)) .1 in
     (s .pre .0, omega (arith, l, c .own-meter .ensures))
 
 -- row 14 is what the code found of the two lines
 lines : (c : tie.After-line-taken2)
-    → let a = c .before .before .before .before .before .before .before .before .args in
+    → let a = c .before .before .before .before .before .before .before .before .before .args in
     c .before .before .line-taken .result || c .line-taken2 .result
     ≡ lineTaken (a .z) (a .held .now) 1 (a .s) (firstMeter (a .kind) (a .meter)) || lineTaken (a .z) (a .held .now) 1 (a .s) (ownMeter (a .kind) (a .meter))
 lines c =
-    let a = c .before .before .before .before .before .before .before .before .args in
+    let a = c .before .before .before .before .before .before .before .before .before .args in
     let taken : ℕ → Bool = lineTaken (a .z) (a .held .now) 1 (a .s) in
     ap₂ (λ (x y : Bool). x || y) (c .before .before .line-taken .ensures ∙ ap taken (c .before .before .before .first-meter .ensures)) (c .line-taken2 .ensures ∙ ap taken (c .before .own-meter .ensures))
 
-past3 : (c : tie.Else3) → Past (rows (c .before .before .before .before .before .before .before .before .before)) 3
-past3 c = let p = past2 (c .before .before .before .before .before) in (p .0, (p .1 .0, (sym (lines (c .before)) ∙ c .if3 .left, tt)))
+past4 : (c : tie.Else4) → Past (rows (c .before .before .before .before .before .before .before .before .before .before)) 4
+past4 c = let p = past3 (c .before .before .before .before .before) in (p .0, (p .1 .0, (p .1 .1 .0, (sym (lines (c .before)) ∙ c .if4 .left, tt))))
 
-past4 : (c : tie.Else4) → Past (rows (c .before .before .before .before .before .before .before .before .before .before .before)) 4
-past4 c = let p = past3 (c .before .before) in (p .0, (p .1 .0, (p .1 .1 .0, (sym (c .before .none-free .ensures) ∙ c .if4 .left, tt))))
-
-returns-3 : tie.Need-returns-3
-returns-3 c = row-at (rows (c .before .before .before .before .before .before .before .before .before)) 2 (omega arith) (past2 (c .before .before .before .before .before)) (sym (lines (c .before)) ∙ c .if3 .taken)
+past5 : (c : tie.Else5) → Past (rows (c .before .before .before .before .before .before .before .before .before .before .before .before)) 5
+past5 c = let p = past4 (c .before .before) in (p .0, (p .1 .0, (p .1 .1 .0, (p .1 .1 .1 .0, (sym (c .before .none-free .ensures) ∙ c .if5 .left, tt)))))
 
 returns-4 : tie.Need-returns-4
-returns-4 c = row-at (rows (c .before .before .before .before .before .before .before .before .before .before .before)) 3 (omega arith) (past3 (c .before .before)) (sym (c .before .none-free .ensures) ∙ c .if4 .taken)
+returns-4 c = row-at (rows (c .before .before .before .before .before .before .before .before .before .before)) 3 (omega arith) (past3 (c .before .before .before .before .before)) (sym (lines (c .before)) ∙ c .if4 .taken)
 
 returns-5 : tie.Need-returns-5
-returns-5 c = row-at (rows (c .before .before .before .before .before .before .before .before .before .before .before .before .before)) 4 (omega arith) (past4 (c .before .before)) (sym (c .before .frame-bad .ensures) ∙ c .if5 .taken)
+returns-5 c = row-at (rows (c .before .before .before .before .before .before .before .before .before .before .before .before)) 4 (omega arith) (past4 (c .before .before)) (sym (c .before .none-free .ensures) ∙ c .if5 .taken)
 
 returns-6 : tie.Need-returns-6
-returns-6 c =
-    let p = past4 (c .before .before) in
-    row-none (rows (c .before .before .before .before .before .before .before .before .before .before .before .before .before)) (p .0, (p .1 .0, (p .1 .1 .0, (p .1 .1 .1 .0, (sym (c .before .frame-bad .ensures) ∙ c .if5 .left, tt)))))
+returns-6 c = row-at (rows (c .before .before .before .before .before .before .before .before .before .before .before .before .before .before)) 5 (omega arith) (past5 (c .before .before)) (sym (c .before .frame-bad .ensures) ∙ c .if6 .taken)
+
+returns-7 : tie.Need-returns-7
+returns-7 c =
+    let p = past5 (c .before .before) in
+    row-none (rows (c .before .before .before .before .before .before .before .before .before .before .before .before .before .before)) (p .0, (p .1 .0, (p .1 .1 .0, (p .1 .1 .1 .0, (p .1 .1 .1 .1 .0, (sym (c .before .frame-bad .ensures) ∙ c .if6 .left, tt))))))
 
 pub event-first-row-spec : {M : Type 1} → statement M
 event-first-row-spec =
@@ -84,13 +90,14 @@ event-first-row-spec =
     returns
     (λ c κs. search needs)
     returns-2
+    returns-3
     (λ c κs. search needs)
     line-taken-requires
     (λ c κs. search needs)
     line-taken-requires-2
-    returns-3
-    (λ c κs. search needs)
     returns-4
     (λ c κs. search needs)
     returns-5
-    returns-6)
+    (λ c κs. search needs)
+    returns-6
+    returns-7)

@@ -13,7 +13,7 @@ use Rattle.operations.proofs.event_row.Tie as tie
 abbrev first : tie.Start → List Row
 first c =
     let a = c .args in
-    eventFirstRowsOf (a .z) (a .next) (a .page .now) (a .original .now) (a .spare .now) (a .opened .now) (a .held .now) (a .kind) (a .meter) (slotOfPage (a .z) (a .page .now) 0) (a .frame)
+    eventFirstRowsOf (a .z) (a .next) (a .page .now) (a .original .now) (a .spare .now) (a .opened .now) (a .held .now) (a .prepared) (a .kind) (a .meter) (slotOfPage (a .z) (a .page .now) 0) (a .frame)
 
 abbrev last : tie.Start → List Row
 last c = let a = c .args in (journalFullOf (a .z) (a .head) (a .tail) 1, 19) ∷ []

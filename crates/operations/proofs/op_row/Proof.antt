@@ -11,7 +11,7 @@ use Rattle.operations.proofs.op_row.Tie as tie
 abbrev row : tie.Start → Op → ℕ
 row c op =
     let a = c .args in
-    refusal (opRowsOf (a .z) (a .head) (a .tail) (a .next) (a .page .now) (a .original .now) (a .spare .now) (a .opened .now) (a .held .now) op (a .frame))
+    refusal (opRowsOf (a .z) (a .head) (a .tail) (a .next) (a .page .now) (a .original .now) (a .spare .now) (a .opened .now) (a .held .now) (a .prepared) op (a .frame))
 
 returns : tie.Need-returns
 returns c = sym (ap (row (c .before .before)) (c .enum-told .given .1))
@@ -31,6 +31,12 @@ returns-5 c = sym (ap (row (c .before .before)) (c .enum-told2 .given .1))
 returns-6 : tie.Need-returns-6
 returns-6 c = c .event-row .ensures ∙ sym (ap (row (c .before .before .before .before)) (c .before .before .op4 .given .1))
 
+returns-7 : tie.Need-returns-7
+returns-7 c = c .commit-row2 .ensures ∙ sym (ap (row (c .before .before .before .before)) (c .before .before .op5 .given .1))
+
+returns-8 : tie.Need-returns-8
+returns-8 c = c .confirm-row .ensures ∙ sym (ap (row (c .before .before .before .before)) (c .before .before .op6 .given .1))
+
 pub op-row-spec : {M : Type 1} → statement M
 op-row-spec =
     tie.close
@@ -46,9 +52,15 @@ op-row-spec =
     (λ c. search needs)
     (λ c. search needs)
     (λ c κs. search needs)
+    (λ c. search needs)
+    (λ c κs. search needs)
+    (λ c. search needs)
+    (λ c κs. search needs)
     returns
     returns-2
     returns-3
     returns-4
     returns-5
-    returns-6)
+    returns-6
+    returns-7
+    returns-8)

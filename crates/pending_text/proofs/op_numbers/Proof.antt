@@ -20,6 +20,12 @@ returns-5 c = sym (ap (λ (o : Op). opNumbers o (c .before .before .args .made) 
 returns-6 : tie.Need-returns-6
 returns-6 c = sym (ap (λ (o : Op). opNumbers o (c .before .before .before .args .made) (c .before .before .before .args .frame)) (c .before .op4 .given .1))
 
+returns-7 : tie.Need-returns-7
+returns-7 c = sym (ap (λ (o : Op). opNumbers o (c .before .before .before .args .made) (c .before .before .before .args .frame)) (c .before .op5 .given .1))
+
+returns-8 : tie.Need-returns-8
+returns-8 c = sym (ap (λ (o : Op). opNumbers o (c .before .before .before .args .made) (c .before .before .before .args .frame)) (c .before .op6 .given .1))
+
 pub op-numbers-spec : {M : Type 1} → statement M
 op-numbers-spec =
     tie.close
@@ -31,8 +37,12 @@ op-numbers-spec =
     (λ c. search needs)
     (λ c. search needs)
     (λ c. search needs)
+    (λ c. search needs)
+    (λ c. search needs)
     returns-2
     returns-3
     returns-4
     returns-5
-    returns-6)
+    returns-6
+    returns-7
+    returns-8)

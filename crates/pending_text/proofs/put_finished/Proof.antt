@@ -27,6 +27,14 @@ returns-6 : tie.Need-returns-6
 unfolding blanked
 returns-6 c = rw (c .enum-told6 .given .1) (put-none (c .before .before .before .args .out .now) (c .before .before .before .args .at))
 
+returns-7 : tie.Need-returns-7
+unfolding blanked
+returns-7 c = rw (c .enum-told7 .given .1) (put-none (c .before .before .before .args .out .now) (c .before .before .before .args .at))
+
+returns-8 : tie.Need-returns-8
+unfolding blanked
+returns-8 c = rw (c .enum-told8 .given .1) (put-none (c .before .before .before .args .out .now) (c .before .before .before .args .at))
+
 pub put-finished-spec : {M : Type 1} → statement M
 put-finished-spec =
     tie.close
@@ -38,10 +46,14 @@ put-finished-spec =
     (λ c. search needs)
     (λ c. search needs)
     (λ c. search needs)
+    (λ c. search needs)
+    (λ c. search needs)
     returns
     (λ c. search needs)
     returns-2
     returns-3
     returns-4
     returns-5
-    returns-6)
+    returns-6
+    returns-7
+    returns-8)

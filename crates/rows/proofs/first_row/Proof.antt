@@ -18,7 +18,7 @@ use Rattle.rows.proofs.first_row.Tie as tie
 abbrev st : tie.Start → State
 st c =
     let a = c .args in
-    stateOf (a .z) (a .head) (a .tail) (a .next) (a .page .now) (a .original .now) (a .spare .now) (a .bitmap .now) (a .last .now) (a .opened .now) (a .held .now) (a .pending)
+    stateOf (a .z) (a .head) (a .tail) (a .next) (a .page .now) (a .original .now) (a .spare .now) (a .bitmap .now) (a .last .now) (a .opened .now) (a .held .now) (a .prepared) (a .pending)
 
 abbrev rows : tie.Start → List Row
 rows c = firstRows (c .args .busy) (st c) (c .args .n)

@@ -8,7 +8,7 @@ use Rattle.state.specs.Parts.{stateOf}
 use Rattle.operations.specs.Operations.{isIdle}
 use Rattle.refinement.specs.Settled.{noPending}
 use Rattle.refinement.specs.Stores.{completed}
-use Rattle.refinement.proofs.Going.{write-of, commit-of, consolidate-of, event-of}
+use Rattle.refinement.proofs.Going.{write-of, commit-of, confirm-of, consolidate-of, event-of}
 use Rattle.writes.proofs.WriteMade.{write-done}
 use Rattle.commits.proofs.CommitMade.{commit-done}
 use Rattle.consolidations.proofs.ConsolidateMade.{consolidate-done}
@@ -19,7 +19,7 @@ use Rattle.stores.proofs.complete.Tie as tie
 abbrev st : tie.Start → State
 st c =
     let a = c .args in
-    stateOf (a .z) (a .head) (a .tail) (a .next) (a .page .now) (a .original .now) (a .spare .now) (a .bitmap .now) (a .last .now) (a .opened .now) (a .held .now) (a .pending)
+    stateOf (a .z) (a .head) (a .tail) (a .next) (a .page .now) (a .original .now) (a .spare .now) (a .bitmap .now) (a .last .now) (a .opened .now) (a .held .now) (a .prepared) (a .pending)
 
 complete-write-requires : tie.Need-complete-write-requires
 complete-write-requires c κs = let s = c .before .before .before .before .before .before .before in
@@ -57,7 +57,7 @@ returns-4 c = let s = c .before .before .before .before .before .before .before 
 returns-5 : tie.Need-returns-5
 returns-5 c = let s = c .before .before .before .before in
     let a = s .args in
-    ap (λ (l : List ℕ). stateOf (a .z) (a .head) (a .head) (a .next) (a .page .now) (a .original .now) (a .spare .now) (a .bitmap .now) l (a .opened .now) (a .held .now) noPending) (c .complete-checkpoint .ensures)
+    ap (λ (l : List ℕ). stateOf (a .z) (a .head) (a .head) (a .next) (a .page .now) (a .original .now) (a .spare .now) (a .bitmap .now) l (a .opened .now) (a .held .now) (a .prepared) noPending) (c .complete-checkpoint .ensures)
     ∙ sym (ap (completed (st s)) (c .before .before .enum-told2 .given .1))
 
 complete-event-requires : tie.Need-complete-event-requires
@@ -67,6 +67,19 @@ complete-event-requires c κs = let s = c .before .before .before .before .befor
 returns-6 : tie.Need-returns-6
 returns-6 c = let s = c .before .before .before .before .before .before .before .before .before .before .before in
     c .complete-event .ensures ∙ sym (ap (completed (st s)) (c .before .before .before .before .before .before .before .before .before .op4 .given .1))
+
+returns-7 : tie.Need-returns-7
+returns-7 c = let s = c .before .before .before in sym (ap (completed (st s)) (c .before .op5 .given .1))
+
+complete-commit-requires-2 : tie.Need-complete-commit-requires-2
+complete-commit-requires-2 c κs = let s = c .before .before .before .before .before .before .before in
+    (s .pre .0 .legal, s .pre .0 .head-low, confirm-of (st s) (s .pre .1) (c .before .before .before .before .before .op6 .given .1) .writer-low)
+
+returns-8 : tie.Need-returns-8
+returns-8 c = let s = c .before .before .before .before .before .before .before .before in
+    let e = c .complete-commit2 .ensures in
+    commit-done (st s) _ _ _ _ _ _ _ _ refl (e .0) (e .1 .0) (e .1 .1 .0) (e .1 .1 .1 .1) (e .1 .1 .1 .0) refl
+    ∙ sym (ap (completed (st s)) (c .before .before .before .before .before .before .op6 .given .1))
 
 pub complete-spec : {M : Type 1} → statement M
 complete-spec =
@@ -83,9 +96,14 @@ complete-spec =
     (λ c κs. search needs)
     (λ c. search needs)
     complete-event-requires
+    (λ c. search needs)
+    (λ c. search needs)
+    complete-commit-requires-2
     returns
     returns-2
     returns-3
     returns-4
     returns-5
-    returns-6)
+    returns-6
+    returns-7
+    returns-8)

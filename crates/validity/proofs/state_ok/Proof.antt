@@ -9,7 +9,7 @@ use Rattle.state.specs.declared.State.{State}
 use Rattle.state.specs.Parts.{stateOf}
 use Rattle.state.specs.Held.{heldOk}
 use Rattle.operations.specs.Operations.{Ranged}
-use Rattle.validity.specs.Validity.{slotsOk, lastsOk, stateOk}
+use Rattle.validity.specs.Validity.{slotsOk, lastsOk, preparedOk, stateOk}
 use Rattle.validity.proofs.Ranged.{slots-good, ranged}
 use Rattle.validity.proofs.state_ok.Statement.{statement}
 use Rattle.validity.proofs.state_ok.Tie as tie
@@ -17,7 +17,7 @@ use Rattle.validity.proofs.state_ok.Tie as tie
 abbrev st : tie.Start → State
 st c =
     let a = c .args in
-    stateOf (a .z) (a .head) (a .tail) (a .next) (a .page .now) (a .original .now) (a .spare .now) (a .bitmap .now) (a .last .now) (a .opened .now) (a .held .now) (a .pending)
+    stateOf (a .z) (a .head) (a .tail) (a .next) (a .page .now) (a .original .now) (a .spare .now) (a .bitmap .now) (a .last .now) (a .opened .now) (a .held .now) (a .prepared) (a .pending)
 
 slots1 : (c : tie.Else1) → let s = st (c .before .before) in slotsOk (s .sizes) (s .head) (s .tail) (s .table) ≡ true
 unfolding slotsOk
@@ -31,6 +31,11 @@ ranged3 c = ranged (st (c .before .before .before .before .before .before)) (slo
 
 lasts4 : (c : tie.Else4) → let s = st (c .before .before .before .before .before .before .before .before) in lastsOk (s .sizes) (s .head) (s .tail) (s .table .last) ≡ true
 lasts4 c = held _ _ (c .before .lasts-ok .ensures) (c .if4 .left)
+
+prepared5 : (c : tie.Else5)
+    → let s = st (c .before .before .before .before .before .before .before .before .before .before) in
+    preparedOk (s .sizes) (s .head) (s .tail) (s .writers .opened) (s .writers .held) (s .writers .prepared) ≡ true
+prepared5 c = held _ _ (c .before .prepared-ok .ensures) (c .if5 .left)
 
 returns : tie.Need-returns
 unfolding stateOk slotsOk
@@ -54,12 +59,19 @@ returns-4 : tie.Need-returns-4
 unfolding stateOk
 returns-4 c = rw (slots1 (c .before .before .before .before .before .before), held2 (c .before .before .before .before), lt-ltb _ _ (c .before .before .if3 .left)) (and-stops _ _ _ (c .before .lasts-ok .ensures) (c .if4 .taken))
 
-pending-ok-requires : tie.Need-pending-ok-requires
-pending-ok-requires c κs = ranged3 (c .before .before)
+prepared-ok-requires : tie.Need-prepared-ok-requires
+prepared-ok-requires c κs = let r = ranged3 (c .before .before) in (r .legal, r .head-low, r .tail-low, r .live-high)
 
 returns-5 : tie.Need-returns-5
 unfolding stateOk
-returns-5 c = rw (slots1 (c .before .before .before .before .before .before .before), held2 (c .before .before .before .before .before), lt-ltb _ _ (c .before .before .before .if3 .left), lasts4 (c .before)) (c .pending-ok .ensures)
+returns-5 c = rw (slots1 (c .before .before .before .before .before .before .before .before), held2 (c .before .before .before .before .before .before), lt-ltb _ _ (c .before .before .before .before .if3 .left), lasts4 (c .before .before)) (and-stops _ _ _ (c .before .prepared-ok .ensures) (c .if5 .taken))
+
+pending-ok-requires : tie.Need-pending-ok-requires
+pending-ok-requires c κs = ranged3 (c .before .before .before .before)
+
+returns-6 : tie.Need-returns-6
+unfolding stateOk
+returns-6 c = rw (slots1 (c .before .before .before .before .before .before .before .before .before), held2 (c .before .before .before .before .before .before .before), lt-ltb _ _ (c .before .before .before .before .before .if3 .left), lasts4 (c .before .before .before), prepared5 (c .before)) (c .pending-ok .ensures)
 
 pub state-ok-spec : {M : Type 1} → statement M
 state-ok-spec =
@@ -72,5 +84,7 @@ state-ok-spec =
     returns-3
     lasts-ok-requires
     returns-4
+    prepared-ok-requires
+    returns-5
     pending-ok-requires
-    returns-5)
+    returns-6)

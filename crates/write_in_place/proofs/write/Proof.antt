@@ -29,7 +29,7 @@ found : (c : tie.After-write-found) → let a = c .before .before .before .befor
 found c =
     let a = c .before .before .before .before .before .before .before .before .before .before .before .before .args in
     subst
-    (λ (q : Pending). WriteFound (stateOf (a .z) (a .at .head) (a .at .tail) (a .at .next) (a .page .now) (a .original .now) (a .spare .now) (a .bitmap .now) (a .last .now) (a .opened .now) (a .held .now) q) (a .image .now) (a .writer) (a .p) (a .line) (a .offset) (a .length) (a .«data» .now) (c .write-found .result))
+    (λ (q : Pending). WriteFound (stateOf (a .z) (a .at .head) (a .at .tail) (a .at .next) (a .page .now) (a .original .now) (a .spare .now) (a .bitmap .now) (a .last .now) (a .opened .now) (a .held .now) (a .at .prepared) q) (a .image .now) (a .writer) (a .p) (a .line) (a .offset) (a .length) (a .«data» .now) (c .write-found .result))
     (c .before .before .before .before .before .before .before .before .before .no-pending .ensures) (c .write-found .ensures)
 
 returns : tie.Need-returns

@@ -15,7 +15,7 @@ use Rattle.writers.proofs.writer_row.Tie as tie
 abbrev rows : tie.Start → List Row
 rows c =
     let a = c .args in
-    writerRows (a .wanted) (stateOf (a .z) (a .head) (a .tail) (a .next) (a .page .now) (a .original .now) (a .spare .now) (a .bitmap .now) (a .last .now) (a .opened .now) (a .held .now) (a .pending)) (a .writer)
+    writerRows (a .wanted) (stateOf (a .z) (a .head) (a .tail) (a .next) (a .page .now) (a .original .now) (a .spare .now) (a .bitmap .now) (a .last .now) (a .opened .now) (a .held .now) (a .prepared) (a .pending)) (a .writer)
 
 past2 : (c : tie.Else2) → Past (rows (c .before .before .before .before)) 2
 past2 c = (sym (ap not (c .before .before .before .state-ok .ensures)) ∙ c .before .before .if1 .left, (sym (ap not (c .before .is-idle .ensures)) ∙ c .if2 .left, tt))
@@ -41,10 +41,16 @@ returns-4 c = row-at (rows (c .before .before .before .before .before .before .b
 returns-5 : tie.Need-returns-5
 returns-5 c = row-at (rows (c .before .before .before .before .before .before .before .before)) 4 (omega arith) (past4 (c .before)) (c .if5 .taken)
 
+past5 : (c : tie.Else5) → Past (rows (c .before .before .before .before .before .before .before .before)) 5
+past5 c = let p = past4 (c .before) in (p .0, (p .1 .0, (p .1 .1 .0, (p .1 .1 .1 .0, (c .if5 .left, tt)))))
+
 returns-6 : tie.Need-returns-6
-returns-6 c =
-    let p = past4 (c .before) in
-    row-none (rows (c .before .before .before .before .before .before .before .before)) (p .0, (p .1 .0, (p .1 .1 .0, (p .1 .1 .1 .0, (c .if5 .left, tt)))))
+returns-6 c = row-at (rows (c .before .before .before .before .before .before .before .before .before)) 5 (omega arith) (past5 (c .before)) (c .if6 .taken)
+
+returns-7 : tie.Need-returns-7
+returns-7 c =
+    let p = past5 (c .before) in
+    row-none (rows (c .before .before .before .before .before .before .before .before .before)) (p .0, (p .1 .0, (p .1 .1 .0, (p .1 .1 .1 .0, (p .1 .1 .1 .1 .0, (c .if6 .left, tt))))))
 
 pub writer-row-spec : {M : Type 1} → statement M
 writer-row-spec =
@@ -58,4 +64,5 @@ writer-row-spec =
     (λ c. search needs)
     returns-4
     returns-5
-    returns-6)
+    returns-6
+    returns-7)

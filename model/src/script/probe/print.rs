@@ -40,5 +40,7 @@ fn pending(state: &State) -> Vec<u64> {
         Operation::Checkpoint => vec![4, 0, 0, 0, 0, 0, made, 0],
         // no line of probe asks for one
         Operation::Event(e) => vec![5, e.asked.kind, e.asked.meter, e.asked.amount, 0, 0, made, e.frame],
+        Operation::Prepare { writer } => vec![6, *writer, 0, 0, 0, 0, made, 0],
+        Operation::Confirm { writer } => vec![7, *writer, 0, 0, 0, 0, made, 0],
     }
 }

@@ -16,7 +16,7 @@ use Rattle.stores.proofs.making.make_left.Tie as tie
 abbrev st : tie.Start → State
 st c =
     let a = c .args in
-    stateOf (a .z) (a .head) (a .tail) (a .next) (a .page .now) (a .original .now) (a .spare .now) (a .bitmap .now) (a .last .now) (a .opened .now) (a .held .now) (a .pending)
+    stateOf (a .z) (a .head) (a .tail) (a .next) (a .page .now) (a .original .now) (a .spare .now) (a .bitmap .now) (a .last .now) (a .opened .now) (a .held .now) (a .prepared) (a .pending)
 
 -- no row applies: something is pending
 busy1 : (c : tie.Else1) → Busy (st (c .before .before .before)) (length (c .before .before .before .args .image .now))
@@ -43,9 +43,9 @@ unfolding storesNeeded
 make-stores-requires c κs = let b = busy1 (c .before .before .before .before) in
     (b .ok, b .pends, omega (arith, c .before .smaller .ensures, c .before .before .before .op-needs .ensures), b .long, c .before .before .before .before .before .before .before .pre)
 
-add-t20 : tie.Need-add-t20
+add-t21 : tie.Need-add-t21
 unfolding storesNeeded
-add-t20 c = omega (arith, going1 (c .before .before .before .before .before .before .before .before) .made-low, c .before .before .before .before .before .before .before .op-needs .ensures, c .before .before .before .before .before .before .before .op-needs .ok, c .before .before .before .before .before .smaller .ensures)
+add-t21 c = omega (arith, going1 (c .before .before .before .before .before .before .before .before) .made-low, c .before .before .before .before .before .before .before .op-needs .ensures, c .before .before .before .before .before .before .before .op-needs .ok, c .before .before .before .before .before .smaller .ensures)
 
 returns-2 : tie.Need-returns-2
 unfolding storesNeeded
@@ -62,6 +62,6 @@ make-left-spec =
     sub-left
     (λ c κs. search needs)
     make-stores-requires
-    add-t20
+    add-t21
     (λ c. search needs)
     returns-2)

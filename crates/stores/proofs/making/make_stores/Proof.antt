@@ -3,11 +3,12 @@ use Rattle.bounded.proofs.Tests.{contradicts}
 use Rattle.state.specs.declared.State.{State}
 use Rattle.state.specs.Parts.{stateOf}
 use Rattle.operations.specs.Operations.{isIdle}
-use Rattle.refinement.proofs.Going.{going, write-of, commit-of, consolidate-of, write-left, commit-left, consolidate-left, checkpoint-left, event-left, stores-of}
+use Rattle.refinement.proofs.Going.{going, write-of, commit-of, prepare-of, confirm-of, consolidate-of, write-left, commit-left, prepare-left, confirm-left, consolidate-left, checkpoint-left, event-left, stores-of}
 use Rattle.writes.proofs.WriteMade.{write-stores-of}
 use Rattle.commits.proofs.CommitMade.{commit-stores-of}
 use Rattle.consolidations.proofs.ConsolidateMade.{consolidate-stores-of}
 use Rattle.event_stores.specs.Lines.{eventStores}
+use native.Mathlib.Omega.{arith}
 use borrow.Author.Needs.{needs}
 use Rattle.stores.proofs.making.make_stores.Statement.{statement}
 use Rattle.stores.proofs.making.make_stores.Tie as tie
@@ -15,7 +16,7 @@ use Rattle.stores.proofs.making.make_stores.Tie as tie
 abbrev st : tie.Start → State
 st c =
     let a = c .args in
-    stateOf (a .z) (a .head) (a .tail) (a .next) (a .page .now) (a .original .now) (a .spare .now) (a .bitmap .now) (a .last .now) (a .opened .now) (a .held .now) (a .t13)
+    stateOf (a .z) (a .head) (a .tail) (a .next) (a .page .now) (a .original .now) (a .spare .now) (a .bitmap .now) (a .last .now) (a .opened .now) (a .held .now) (a .prepared) (a .t14)
 
 make-write-stores-requires : tie.Need-make-write-stores-requires
 make-write-stores-requires c κs = let s = c .before .before .before .before .before .before .before in
@@ -76,6 +77,27 @@ unfolding eventStores
 returns-6 c = let s = c .before .before .before .before .before .before .before .before in
     stores-of (st s) (s .args .n) (s .args .image .now) _ (c .before .before .before .before .before .op4 .given .1) (c .before .before .make-event-stores .ensures)
 
+make-commit-stores-requires-2 : tie.Need-make-commit-stores-requires-2
+make-commit-stores-requires-2 c κs = let s = c .before .before .before .before .before in
+    let g = going (st s) (s .pre .0) (s .pre .1) in
+    let e = c .before .before .op5 .given .1 in
+    let l = prepare-left (st s) g (s .args .n) (s .pre .2) e in
+    (g .ranges .legal, g .ranges .head-low, g .shapes, prepare-of (st s) (g .taken) e .writer-low, omega (arith, l), omega (arith, l), s .pre .3)
+
+returns-7 : tie.Need-returns-7
+returns-7 c = let s = c .before .before .before .before .before .before .before .before in
+    stores-of (st s) (s .args .n) (s .args .image .now) _ (c .before .before .before .before .before .op5 .given .1) (c .before .before .make-commit-stores2 .ensures ∙ commit-stores-of (st s) _ _ (s .args .n) (s .args .image .now))
+
+make-confirm-stores-requires : tie.Need-make-confirm-stores-requires
+make-confirm-stores-requires c κs = let s = c .before .before .before .before .before in
+    let g = going (st s) (s .pre .0) (s .pre .1) in
+    let e = c .before .before .op6 .given .1 in
+    (g .ranges .legal, g .ranges .head-low, confirm-of (st s) (g .taken) e .writer-low, confirm-left (st s) g (s .args .n) (s .pre .2) e .1, s .pre .3)
+
+returns-8 : tie.Need-returns-8
+returns-8 c = let s = c .before .before .before .before .before .before .before .before in
+    stores-of (st s) (s .args .n) (s .args .image .now) _ (c .before .before .before .before .before .op6 .given .1) (c .before .before .make-confirm-stores .ensures)
+
 pub make-stores-spec : {M : Type 1} → statement M
 make-stores-spec =
     tie.close
@@ -91,6 +113,10 @@ make-stores-spec =
     make-checkpoint-stores-requires
     (λ c. search needs)
     make-event-stores-requires
+    (λ c. search needs)
+    make-commit-stores-requires-2
+    (λ c. search needs)
+    make-confirm-stores-requires
     returns
     (λ c. search needs)
     returns-2
@@ -101,4 +127,8 @@ make-stores-spec =
     (λ c. search needs)
     returns-5
     (λ c. search needs)
-    returns-6)
+    returns-6
+    (λ c. search needs)
+    returns-7
+    (λ c. search needs)
+    returns-8)
