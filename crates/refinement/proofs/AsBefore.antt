@@ -21,7 +21,7 @@ use Rattle.refinement.specs.Outcome.{Outcome}
 use Rattle.refinement.specs.Stores.{World, steppedBy}
 use Rattle.refinement.specs.Calls.{withPending, worldOf, finishedLine, writeCallRows, changesNothing, writeOf, stepRows, stepRow, runOf, runBytes}
 use Rattle.refinement.specs.Mount.{mountCall}
-use Rattle.refinement.specs.Run.{Call, Result, mount, checkpoint, free, step, begin, abort, commit, consolidate, run, write, read, recall, event, exec, formattedWorld}
+use Rattle.refinement.specs.Run.{Call, Result, mount, checkpoint, free, step, begin, abort, commit, prepare, confirm, withdraw, consolidate, run, write, read, recall, event, exec, formattedWorld}
 use Rattle.refinement.specs.Reference.{Reference, blank, turn}
 use Rattle.refinement.specs.Statement.{Lent}
 use Rattle.refinement.specs.Before.{writeBefore, execBefore, Whole, through, cut, callOf, plays, played, AllBytes, SameAsBefore, AsBefore}
@@ -158,6 +158,9 @@ by-call v P f step = refl
 by-call v P f (begin w) = refl
 by-call v P f (abort w) = refl
 by-call v P f (commit w) = refl
+by-call v P f (prepare w) = refl
+by-call v P f (confirm w) = refl
+by-call v P f (withdraw w) = refl
 by-call v P f (consolidate p) = refl
 by-call v P f (run k) = refl
 by-call v P f (read w p l target) = refl

@@ -115,7 +115,7 @@ module _ (st : State) (img : List ℕ) (w p l o n : ℕ) (bytes : List ℕ) (ok 
     completed-back =
         rw has-slot
         (λ i.
-        record { sizes = st .sizes; head = st .head; tail = st .tail; next = st .next; table = st .table; writers = record { opened = st .writers .opened; held = held-back i }; pending = sym none i })
+        record { sizes = st .sizes; head = st .head; tail = st .tail; next = st .next; table = st .table; writers = record { opened = st .writers .opened; held = held-back i; prepared = st .writers .prepared }; pending = sym none i })
 
     -- after all eight the world is as it was
     pub world-back : steppedBy 8 (worldOf asks img) ≡ worldOf st img

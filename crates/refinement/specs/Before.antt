@@ -15,7 +15,7 @@ use Rattle.refinement.specs.Frames.{pageFrame}
 use Rattle.refinement.specs.Outcome.{Outcome}
 use Rattle.refinement.specs.Stores.{World}
 use Rattle.refinement.specs.Calls.{asked, finishedLine, writeCallRows}
-use Rattle.refinement.specs.Run.{Call, Result, mount, checkpoint, free, step, begin, abort, commit, consolidate, run, write, read, recall, event, result, exec, formattedWorld}
+use Rattle.refinement.specs.Run.{Call, Result, mount, checkpoint, free, step, begin, abort, commit, prepare, confirm, withdraw, consolidate, run, write, read, recall, event, result, exec, formattedWorld}
 use Rattle.refinement.specs.Statement.{Lent}
 
 -- the write before this change: every taken one needs its eight stores
@@ -33,6 +33,9 @@ execBefore step v = exec step v
 execBefore (begin w) v = exec (begin w) v
 execBefore (abort w) v = exec (abort w) v
 execBefore (commit w) v = exec (commit w) v
+execBefore (prepare w) v = exec (prepare w) v
+execBefore (confirm w) v = exec (confirm w) v
+execBefore (withdraw w) v = exec (withdraw w) v
 execBefore (consolidate p) v = exec (consolidate p) v
 execBefore (run k) v = exec (run k) v
 execBefore (read w p l target) v = exec (read w p l target) v
