@@ -30,6 +30,11 @@ pub enum Answer {
     UnknownEvent,
     AmountOutOfRange,
     NoSlotToFree,
+    TransactionPrepared,
+    WriterNotPrepared,
+    BadTableLine,
+    ModulusOutOfRange,
+    MeterNotBelow,
 }
 
 // A call's answer and the state after it.
@@ -65,7 +70,12 @@ pub fn answer_of(row: usize, stores: usize) -> Answer
         19 => Answer::JournalFull,
         20 => Answer::UnknownEvent,
         21 => Answer::AmountOutOfRange,
-        _ => Answer::NoSlotToFree,
+        22 => Answer::NoSlotToFree,
+        23 => Answer::TransactionPrepared,
+        24 => Answer::WriterNotPrepared,
+        25 => Answer::BadTableLine,
+        26 => Answer::ModulusOutOfRange,
+        _ => Answer::MeterNotBelow,
     }
 }
 
@@ -97,12 +107,17 @@ pub fn number_of(a: Answer) -> usize
         Answer::UnknownEvent => 20,
         Answer::AmountOutOfRange => 21,
         Answer::NoSlotToFree => 22,
+        Answer::TransactionPrepared => 23,
+        Answer::WriterNotPrepared => 24,
+        Answer::BadTableLine => 25,
+        Answer::ModulusOutOfRange => 26,
+        Answer::MeterNotBelow => 27,
     }
 }
 
 // A refusal by a row, with the state as it was.
 pub fn refused(row: usize, st: State) -> Done
-    requires { ⌜ row ≤ 22 ⌝ }
+    requires { ⌜ row ≤ 27 ⌝ }
     ensures { λ r. ⌜ outcomeOf r ≡ answered row st 0 st ⌝ }
 {
     let answer = answer_of(row, 0);

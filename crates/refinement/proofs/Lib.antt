@@ -44,6 +44,7 @@ pub mod ReadCall
 pub mod Mounted
 pub mod MountCall
 pub mod RecallCall
+pub mod LoadCall
 pub mod Start
 pub mod Asked
 pub mod AskWrite

@@ -46,12 +46,15 @@ freeSlot = 12
 abbrev pub event : ℕ
 event = 13
 
+abbrev pub load : ℕ
+load = 14
+
 -- how many calls and numbers the tables have; a request that adds one raises these, and CALLS and NUMBERS in the code
 abbrev pub callCount : ℕ
-callCount = 14
+callCount = 15
 
 abbrev pub numberCount : ℕ
-numberCount = 23
+numberCount = 28
 
 -- ---- the places of the table
 
@@ -60,7 +63,7 @@ readers = mount ∷ recall ∷ []
 
 -- the calls that take a state and the image, but step and run
 abbrev pub askers : List ℕ
-askers = write ∷ commit ∷ consolidate ∷ checkpoint ∷ read ∷ freeSlot ∷ event ∷ []
+askers = write ∷ commit ∷ consolidate ∷ checkpoint ∷ read ∷ freeSlot ∷ event ∷ load ∷ []
 
 -- the table, row by row: the number and the calls of its place; then the rows of document 02
 unfoldable pub places : List (ℕ × List ℕ)
@@ -81,13 +84,16 @@ places =
     ∷ (13, write ∷ commit ∷ abort ∷ [])
     ∷ (14, write ∷ event ∷ [])
     ∷ (15, write ∷ event ∷ [])
-    ∷ (16, write ∷ read ∷ event ∷ [])
+    ∷ (16, write ∷ read ∷ event ∷ load ∷ [])
     ∷ (17, consolidate ∷ [])
     ∷ (18, consolidate ∷ [])
     ∷ (19, commit ∷ consolidate ∷ freeSlot ∷ event ∷ [])
     ∷ (20, event ∷ [])
     ∷ (21, event ∷ [])
     ∷ (22, freeSlot ∷ [])
+    ∷ (25, load ∷ [])
+    ∷ (26, event ∷ load ∷ [])
+    ∷ (27, load ∷ [])
     ∷ []
 
 -- whether x is one of a list, which computes to `x == y | x == z | ..`

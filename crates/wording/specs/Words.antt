@@ -31,6 +31,7 @@ names =
     ∷ codes "Run"
     ∷ codes "Free slot"
     ∷ codes "Event"
+    ∷ codes "Load"
     ∷ []
 
 -- by number, from 0 on; 0 turns nothing back and has none
@@ -59,6 +60,11 @@ texts =
     ∷ codes "the event or its meter is unknown"
     ∷ codes "the amount or the new credit is out of range"
     ∷ codes "there is no taken slot without a held line"
+    ∷ codes "a transaction is prepared"
+    ∷ codes "the writer is not prepared"
+    ∷ codes "a line of the table is wrong"
+    ∷ codes "a modulus is out of range"
+    ∷ codes "a stored meter is not below its modulus"
     ∷ []
 
 abbrev pub nameOf : ℕ → List ℕ

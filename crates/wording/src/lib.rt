@@ -35,36 +35,43 @@ pub const FREE_SLOT: usize = 12;
 
 pub const EVENT: usize = 13;
 
-// How many calls and numbers the tables have.
-const CALLS: usize = 14;
+pub const LOAD: usize = 14;
 
-const NUMBERS: usize = 23;
+// How many calls and numbers the tables have.
+const CALLS: usize = 15;
+
+const NUMBERS: usize = 28;
 
 // A row for each number from 0 on, a column for each call: `x` where the call can return the number.
 const RETURNS: [[u8; CALLS]; NUMBERS] = [
-    *b"              ",
-    *b" xx           ",
-    *b" xx           ",
-    *b"xxx           ",
-    *b"xxx  xxxxxxxxx",
-    *b" xx           ",
-    *b" xx           ",
-    *b" xx           ",
-    *b"   xxxxxxxxxxx",
-    *b"   xxxxxxx  xx",
-    *b"          xx  ",
-    *b"  xxxxxx x    ",
-    *b"   x         x",
-    *b"    xxx       ",
-    *b"     x       x",
-    *b"     x       x",
-    *b"     x   x   x",
-    *b"       x      ",
-    *b"       x      ",
-    *b"      xx    xx",
-    *b"             x",
-    *b"             x",
-    *b"            x ",
+    *b"               ",
+    *b" xx            ",
+    *b" xx            ",
+    *b"xxx            ",
+    *b"xxx  xxxxxxxxxx",
+    *b" xx            ",
+    *b" xx            ",
+    *b" xx            ",
+    *b"   xxxxxxxxxxxx",
+    *b"   xxxxxxx  xxx",
+    *b"          xx   ",
+    *b"  xxxxxx x     ",
+    *b"   x         x ",
+    *b"    xxx        ",
+    *b"     x       x ",
+    *b"     x       x ",
+    *b"     x   x   xx",
+    *b"       x       ",
+    *b"       x       ",
+    *b"      xx    xx ",
+    *b"             x ",
+    *b"             x ",
+    *b"            x  ",
+    *b"               ",
+    *b"               ",
+    *b"              x",
+    *b"             xx",
+    *b"              x",
 ];
 
 // The calls' names, each up to its dot.
@@ -83,6 +90,7 @@ const NAMES: [[u8; 12]; CALLS] = [
     *b"Run.        ",
     *b"Free slot.  ",
     *b"Event.      ",
+    *b"Load.       ",
 ];
 
 // The numbers' texts, each up to its dot.
@@ -110,6 +118,11 @@ const TEXTS: [[u8; 49]; NUMBERS] = [
     *b"the event or its meter is unknown.               ",
     *b"the amount or the new credit is out of range.    ",
     *b"there is no taken slot without a held line.      ",
+    *b"a transaction is prepared.                       ",
+    *b"the writer is not prepared.                      ",
+    *b"a line of the table is wrong.                    ",
+    *b"a modulus is out of range.                       ",
+    *b"a stored meter is not below its modulus.         ",
 ];
 
 // Whether a call can return a number.
