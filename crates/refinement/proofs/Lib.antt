@@ -90,6 +90,7 @@ pub mod PageFrame
 pub mod NeverRefused
 pub mod Totals
 pub mod MetersAddUp
+pub mod FixedEvent
 pub mod CommitWhole
 pub mod CheckpointRoom
 pub mod Demand

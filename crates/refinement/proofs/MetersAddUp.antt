@@ -314,12 +314,16 @@ unfolding fixedModulus
 credit-modulus = refl
 
 pub fixed-meters-add-up : FixedMetersAddUp
-fixed-meters-add-up z ok buffer bytes fits calls lent spare lend no =
+fixed-meters-add-up z ok buffer bytes fits calls lent spare lend unloaded =
     let v₀ : World = formattedWorld z buffer in
     let A : AddUp (found (after calls v₀)) (gained opened (history calls v₀ blank)) =
-    subst (AddUp (found (after calls v₀))) (no-load calls v₀ blank opened no) (meters-add-up z ok buffer bytes fits calls lent spare lend) in
+    subst (AddUp (found (after calls v₀))) (no-load calls v₀ blank opened unloaded) (meters-add-up z ok buffer bytes fits calls lent spare lend) in
     record {
       credit = A .credit;
       in-range = omega (arith, A .in-range, fixed-modulus 0 (omega arith), credit-modulus);
-      rolls = λ m l u. A .rolls m l u ∙ ap (λ (x : ℕ). total m (history calls v₀ blank) % x) (fixed-modulus m (omega (arith, u)));
+      rolls =
+          λ m l u.
+          let t : ℕ = total m (history calls v₀ blank) in
+          let e : 0 + t ≡ t = omega arith in
+          A .rolls m l u ∙ ap (λ (x : ℕ). x % modulusOf fixedModuli m) e ∙ ap (λ (x : ℕ). t % x) (fixed-modulus m (omega (arith, u)));
     }

@@ -18,3 +18,4 @@ pub mod Beside
 pub mod Demand
 pub mod Freed
 pub mod Totals
+pub mod FixedEvent
