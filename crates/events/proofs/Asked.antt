@@ -1,5 +1,5 @@
 -- An event asked for: its rows by what the code finds, its finished lines, and what comes of it.
-use Prim.Native.Nat.{ℕ, _+_, _*_, _<_, _≤_}
+use Prim.Native.Nat.{ℕ, _<_}
 use mathlib.Core.Bool.{true, false}
 use mathlib.Core.List.{List, [], _∷_, _++_}
 use mathlib.Core.Path.{_≡_, refl, sym, ap, ap₂, _∙_}
@@ -9,13 +9,10 @@ use borrow.Author.Tests.{not-false}
 use Rattle.bounded.specs.Rows.{Row, refusal, Past}
 use Rattle.bounded.proofs.Rows.{none-apply, row-none}
 use Rattle.bounded.proofs.Tests.{row-yes, row-no}
-use Rattle.layout.specs.declared.Sizes.{Sizes}
-use Rattle.layout.specs.Layout.{frames, lineWord, imageLength}
-use Rattle.layout.proofs.LayoutLaws.{line-end}
-use Rattle.words.specs.Words.{bytesOf, wordAt, word, putWord}
+use Rattle.layout.specs.Layout.{frames}
+use Rattle.words.specs.Words.{bytesOf, putWord}
 use Rattle.words.proofs.Bytes.{length-bytes}
 use Rattle.words.proofs.Parts.{over-whole}
-use Rattle.words.proofs.WordLaws.{word-part}
 use Rattle.image.specs.Lines.{lineBytes, merged, lineWords}
 use Rattle.meters.specs.Meters.{moduliOk, eventKnown, firstMeter, eventNeeds, firstNumber, amountBad}
 use Rattle.state.specs.declared.State.{State}
@@ -100,11 +97,6 @@ line-frame st n l f q good =
     seen-low st 1 0 l f g (omega (arith, g .pages-low)) (shapes-of st (q .ok)) good
 
 -- ---- numbers and lines
-
-pub first-word : (img : List ℕ) (z : Sizes) (f l : ℕ) → f < frames z → l < 64 → imageLength z ≤ length img → word img (lineWord z f l + 0) ≡ wordAt (lineBytes img z f l) 0
-first-word img z f l lf ll h =
-    let e : 8 * (lineWord z f l + 0) ≡ 8 * lineWord z f l + 0 = omega arith in
-    ap (wordAt img) e ∙ sym (word-part img (8 * lineWord z f l) 64 0 (omega arith) (omega (arith, line-end z f l lf ll, h)))
 
 -- eight bytes with a number put into them are its bytes
 pub number-bytes : (v : ℕ) (l d : List ℕ) → length l ≡ 8 → d ≡ putWord l 0 v → d ≡ bytesOf 8 v

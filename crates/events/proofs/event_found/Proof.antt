@@ -9,6 +9,7 @@ use Rattle.bounded.specs.Rows.{refusal}
 use Rattle.layout.specs.Layout.{frames}
 use Rattle.words.specs.Words.{wordAt}
 use Rattle.image.specs.Lines.{lineBytes}
+use Rattle.lines.proofs.LineLaws.{first-word}
 use Rattle.meters.specs.Meters.{eventKnown, firstMeter, ownMeter, amountBad}
 use Rattle.meters.proofs.MeterLaws.{first-low, own-range}
 use Rattle.state.specs.declared.State.{State}
@@ -19,7 +20,7 @@ use Rattle.refinement.specs.Calls.{meterIn}
 use Rattle.refinement.proofs.Going.{ranges-of}
 use Rattle.refinement.proofs.Quiet.{Quiet}
 use Rattle.events.specs.declared.Found.{Found}
-use Rattle.events.proofs.Asked.{Started, started, row-start, row-early, row-amount, row-room, row-taken, early-frame, line-frame, first-word}
+use Rattle.events.proofs.Asked.{Started, started, row-start, row-early, row-amount, row-room, row-taken, early-frame, line-frame}
 use Rattle.events.proofs.event_found.Statement.{statement}
 use Rattle.events.proofs.event_found.Tie as tie
 

@@ -6,9 +6,9 @@ use borrow.Author.Tests.{not-true, not-false}
 use Rattle.bounded.proofs.Tests.{row-yes, row-no}
 use Rattle.words.specs.Words.{bytesOf, wordAt}
 use Rattle.image.specs.Lines.{lineBytes, merged, lineWords}
+use Rattle.lines.proofs.LineLaws.{first-word}
 use Rattle.meters.specs.Meters.{movesCredit, rolled}
 use Rattle.meters.proofs.MeterLaws.{own-range}
-use Rattle.events.proofs.Asked.{first-word}
 use Rattle.events.proofs.second_line.Statement.{statement}
 use Rattle.events.proofs.second_line.Tie as tie
 
