@@ -27,6 +27,10 @@ pub enum Refusal {
     AmountOutOfRange = 21,
     /// Document 02, "Make a slot free".
     NoSlotToFree = 22,
+    /// Document 02, "A venue's own moduli".
+    BadTableLine = 25,
+    ModulusOutOfRange = 26,
+    MeterNotBelow = 27,
 }
 
 impl Refusal {

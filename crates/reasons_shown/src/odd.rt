@@ -22,7 +22,7 @@ pub fn show_odd() {
     show(b"Write refused (14): another writer holds the line. Writer 0, page 3, line 5.");
     show(b"Begin refused (14): another writer holds the line. Writer 0, held by writer 2.");
     show(b"Write refused (13): another writer holds the line. Writer 0, page 3, line 5.");
-    show(b"Free slot refused (23): .");
+    show(b"Free slot refused (28): .");
     show(b"Mount refused (2): the layout of the image is unknown. ");
     show(b"Mount refused (2): the layout of the image is unknown");
     show(b"");

@@ -4,7 +4,7 @@
 
 use model::calls::{abort, begin, consolidate, event, free_slot, run, write, Patch};
 use model::layout::Sizes;
-use model::meters::Asked;
+use model::meters::{fixed_moduli, Asked};
 use model::mount::format;
 use model::refusal::Refusal;
 use model::state::State;
@@ -31,7 +31,7 @@ const fn call(name: &'static str, given: &str, numbers: &'static [u64]) -> Call 
     Call { name, writer, page, line, numbers }
 }
 
-const CALLS: [Call; 14] = [
+const CALLS: [Call; 15] = [
     call("Format", "", &[3, 4]),
     call("Mount", "", &[1, 2, 3, 4, 5, 6, 7]),
     call("Recall", "pl", &[1, 2, 3, 4, 5, 6, 7, 11]),
@@ -45,7 +45,8 @@ const CALLS: [Call; 14] = [
     call("Step", "", &[4, 8, 10]),
     call("Run", "", &[4, 8, 10]),
     call("Free slot", "", &[4, 8, 9, 19, 22]),
-    call("Event", "", &[4, 8, 9, 12, 14, 15, 16, 19, 20, 21]),
+    call("Event", "", &[4, 8, 9, 12, 14, 15, 16, 19, 20, 21, 26]),
+    call("Load", "", &[4, 8, 9, 16, 25, 26, 27]),
 ];
 const WRITE: usize = 5;
 const CONSOLIDATE: usize = 7;
@@ -76,6 +77,9 @@ fn text(number: u64) -> &'static str {
         20 => "the event or its meter is unknown",
         21 => "the amount or the new credit is out of range",
         22 => "there is no taken slot without a held line",
+        25 => "a line of the table is wrong",
+        26 => "a modulus is out of range",
+        27 => "a stored meter is not below its modulus",
         _ => unreachable!("no number of the table"),
     }
 }
@@ -209,7 +213,7 @@ fn show_odd() {
         sentence.replace(", held by writer 2", ""),
         sentence.replace("Write ", "Begin ").replace(", page 3, line 5", ""),
         sentence.replace("(14)", "(13)").replace(", held by writer 2", ""),
-        "Free slot refused (23): .".to_string(),
+        "Free slot refused (28): .".to_string(),
         format!("{mount} "),
         mount.trim_end_matches('.').to_string(),
         String::new(),
@@ -260,7 +264,7 @@ impl Store {
     /// Turned back, or run to its end.
     fn event(&mut self, kind: u64, meter: u64) {
         let asked = Asked { kind, meter, amount: 1 };
-        match event(&mut self.state, &self.image, asked) {
+        match event(&mut self.state, &self.image, asked, &fixed_moduli()) {
             Ok(needed) => assert_eq!(run(&mut self.state, &mut self.image, needed), Ok(needed)),
             Err(refusal) => {
                 let lines = asked.meters();
@@ -313,7 +317,7 @@ fn show_met() {
 }
 
 fn main() {
-    (0..15).for_each(show_call);
+    (0..16).for_each(show_call);
     show_odd();
     show_met();
 }
