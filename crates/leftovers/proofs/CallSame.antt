@@ -216,7 +216,7 @@ module _ {past past′ : List ℕ} (st : State) (x y : List ℕ) (b : Reference)
                         bad-same 0 page,
                         refl,
                         λ _.
-                          (ap (λ (line : List ℕ). amountBad ms i m (wordAt line 0) a) (seen-same q first (omega (arith, first-low i m (not-false (eventKnown i m) g)))), refl, λ _. (refl, refl, λ _. tt)),
+                            (ap (λ (line : List ℕ). amountBad ms i m (wordAt line 0) a) (seen-same q first (omega (arith, first-low i m (not-false (eventKnown i m) g)))), refl, λ _. (refl, refl, λ _. tt)),
                       ),
                     ),
                   ),

@@ -65,9 +65,10 @@ pub first-found : (m n : ℕ) (text : List ℕ) (e : Entry) → n ≡ placeOf 10
     → (e .row ≡ refusal (lineRows m (take n text))) × (e .row ≡ 0 → e .modulus ≡ modulusIn (take n text))
     → (e .row ≡ refusal (firstRows m text)) × (e .row ≡ 0 → (n ≡ placeOf 10 text) × (n < length text) × (e .modulus ≡ modulusIn (firstLine text)))
 first-found m n text e q low h =
-    let row : e .row ≡ refusal (lineRows m (firstLine text)) = h .0 ∙ ap (λ (k : ℕ). refusal (lineRows m (take k text))) q in
-    (row-no (leb (length text) (placeOf 10 text)) 25 (refusal (lineRows m (firstLine text))) (e .row) (lt-leb (length text) (placeOf 10 text) (omega (arith, q, low))) row,
-    λ z. (q, low, h .1 z ∙ ap (λ (k : ℕ). modulusIn (take k text)) q))
+    let row : e .row ≡ refusal (lineRows m (firstLine text)) = h .0 ∙ ap (λ (k : ℕ). refusal (lineRows m (take k text))) q in (
+      row-no (leb (length text) (placeOf 10 text)) 25 (refusal (lineRows m (firstLine text))) (e .row) (lt-leb (length text) (placeOf 10 text) (omega (arith, q, low))) row,
+      λ z. (q, low, h .1 z ∙ ap (λ (k : ℕ). modulusIn (take k text)) q),
+    )
 
 -- ---- the numbers of a line
 
@@ -217,9 +218,9 @@ module _ (text moduli : List ℕ) (a m : ℕ) (g : Going text moduli a m) (h : 2
   pub nothing-left : length text ≤ a → (0 ≡ textRow text) × (moduli ≡ moduliIn text)
   unfolding moduliIn
   nothing-left l = (
-      row-no (ltb (lineStart text 24) (length text)) 25 0 0 (le-ltb (lineStart text 24) (length text) (omega (arith, start-is, l))) refl ∙ row-ends,
-      subst (λ (k : ℕ). moduli ≡ filled k (entry text) (replicate 24 0)) all-read (g .so-far) ∙ filled-is,
-    )
+    row-no (ltb (lineStart text 24) (length text)) 25 0 0 (le-ltb (lineStart text 24) (length text) (omega (arith, start-is, l))) refl ∙ row-ends,
+    subst (λ (k : ℕ). moduli ≡ filled k (entry text) (replicate 24 0)) all-read (g .so-far) ∙ filled-is,
+  )
     where
       filled-is : filled 24 (entry text) (replicate 24 0) ≡ tab 24 (entry text)
       filled-is =

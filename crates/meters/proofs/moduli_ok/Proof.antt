@@ -35,7 +35,7 @@ modulus-bad-requires c κs = search needs
 
 returns-2 : tie.Need-returns-2 Inv-loop μ-loop
 unfolding moduliOk
-returns-2 c = 
+returns-2 c =
     let l = c .before .before .before .before .before .before .before .args .moduli .now in
     rw (eq-eqb (length l) 24 (c .before .before .before .before .before .if1 .left))
     (all-stops (λ i. not (modulusBad (getD l i 0))) 24 _ false (c .before .before .before .loop-test .taken) (sym (ap not (sym (c .before .modulus-bad .ensures) ∙ c .if2 .taken))) refl)
@@ -51,7 +51,7 @@ loop-again c = (search needs, all-turn _ _ true (c .before .before .before .befo
 
 returns-3 : tie.Need-returns-3 Inv-loop μ-loop
 unfolding moduliOk
-returns-3 c = 
+returns-3 c =
     rw (eq-eqb _ 24 (c .before .before .if1 .left)) (all-ends _ 24 _ (c .before .loop .inv .0) (c .loop-test .left) (c .before .loop .inv .1))
 
 pub moduli-ok-spec : {M : Type 1} → statement M

@@ -33,7 +33,7 @@ loop-holds c = (search needs, all-none _)
 
 returns-3 : tie.Need-returns-3 Inv-loop μ-loop
 unfolding plainDecimal
-returns-3 c = 
+returns-3 c =
     rw (ne-eqb _ 0 (c .before .before .before .before .before .before .before .if1 .left), c .before .before .before .before .before .if2 .left)
     (all-stops _ _ _ false (c .before .before .before .loop-test .taken) (sym (not-true _ (c .if3 .taken)) ∙ c .before .is-digit .ensures) refl)
 
@@ -42,7 +42,7 @@ loop-again c = (search needs, all-turn _ _ true (c .before .before .before .befo
 
 returns-4 : tie.Need-returns-4 Inv-loop μ-loop
 unfolding plainDecimal
-returns-4 c = 
+returns-4 c =
     rw (ne-eqb _ 0 (c .before .before .before .before .if1 .left), c .before .before .if2 .left)
     (all-ends _ _ _ (c .before .loop .inv .0) (c .loop-test .left) (c .before .loop .inv .1))
 

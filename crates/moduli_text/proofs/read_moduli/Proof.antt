@@ -29,7 +29,7 @@ first-entry-requires : tie.Need-first-entry-requires Inv-loop μ-loop
 first-entry-requires c κs = search needs
 
 returns : tie.Need-returns Inv-loop μ-loop
-returns c = 
+returns c =
     let r = going-stops (c .before .before .before .before .before .before .before .args .text .now) _ _ _ (c .before .before .before .before .before .loop .inv) (c .before .before .before .before .loop-test .taken) (c .before .before .first-entry .result) (c .before .before .first-entry .ensures) (c .if1 .taken) in
     (r, λ z. absurd (c .if1 .taken z))
 
