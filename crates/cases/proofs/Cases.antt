@@ -5,7 +5,9 @@ use Rattle.bounded.specs.Count.{countOf, eachOnce}
 use Rattle.bounded.specs.Tab.{tab, filled}
 use Rattle.words.specs.Words.{leOf, bytesOf, part, over, wordAt, putWord, wordsAt, flat}
 use Rattle.fresh.specs.Fresh.{freshWords, formatted, freshTable}
-use Rattle.replay.specs.Table.{replay}
+use Rattle.journal.specs.Records.{liveRecord, recordsOk}
+use Rattle.replay.specs.Table.{tableFrom, replay, frameNames}
+use Rattle.mount.specs.Mount.{mountRead, mountOf}
 use Rattle.masks.specs.Lines.{inMask, withLine, exclusiveOr, disjoint, others, linesIn, countLines, linesNotIn}
 use Rattle.state.specs.Held.{heldOk, othersHold, someHold, heldSlots}
 use Rattle.operations.specs.Operations.{copyCount, recordedSlots, needs}
@@ -18,10 +20,10 @@ use Rattle.refinement.specs.Frames.{pageFrame, seenFrame}
 use Rattle.refinement.specs.Stores.{stepped, steppedBy}
 use Rattle.refinement.specs.Write.{writeSlot}
 use Rattle.refinement.specs.Calls.{beginOf, abortOf, writeOf, commitOf, consolidateOf, checkpointOf, readRow, readBytes, runOf, runBytes, stepOf, stepBytes}
-use Rattle.refinement.specs.Mount.{formatCall}
+use Rattle.refinement.specs.Mount.{formatCall, mountCall}
 use Rattle.refinement.specs.Run.{exec, after}
-use Rattle.cases.specs.Cases.{words, seen, formats, gives, copies, case, cases, computedAll, statedAll}
+use Rattle.cases.specs.Cases.{words, seen, fresh, formats, mounts, finds, gives, copies, case, cases, computedAll, statedAll}
 
 pub every-case : computedAll cases ≡ statedAll cases
-unfolding allBelow someBelow firstBelow one countBelow those upTo countOf eachOnce tab filled leOf bytesOf part over wordAt putWord wordsAt flat freshWords formatted freshTable replay inMask withLine exclusiveOr disjoint others linesIn countLines linesNotIn heldOk othersHold someHold heldSlots copyCount recordedSlots needs freeAfter frameOfSlot framesApart slotsOk lastsOk pendingOk stateOk checkpointAtOf checkpointValueOf commitRecordOf commitAtOf commitValueOf closedWriter freeingRecord consolidateAt consolidateValue pageFrame seenFrame stepped steppedBy writeSlot beginOf abortOf writeOf commitOf consolidateOf checkpointOf readRow readBytes runOf runBytes stepOf stepBytes formatCall exec after words seen formats gives copies case cases computedAll statedAll
+unfolding allBelow someBelow firstBelow one countBelow those upTo countOf eachOnce tab filled leOf bytesOf part over wordAt putWord wordsAt flat freshWords formatted freshTable liveRecord recordsOk tableFrom replay frameNames mountRead mountOf inMask withLine exclusiveOr disjoint others linesIn countLines linesNotIn heldOk othersHold someHold heldSlots copyCount recordedSlots needs freeAfter frameOfSlot framesApart slotsOk lastsOk pendingOk stateOk checkpointAtOf checkpointValueOf commitRecordOf commitAtOf commitValueOf closedWriter freeingRecord consolidateAt consolidateValue pageFrame seenFrame stepped steppedBy writeSlot beginOf abortOf writeOf commitOf consolidateOf checkpointOf readRow readBytes runOf runBytes stepOf stepBytes formatCall mountCall exec after words seen fresh formats mounts finds gives copies case cases computedAll statedAll
 every-case = refl

@@ -3,18 +3,16 @@
 use Prim.Native.Nat.{ℕ, zero, suc, _+_, _-_, _^_}
 use mathlib.Core.List.{List, [], _∷_, _++_}
 use mathlib.Core.Path.{_≡_, refl}
-use lib.ListN.{replicate}
+use lib.ListN.{replicate, take}
 use Rattle.bounded.specs.Tab.{tab}
 use Rattle.layout.specs.declared.Sizes.{Sizes}
-use Rattle.words.specs.Words.{word}
+use Rattle.words.specs.Words.{word, store}
 use Rattle.journal.specs.Records.{liveCount}
 use Rattle.replay.specs.Table.{emptyTable, withSlot}
 use Rattle.state.specs.declared.State.{State}
-use Rattle.state.specs.declared.Op.the-variants.{Consolidate}
-use Rattle.operations.specs.Operations.{needs}
-use Rattle.refinement.specs.Stores.{storeAt}
-use Rattle.refinement.specs.Mount.{quietState, formatCall}
-use Rattle.refinement.specs.Run.{Call, Result, begin, write, commit, consolidate, checkpoint, run, exec, formattedWorld, after}
+use Rattle.refinement.specs.Stores.{World, storeAt}
+use Rattle.refinement.specs.Mount.{quietState, formatCall, mountCall}
+use Rattle.refinement.specs.Run.{Call, Result, mount, begin, write, commit, consolidate, checkpoint, run, exec, formattedWorld, after}
 
 abbrev pub small : Sizes
 small = record { pages = 2; slots = 1; places = 2 }
@@ -49,6 +47,13 @@ toLast = toNext ++ (commit 0 ∷ run 5 ∷ begin 0 ∷ put165 0 0 ∷ run 8 ∷ 
 unfoldable pub formats : Sizes → ℕ → ℕ
 formats z n = formatCall z (replicate n 0) .number
 
+-- the fresh image, and mount's number of bytes
+unfoldable pub fresh : World
+fresh = formattedWorld small (replicate 12480 0)
+
+unfoldable pub mounts : List ℕ → ℕ
+mounts img = mountCall img .number
+
 -- what a call gives after others on a fresh image: its number, its stores, the words that they go to, and then, once they are
 -- made, some words of the image
 unfoldable pub words : List ℕ → List ℕ → List ℕ
@@ -61,11 +66,20 @@ seen d l =
     d .number ∷ d .stores ∷ (tab (d .stores) (storeAt st (st .pending .op)) ++ words (exec (run (d .stores)) (d .world) .world .image) l)
 
 unfoldable pub gives : List Call → Call → List ℕ → List ℕ
-gives before c l = seen (exec c (after before (formattedWorld small (replicate 12480 0)))) l
+gives before c l = seen (exec c (after before fresh)) l
 
--- the stores that a consolidation of a page with a bitmap needs
+-- head, tail and the live records that a mount finds after some calls, and its number
+unfoldable pub finds : List Call → List ℕ
+finds before =
+    let d = exec mount (after before fresh) in
+    let st = d .world .st in
+    d .number ∷ st .head ∷ st .tail ∷ liveCount small (st .head) (st .tail) ∷ []
+
+-- the stores that a consolidation of page 0 with a bitmap is answered with
 unfoldable pub copies : ℕ → ℕ
-copies bits = needs (quietState small 0 0 (withSlot emptyTable 0 (record { page = 0; original = 0; spare = 2; bitmap = bits }))) (Consolidate 0)
+copies bits =
+    let st = quietState small 0 0 (withSlot emptyTable 0 (record { page = 0; original = 0; spare = 2; bitmap = bits })) in
+    exec (consolidate 0) (record { st = st; image = replicate 12480 0 }) .stores
 
 -- what each case gives, and what document 01 says
 pub record Case : Type 0 where
@@ -78,9 +92,9 @@ case a b = record { computed = a; stated = b }
 unfoldable pub cases : List Case
 cases =
     -- T1 length 12,479: 4
-    case (formats small 12479 ∷ formats small 12480 ∷ []) (4 ∷ 0 ∷ [])
+    case (formats small 12479 ∷ mounts (take 12479 (fresh .image)) ∷ formats small 12480 ∷ mounts (fresh .image) ∷ []) (4 ∷ 4 ∷ 0 ∷ 0 ∷ [])
     -- T2 J = 0: 3
-    ∷ case (formats (record { pages = 2; slots = 1; places = 0 }) 12480 ∷ []) (3 ∷ [])
+    ∷ case (formats (record { pages = 2; slots = 1; places = 0 }) 12480 ∷ mounts (store (fresh .image) 2 0) ∷ []) (3 ∷ 3 ∷ [])
     -- T3 8 stores at bytes 8,384 to 8,447: words 1,048 to 1,055
     ∷ case (gives toWrite (put165 0 0) (1048 ∷ 1049 ∷ [])) (0 ∷ 8 ∷ 1048 ∷ 1049 ∷ 1050 ∷ 1051 ∷ 1052 ∷ 1053 ∷ 1054 ∷ 1055 ∷ 165 ∷ 0 ∷ [])
     -- T4 5 stores; record 0, 0, 8589934592, 1; head 1
@@ -96,7 +110,7 @@ cases =
     ∷ case (gives toNext (commit 0) (4 ∷ [])) (0 ∷ 5 ∷ 13 ∷ 14 ∷ 15 ∷ 16 ∷ 4 ∷ 3 ∷ [])
     ∷ case (gives toLast (commit 0) (4 ∷ [])) (0 ∷ 5 ∷ 17 ∷ 18 ∷ 19 ∷ 20 ∷ 4 ∷ 0 ∷ [])
     -- T9 tail 2 and head 0: two live
-    ∷ case (liveCount small 0 2 ∷ []) (2 ∷ [])
+    ∷ case (finds (toLast ++ (commit 0 ∷ run 5 ∷ []))) (0 ∷ 0 ∷ 2 ∷ 2 ∷ [])
     -- T10 bitmaps with 0, 32, 33, 64 ones: 6, 262, 254, 6 stores
     ∷ case (copies 0 ∷ copies (2 ^ 32 - 1) ∷ copies (2 ^ 33 - 1) ∷ copies (2 ^ 64 - 1) ∷ []) (6 ∷ 262 ∷ 254 ∷ 6 ∷ [])
     -- T11 with page 0 slotted, a write to page 1: 15

@@ -7,7 +7,9 @@ use Rattle.refinement.proofs.CallSound.{call-sound}
 use Rattle.refinement.proofs.CheckpointRoom.{makes-room}
 use Rattle.refinement.proofs.CommitWhole.{whole}
 use Rattle.refinement.proofs.MountReadsBack.{reached-finds, reads-back}
+use Rattle.refinement.proofs.NeverRefused.{call-kept}
 use Rattle.refinement.proofs.Reached.{always, past-same}
+use Rattle.refinement.proofs.Refused.{refused-unchanged}
 
 pub every-demand : EveryDemand
 every-demand =
@@ -15,6 +17,8 @@ every-demand =
     (λ z buffer v b h.
     record {
       right = λ c lent. call-sound c lent v b (h .related) .right;
+      sound = call-kept v b (between-valid v b (h .related)) (between-durable v b (h .related));
+      refused = λ c. refused-unchanged c v;
       whole = whole z v b h;
       room = makes-room z v b h;
       finds = reached-finds z v b h;

@@ -93,5 +93,6 @@ pub mod MetersAddUp
 pub mod FixedEvent
 pub mod CommitWhole
 pub mod CheckpointRoom
+pub mod Refused
 pub mod Demand
 pub mod FreedSlot

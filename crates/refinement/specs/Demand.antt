@@ -1,6 +1,7 @@
 -- Demand 3 as one theorem over every list of calls, and demand 2 with it: what holds of the world that a list reaches on a freshly formatted buffer and of
 -- the reference machine fed the same calls. A list may end anywhere, so each sentence holds before and after every call of every list.
 use Prim.Native.Nat.{ℕ}
+use mathlib.Core.Bool.{false}
 use mathlib.Core.List.{List}
 use mathlib.Core.Path.{_≡_}
 use lib.ListN.{drop}
@@ -10,11 +11,16 @@ use Rattle.refinement.specs.Stores.{World}
 use Rattle.refinement.specs.Run.{Call, mount, commit, exec}
 use Rattle.refinement.specs.Reference.{Reference, recallLine}
 use Rattle.refinement.specs.Statement.{Right, Lent}
-use Rattle.refinement.specs.Beside.{Always, Finds, ReadsBack, Whole, MakesRoom}
+use Rattle.refinement.specs.Beside.{Always, Finds, ReadsBack, Whole, MakesRoom, broken}
+use Rattle.refinement.specs.Refused.{Unchanged, targetOf}
 
 pub record Demand (z : Sizes) (buffer : List ℕ) (v : World) (b : Reference) : Type 0 where
   -- whatever call comes next: a taken read or recall gives the reference machine's 64 bytes, a mount is taken, a recall is refused by row 11 alone
   pub right : (c : Call) → Lent c → Right c (exec c v) b
+  -- and it is not turned back for a broken image, buffer or state: none is, after any list
+  pub sound : (c : Call) → broken (exec c v .number) ≡ false
+  -- a refused one changes no state and no byte
+  pub refused : (c : Call) → (exec c v .number ≡ 0 → ⊥) → Unchanged (exec c v) v (targetOf c)
   -- a commit is whole or absent, wherever in it power fails
   pub whole : (w k : ℕ) → exec (commit w) v .number ≡ 0 → Whole z v b w k
   -- right after a checkpoint no commit lacks journal space

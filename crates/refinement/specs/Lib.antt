@@ -15,6 +15,7 @@ pub mod Run
 pub mod Reference
 pub mod Statement
 pub mod Beside
+pub mod Refused
 pub mod Demand
 pub mod Freed
 pub mod Totals

@@ -47,7 +47,7 @@ pub record TakesSome (s : Reading) (image line : List ℕ) (r : Reading) (image�
 pub record Closes (s : Reading) (image line : List ℕ) (r : Session) (image′ : List ℕ) : Type 0 where
   pub done : (f : Fed Work) → Shows s image line f → workOf r image′ ≡ ended act f
 
--- the whole input, whatever it is, has the response to it put at the start of a buffer, with this image at first
+-- the bytes that the reads gave, whichever they were, have the response to them put at the start of a buffer, with this image at first
 pub record Responds (image out out′ : List ℕ) (n : ℕ) : Type 0 where
   pub input : List ℕ
   pub text : Put out 0 (response (ended act (fed act (nothingRead image) input))) out′ n
