@@ -3,12 +3,12 @@
 //! A call that asks for an operation gives the number of stores needed; run gives the number made.
 
 use crate::image::{line as line_at, put_word, word};
-use crate::meters::Asked;
+use crate::meters::{moduli_fit, read_moduli, Asked};
 use crate::plan::{complete, plan};
 use crate::refusal::{row, Answer, Refusal::*};
 use crate::rows::{
-    abort_rows, begin_rows, commit_rows, confirm_rows, consolidate_rows, event_rows, frame_row, free_rows, place_rows,
-    room_row, write_rows,
+    abort_rows, begin_rows, commit_rows, confirm_rows, consolidate_rows, event_rows, frame_row, free_rows, known_row,
+    place_rows, room_row, write_rows,
 };
 use crate::state::{Event, Operation, Pending, State, Write};
 use crate::validity::is_broken;
@@ -105,20 +105,34 @@ pub fn checkpoint(state: &mut State, image: &[u8]) -> Answer<u64> {
     Ok(ask(state, Operation::Checkpoint))
 }
 
-/// An event of document 02: its meters' lines and the record that commits them. Rows 20, 12, 23, 14, 15, 16, 21, 19.
-pub fn event(state: &mut State, image: &[u8], asked: Asked) -> Answer<u64> {
+/// An event of document 02, lent the moduli: its meters' lines and the record that commits them. Rows 20, 26, 12, 23, 14, 15, 16, 21, 19.
+pub fn event(state: &mut State, image: &[u8], asked: Asked, moduli: &[u64]) -> Answer<u64> {
     idle_rows(state, image)?;
+    known_row(asked)?;
+    row(ModulusOutOfRange, !moduli_fit(moduli))?;
     event_rows(state, asked)?;
     let frame = page_frame(state, image, 0)?;
     let mut finished = vec![];
     for line in asked.meters() {
         let mut bytes = line_shown(state, image, (1, 0, line), frame);
-        let number = asked.moved(line, word(&bytes, 0)).ok_or(AmountOutOfRange)?;
+        let number = asked.moved(line, word(&bytes, 0), moduli).ok_or(AmountOutOfRange)?;
         put_word(&mut bytes, 0, number);
         finished.push((line, bytes));
     }
     room_row(state, 1)?;
     Ok(ask(state, Operation::Event(Event { asked, frame, finished })))
+}
+
+/// The moduli of a text, for events to be lent. Rows 25 and 26 line by line, then 16 of page 0, then 27.
+pub fn load(state: &State, image: &[u8], text: &[u8]) -> Answer<Vec<u64>> {
+    idle_rows(state, image)?;
+    let moduli = read_moduli(text)?;
+    let frame = page_frame(state, image, 0)?;
+    for (line, modulus) in (0..).zip(&moduli) {
+        let copy = state.slot_of(0).map_or(frame, |slot| state.slots[slot].committed_frame(line));
+        row(MeterNotBelow, word(&line_at(image, state.sizes.line_start(copy, line)), 0) >= *modulus)?;
+    }
+    Ok(moduli)
 }
 
 /// 64 bytes into the target's start. Any writer may read, open or not.

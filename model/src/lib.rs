@@ -6,7 +6,7 @@
 //! - `refusal`: the numbered answers
 //! - `layout`, `image`: where each word lies, and reading and writing words
 //! - `slots`, `journal`: a slot's three words and its shapes; records, positions, live counts
-//! - `meters`: events and the numbers that they move (document 02)
+//! - `meters`: events, the numbers that they move, and the moduli as text (document 02)
 //! - `state`: what the host keeps between calls
 //! - `rows`: the refusal table from row 11 on
 //! - `plan`: the stores that an operation needs, and the change that comes with its last store

@@ -30,6 +30,10 @@ pub enum Refusal {
     /// Document 02, "Prepare, then confirm".
     TransactionPrepared = 23,
     WriterNotPrepared = 24,
+    /// Document 02, "A venue's own moduli".
+    BadTableLine = 25,
+    ModulusOutOfRange = 26,
+    MeterNotBelow = 27,
 }
 
 impl Refusal {

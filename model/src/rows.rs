@@ -91,9 +91,13 @@ pub fn consolidate_rows(state: &State, page: u64) -> Answer<()> {
     room_row(state, 1)
 }
 
-/// Rows 20, 12, 23, 14 and 15 of an event, which is writer 1's, on page 0.
+/// Row 20.
+pub fn known_row(asked: Asked) -> Answer<()> {
+    row(UnknownEvent, asked.meters().is_empty())
+}
+
+/// Rows 12, 23, 14 and 15 of an event, which is writer 1's, on page 0.
 pub fn event_rows(state: &State, asked: Asked) -> Answer<()> {
-    row(UnknownEvent, asked.meters().is_empty())?;
     row(WriterOpen, state.is_open(1))?;
     alone_row(state)?;
     row(LineHeld, asked.meters().iter().any(|&line| held_by_another(state, 1, 0, line)))?;

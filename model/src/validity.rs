@@ -2,7 +2,9 @@
 
 use crate::journal::{bounds_hold, live_positions};
 use crate::plan::plan;
-use crate::rows::{commit_rows, confirm_rows, consolidate_rows, event_rows, frame_row, room_row, write_rows};
+use crate::rows::{
+    commit_rows, confirm_rows, consolidate_rows, event_rows, frame_row, known_row, room_row, write_rows,
+};
 use crate::slots::{frames_named, page_twice};
 use crate::state::{Operation, Pending, State, WRITERS};
 
@@ -112,7 +114,9 @@ fn pending_breach(state: &State, pending: &Pending) -> Option<Breach> {
         Operation::Consolidate { page } => consolidate_rows(state, *page),
         Operation::Checkpoint => Ok(()),
         // row 21 is left out, as document 02 says
-        Operation::Event(event) => event_rows(state, event.asked).and_then(|()| room_row(state, 1)),
+        Operation::Event(event) => known_row(event.asked)
+            .and_then(|()| event_rows(state, event.asked))
+            .and_then(|()| room_row(state, 1)),
     };
     if let Err(refusal) = rows {
         return Some(Breach::PendingRefused(refusal.number()));

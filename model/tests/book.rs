@@ -7,7 +7,7 @@ use std::collections::BTreeMap;
 use common::{numbered, Store};
 use model::calls::{self, Patch};
 use model::compare::rng::Rng;
-use model::meters::{modulus, Asked, CREDIT};
+use model::meters::{fixed_moduli, Asked, CREDIT, METERS};
 use model::mount::recall;
 
 /// A byte's page, line and offset.
@@ -17,7 +17,7 @@ type Spot = (u64, u64, u64);
 enum Underway {
     Write { writer: usize, spot: Spot, data: Vec<u8> },
     Commit { writer: usize },
-    Event(Asked),
+    Event(Asked, Vec<u64>),
     Other,
 }
 
@@ -54,20 +54,23 @@ impl Book {
                 let sheet = std::mem::take(&mut self.sheets[writer]);
                 self.pages.extend(sheet);
             }
-            Underway::Event(asked) => self.moved(asked),
+            Underway::Event(asked, moduli) => self.moved(asked, &moduli),
             Underway::Other => {}
         }
     }
 
     /// A completed event moves its meters on the pages.
-    fn moved(&mut self, asked: Asked) {
+    fn moved(&mut self, asked: Asked, moduli: &[u64]) {
         for meter in asked.meters() {
-            let stored = u64::from_le_bytes(self.line(None, 0, meter)[..8].try_into().expect("eight bytes"));
-            let number = asked.moved(meter, stored).expect("row 21: in range");
+            let number = asked.moved(meter, self.meter(meter), moduli).expect("row 21: in range");
             let spots = (0..).map(|offset| (0, meter, offset));
             self.pages.extend(spots.zip(number.to_le_bytes()));
         }
         self.events.push(asked);
+    }
+
+    fn meter(&self, meter: u64) -> u64 {
+        u64::from_le_bytes(self.line(None, 0, meter)[..8].try_into().expect("eight bytes"))
     }
 
     fn mounted(&mut self) {
@@ -94,6 +97,11 @@ struct Both {
     confirmed: u64,
     /// Only events write to page 0.
     metered: bool,
+    /// The moduli last loaded, each meter's number then, and the events completed before.
+    moduli: Vec<u64>,
+    starts: Vec<u64>,
+    before: usize,
+    loads: u64,
 }
 
 /// Among them the lines of credit, cash in, bet and one count.
@@ -104,8 +112,9 @@ impl Both {
         let mut rng = Rng::new(seed, 0);
         let (p, s) = (rng.between(1, 3), rng.between(1, 3));
         let j = rng.between(s, 4);
+        let (store, moduli) = (Store::fresh(p, s, j), fixed_moduli());
         Both {
-            store: Store::fresh(p, s, j),
+            store,
             book: Book::default(),
             rng,
             taken: 0,
@@ -114,6 +123,10 @@ impl Both {
             idle: 0,
             confirmed: 0,
             metered,
+            moduli,
+            starts: vec![0; METERS],
+            before: 0,
+            loads: 0,
         }
     }
 
@@ -123,7 +136,7 @@ impl Both {
                 self.taken += 1;
                 self.book.taken(call, needs);
             }
-            Err(number) => assert!((9..=24).contains(&number) && number != 16, "{number} on such a list"),
+            Err(number) => assert!((9..=27).contains(&number) && number != 16, "{number} on such a list"),
         }
     }
 
@@ -131,8 +144,34 @@ impl Both {
         let kind = self.rng.pick(&[1, 1, 3, 3, 3, 5, 5, 0]);
         let (meter, amount) =
             (self.rng.pick(&[23, 23, 23, 4]), self.rng.pick(&[0, 7, 300, 9_999, 60_000_000]));
-        let answer = self.store.ask_event(kind, meter, amount);
-        self.note(Underway::Event(Asked { kind, meter, amount }), answer);
+        let short = self.rng.percent(5);
+        let lent = if short { self.moduli[1..].to_vec() } else { self.moduli.clone() };
+        let answer = self.store.ask_event_with(kind, meter, amount, &lent);
+        assert!(!short || answer.is_err());
+        self.note(Underway::Event(Asked { kind, meter, amount }, lent), answer);
+    }
+
+    /// A load changes nothing in the book; it is taken if the text is right and each meter of the pages is below its modulus.
+    fn load(&mut self) {
+        let any = [100, 301, 9_999, 10_007, 1_000_000, 100_000_000, 1_000_000_000_000];
+        let moduli: Vec<u64> = (0..METERS as u64)
+            .map(|meter| if self.rng.percent(70) { self.book.meter(meter) + self.rng.pick(&any) } else { self.rng.pick(&any) })
+            .map(|modulus| modulus.min(1_000_000_000_000))
+            .collect();
+        let lines = if self.rng.percent(90) { METERS } else { METERS - 1 };
+        let text: String = (0..lines).map(|meter| format!("{meter},{}\n", moduli[meter])).collect();
+        let below = (0..METERS).all(|meter| self.book.meter(meter as u64) < moduli[meter]);
+        match self.store.load(text.as_bytes()) {
+            Ok(loaded) => {
+                assert!(below && loaded == moduli);
+                self.starts = (0..METERS as u64).map(|meter| self.book.meter(meter)).collect();
+                (self.moduli, self.before) = (loaded, self.book.events.len());
+                self.loads += 1;
+            }
+            Err(9) => assert!(self.store.state.pending.is_some()),
+            Err(25) => assert!(lines < METERS),
+            Err(number) => assert!(number == 27 && !below, "{number} on such a list"),
+        }
     }
 
     fn write(&mut self) {
@@ -172,6 +211,7 @@ impl Both {
             }
             4..=8 if self.rng.percent(if self.metered { 60 } else { 20 }) => self.event(),
             4..=8 => self.write(),
+            9 if self.rng.percent(25) => self.load(),
             9..=11 => {
                 let answer = self.store.ask_commit(writer);
                 self.note(Underway::Commit { writer: writer as usize }, answer);
@@ -218,18 +258,21 @@ impl Both {
 
     /// The meters that a mount of the image finds are the totals of the completed events.
     fn adds_up(&self) {
-        let total = |meter| {
-            let own = self.book.events.iter().filter(|asked| asked.meters().last() == Some(&meter));
+        let total_from = |first: usize, meter| {
+            let own = self.book.events[first..].iter().filter(|asked| asked.meters().last() == Some(&meter));
             own.map(|asked| asked.amount).sum::<u64>()
         };
+        let total = |meter| total_from(0, meter);
         let found = |meter| {
             let mut target = [9; 64];
             numbered(recall(0, meter, &self.store.image, &mut target)).expect("a recall is taken");
             u64::from_le_bytes(target[..8].try_into().expect("eight bytes"))
         };
         assert_eq!(found(CREDIT) + total(2) + total(3), total(1) + total(4), "credit");
-        for meter in 1..24 {
-            assert_eq!(found(meter), total(meter) % modulus(meter), "meter {meter}");
+        assert!(found(CREDIT) < self.moduli[0]);
+        for (meter, modulus) in (0..).zip(&self.moduli).skip(1) {
+            let sum = self.starts[meter as usize] + total_from(self.before, meter);
+            assert_eq!(found(meter), sum % modulus, "meter {meter}");
         }
     }
 
@@ -277,11 +320,11 @@ fn the_model_keeps_the_book() {
     assert!(idle > 30, "only {idle} writes changed nothing");
 }
 
-/// Document 02: where nothing but events writes to page 0, credit is cash in minus cash out minus bet plus won over the completed events, and the other
-/// meters are their totals by remainder.
+/// Document 02: where nothing but events writes to page 0, each lent the moduli last loaded, credit is cash in minus cash out minus bet plus won over the
+/// completed events, and the other meters are their numbers at loading and their totals since then, by remainder.
 #[test]
 fn the_meters_add_up() {
-    let mut events = 0;
+    let (mut events, mut loads) = (0, 0);
     for seed in 0..160 {
         let mut both = Both::new(seed, true);
         for _ in 0..120 {
@@ -290,6 +333,8 @@ fn the_meters_add_up() {
         }
         both.agree();
         events += both.book.events.len();
+        loads += both.loads;
     }
     assert!(events > 300, "only {events} events were completed");
+    assert!(loads > 50, "only {loads} loads were taken");
 }

@@ -69,6 +69,7 @@ enum Call {
     Checkpoint,
     FreeSlot,
     Event(u64, u64, u64),
+    Load(u64),
     Run(u64),
     Mount,
     Read((u64, u64, u64)),
@@ -100,6 +101,7 @@ fn any_call(rng: &mut Rng, pages: u64) -> Call {
             Call::Event(rng.pick(&[1, 3, 5]), rng.pick(&[23, 24]), rng.pick(&[7, 300, 9_999]))
         }
         18 if rng.percent(20) => Call::FreeSlot,
+        19 if rng.percent(20) => Call::Load(rng.pick(&[100, 301, 10_000, 100_000_000])),
         _ => Call::Run(rng.pick(&[0, 1, 3, 9, 600, 600, 600])),
     }
 }
@@ -122,6 +124,10 @@ fn perform(store: &mut Store, call: &Call) -> (Result<u64, u8>, [u8; 64]) {
         Call::Checkpoint => store.ask_checkpoint(),
         Call::FreeSlot => store.ask_free_slot(),
         Call::Event(kind, meter, amount) => store.ask_event(*kind, *meter, *amount),
+        Call::Load(modulus) => {
+            let text: String = (0..24).map(|meter| format!("{meter},{modulus}\n")).collect();
+            store.load(text.as_bytes()).map(|moduli| moduli[23])
+        }
         Call::Run(k) => store.run(*k),
         Call::Mount => store.mount().map(|()| 0),
         Call::Read(place) => {

@@ -32,6 +32,9 @@ pub enum Answer {
     NoSlotToFree,
     TransactionPrepared,
     WriterNotPrepared,
+    BadTableLine,
+    ModulusOutOfRange,
+    MeterNotBelow,
 }
 
 // A call's answer and the state after it.
@@ -69,7 +72,10 @@ pub fn answer_of(row: usize, stores: usize) -> Answer
         21 => Answer::AmountOutOfRange,
         22 => Answer::NoSlotToFree,
         23 => Answer::TransactionPrepared,
-        _ => Answer::WriterNotPrepared,
+        24 => Answer::WriterNotPrepared,
+        25 => Answer::BadTableLine,
+        26 => Answer::ModulusOutOfRange,
+        _ => Answer::MeterNotBelow,
     }
 }
 
@@ -103,12 +109,15 @@ pub fn number_of(a: Answer) -> usize
         Answer::NoSlotToFree => 22,
         Answer::TransactionPrepared => 23,
         Answer::WriterNotPrepared => 24,
+        Answer::BadTableLine => 25,
+        Answer::ModulusOutOfRange => 26,
+        Answer::MeterNotBelow => 27,
     }
 }
 
 // A refusal by a row, with the state as it was.
 pub fn refused(row: usize, st: State) -> Done
-    requires { ⌜ row ≤ 24 ⌝ }
+    requires { ⌜ row ≤ 27 ⌝ }
     ensures { λ r. ⌜ outcomeOf r ≡ answered row st 0 st ⌝ }
 {
     let answer = answer_of(row, 0);

@@ -32,7 +32,7 @@ use Rattle.answers.proofs.Answered.{row-known, refused-by}
 use Rattle.refinement.specs.Calls.{quietRows, withPending, asked}
 use Rattle.refinement.proofs.EventRows.{event-some}
 
-op-known : (st : State) (op : Op) (f : ℕ) → refusal (opRows st op f) ≤ 24
+op-known : (st : State) (op : Op) (f : ℕ) → refusal (opRows st op f) ≤ 27
 op-known st Idle f = row-known [] tt
 op-known st (Write w p l o n) f = row-known (writeRows st w p l o n f) (omega arith)
 op-known st (Commit w) f = row-known (commitRows st w) (omega arith)
@@ -51,9 +51,9 @@ pendingWith st p =
     record { sizes = st .sizes; head = st .head; tail = st .tail; next = st .next; table = st .table; writers = st .writers; pending = p }
 
 -- each number of the rows of an operation is an answer's
-pub ask-known : (st : State) (n : ℕ) (op : Op) → refusal (quietRows st n ++ opRows st op 0) ≤ 24
+pub ask-known : (st : State) (n : ℕ) (op : Op) → refusal (quietRows st n ++ opRows st op 0) ≤ 27
 ask-known st n op =
-    let low : ℕ → Type 0 = λ (x : ℕ). x ≤ 24 in
+    let low : ℕ → Type 0 = λ (x : ℕ). x ≤ 27 in
     row-keeps low (not (stateOk st)) 8 _ (omega arith)
     (row-keeps low (ltb n (imageLength (st .sizes))) 4 _ (omega arith)
     (row-keeps low (not (isIdle (st .pending .op))) 9 _ (omega arith) (op-known st op 0)))

@@ -1,5 +1,5 @@
 -- An event asked for: its rows by what the code finds, its finished lines, and what comes of it.
-use Prim.Native.Nat.{ℕ, _+_, _*_, _<_, _≤_}
+use Prim.Native.Nat.{ℕ, _<_}
 use mathlib.Core.Bool.{true, false}
 use mathlib.Core.List.{List, [], _∷_, _++_}
 use mathlib.Core.Path.{_≡_, refl, sym, ap, ap₂, _∙_}
@@ -9,70 +9,85 @@ use borrow.Author.Tests.{not-false}
 use Rattle.bounded.specs.Rows.{Row, refusal, Past}
 use Rattle.bounded.proofs.Rows.{none-apply, row-none}
 use Rattle.bounded.proofs.Tests.{row-yes, row-no}
-use Rattle.layout.specs.declared.Sizes.{Sizes}
-use Rattle.layout.specs.Layout.{frames, lineWord, imageLength}
-use Rattle.layout.proofs.LayoutLaws.{line-end}
-use Rattle.words.specs.Words.{bytesOf, wordAt, word, putWord}
+use Rattle.layout.specs.Layout.{frames}
+use Rattle.words.specs.Words.{bytesOf, putWord}
 use Rattle.words.proofs.Bytes.{length-bytes}
 use Rattle.words.proofs.Parts.{over-whole}
-use Rattle.words.proofs.WordLaws.{word-part}
 use Rattle.image.specs.Lines.{lineBytes, merged, lineWords}
-use Rattle.meters.specs.Meters.{eventKnown, firstMeter, eventNeeds, firstNumber, amountBad}
+use Rattle.meters.specs.Meters.{moduliOk, eventKnown, firstMeter, eventNeeds, firstNumber, amountBad}
 use Rattle.state.specs.declared.State.{State}
 use Rattle.state.specs.declared.Pending.{Pending}
 use Rattle.state.specs.declared.Op.the-variants.{Event}
-use Rattle.operations.specs.Operations.{slotFor, journalFull, frameBad, eventFirstRows}
+use Rattle.operations.specs.Operations.{slotFor, journalFull, frameBad, eventNextRows}
 use Rattle.operations.proofs.Taken.{EventTaken, event-taken}
 use Rattle.refinement.specs.Frames.{pageFrame, seenFrame}
 use Rattle.refinement.specs.Settled.{withLines}
 use Rattle.refinement.specs.Outcome.{answered}
 use Rattle.refinement.specs.Calls.{quietRows, meterIn, eventLine, eventSecond, eventCallRows, eventOf}
-use Rattle.refinement.proofs.EventRows.{event-op-row, event-amount}
+use Rattle.refinement.proofs.EventRows.{event-op-row, event-amount, event-moduli}
 use Rattle.refinement.proofs.Going.{ranges-of, shapes-of}
 use Rattle.refinement.proofs.Quiet.{Quiet, quiet}
 use Rattle.refinement.proofs.SeenFrames.{seen-low}
 use Rattle.answers.specs.Answers.{outcomeOf}
 use Rattle.answers.specs.declared.Done.{Done}
 use Rattle.answers.proofs.Answered.{rows-first, rows-then, refused-by, taken-by}
-use Rattle.events.specs.Found.{EventFound, secondOf}
+use Rattle.events.specs.Found.{startRows, EventFound, secondOf}
 use Rattle.events.specs.declared.Found.{Found}
 
 -- ---- rows
 
-module _ (st : State) (img : List ℕ) (k m a : ℕ) where
+-- what the rows up to 26 tell
+pub record Started (st : State) (n : ℕ) (ms : List ℕ) (k m : ℕ) : Type 0 where
+  pub quiet : Quiet st n
+  pub known : eventKnown k m ≡ true
+  pub moduli : moduliOk ms ≡ true
+  pub past : Past (startRows st n ms k m) 5
+
+pub started : (st : State) (n : ℕ) (ms : List ℕ) (k m row : ℕ) → row ≡ refusal (startRows st n ms k m) → row ≡ 0 → Started st n ms k m
+started st n ms k m row e z =
+    let h = none-apply (startRows st n ms k m) (omega arith) (sym e ∙ z) in
+    record {
+      quiet = quiet st n 0 (row-none (quietRows st n) (h .0, (h .1 .0, (h .1 .1 .0, tt)))) refl;
+      known = not-false (eventKnown k m) (h .1 .1 .1 .0);
+      moduli = not-false (moduliOk ms) (h .1 .1 .1 .1 .0);
+      past = h;
+    }
+
+module _ (st : State) (img ms : List ℕ) (k m a : ℕ) where
+  abbrev start : List Row
+  start = startRows st (length img) ms k m
+
   abbrev early : List Row
-  early = eventFirstRows st k m (pageFrame st img 0)
+  early = eventNextRows st k m (pageFrame st img 0)
 
   abbrev late : List Row
-  late = (amountBad k m (meterIn st img (firstMeter k m)) a, 21) ∷ (journalFull st 1, 19) ∷ []
+  late = (amountBad ms k m (meterIn st img (firstMeter k m)) a, 21) ∷ (journalFull st 1, 19) ∷ []
 
-  pub row-quiet : (row : ℕ) → row ≡ refusal (quietRows st (length img)) → (row ≡ 0 → ⊥) → row ≡ refusal (eventCallRows st img k m a)
-  row-quiet row e n = rows-first (quietRows st (length img)) (early ++ late) row e n
+  pub row-start : (row : ℕ) → row ≡ refusal start → (row ≡ 0 → ⊥) → row ≡ refusal (eventCallRows st img ms k m a)
+  row-start row e n = rows-first start (early ++ late) row e n
 
-  module _ (q : Quiet st (length img)) where
-    pub row-early : (row : ℕ) → row ≡ refusal early → (row ≡ 0 → ⊥) → row ≡ refusal (eventCallRows st img k m a)
-    row-early row e n = rows-then (quietRows st (length img)) (early ++ late) row (q .past) (rows-first early late row e n)
+  module _ (q : Started st (length img) ms k m) where
+    pub row-early : (row : ℕ) → row ≡ refusal early → (row ≡ 0 → ⊥) → row ≡ refusal (eventCallRows st img ms k m a)
+    row-early row e n = rows-then start (early ++ late) row (q .past) (rows-first early late row e n)
 
     module _ (z : refusal early ≡ 0) where
-      row-late : (row : ℕ) → row ≡ refusal late → row ≡ refusal (eventCallRows st img k m a)
-      row-late row e = rows-then (quietRows st (length img)) (early ++ late) row (q .past) (rows-then early late row (none-apply early (omega arith) z) e)
+      row-late : (row : ℕ) → row ≡ refusal late → row ≡ refusal (eventCallRows st img ms k m a)
+      row-late row e = rows-then start (early ++ late) row (q .past) (rows-then early late row (none-apply early (omega arith) z) e)
 
-      pub row-amount : amountBad k m (meterIn st img (firstMeter k m)) a ≡ true → 21 ≡ refusal (eventCallRows st img k m a)
-      row-amount t = row-late 21 (row-yes (amountBad k m (meterIn st img (firstMeter k m)) a) 21 _ t)
+      pub row-amount : amountBad ms k m (meterIn st img (firstMeter k m)) a ≡ true → 21 ≡ refusal (eventCallRows st img ms k m a)
+      row-amount t = row-late 21 (row-yes (amountBad ms k m (meterIn st img (firstMeter k m)) a) 21 _ t)
 
-      module _ (f : amountBad k m (meterIn st img (firstMeter k m)) a ≡ false) where
-        pub row-room : journalFull st 1 ≡ true → 19 ≡ refusal (eventCallRows st img k m a)
-        row-room t = row-late 19 (row-no (amountBad k m (meterIn st img (firstMeter k m)) a) 21 _ 19 f (row-yes (journalFull st 1) 19 0 t))
+      module _ (f : amountBad ms k m (meterIn st img (firstMeter k m)) a ≡ false) where
+        pub row-room : journalFull st 1 ≡ true → 19 ≡ refusal (eventCallRows st img ms k m a)
+        row-room t = row-late 19 (row-no (amountBad ms k m (meterIn st img (firstMeter k m)) a) 21 _ 19 f (row-yes (journalFull st 1) 19 0 t))
 
-        pub row-taken : journalFull st 1 ≡ false → 0 ≡ refusal (eventCallRows st img k m a)
-        row-taken t = row-late 0 (row-no (amountBad k m (meterIn st img (firstMeter k m)) a) 21 _ 0 f (row-no (journalFull st 1) 19 0 0 t refl))
+        pub row-taken : journalFull st 1 ≡ false → 0 ≡ refusal (eventCallRows st img ms k m a)
+        row-taken t = row-late 0 (row-no (amountBad ms k m (meterIn st img (firstMeter k m)) a) 21 _ 0 f (row-no (journalFull st 1) 19 0 0 t refl))
 
--- what the rows before 21 tell
-pub early-known : (st : State) (k m f : ℕ) → refusal (eventFirstRows st k m f) ≡ 0
-    → (eventKnown k m ≡ true) × (frameBad (st .sizes) (st .table .page) (st .table .original) (st .table .spare) (slotFor st 0) f ≡ false)
-early-known st k m f z =
-    let h = none-apply (eventFirstRows st k m f) (omega arith) z in
-    (not-false (eventKnown k m) (h .0), h .1 .1 .1 .1 .1 .0)
+-- row 16
+pub early-frame : (st : State) (k m f : ℕ) → refusal (eventNextRows st k m f) ≡ 0
+    → frameBad (st .sizes) (st .table .page) (st .table .original) (st .table .spare) (slotFor st 0) f ≡ false
+early-frame st k m f z = none-apply (eventNextRows st k m f) (omega arith) z .1 .1 .1 .1 .0
 
 -- a line of page 0 is read from a frame
 pub line-frame : (st : State) (n l f : ℕ) → Quiet st n → frameBad (st .sizes) (st .table .page) (st .table .original) (st .table .spare) (slotFor st 0) f ≡ false
@@ -83,11 +98,6 @@ line-frame st n l f q good =
 
 -- ---- numbers and lines
 
-pub first-word : (img : List ℕ) (z : Sizes) (f l : ℕ) → f < frames z → l < 64 → imageLength z ≤ length img → word img (lineWord z f l + 0) ≡ wordAt (lineBytes img z f l) 0
-first-word img z f l lf ll h =
-    let e : 8 * (lineWord z f l + 0) ≡ 8 * lineWord z f l + 0 = omega arith in
-    ap (wordAt img) e ∙ sym (word-part img (8 * lineWord z f l) 64 0 (omega arith) (omega (arith, line-end z f l lf ll, h)))
-
 -- eight bytes with a number put into them are its bytes
 pub number-bytes : (v : ℕ) (l d : List ℕ) → length l ≡ 8 → d ≡ putWord l 0 v → d ≡ bytesOf 8 v
 unfolding putWord
@@ -95,37 +105,37 @@ number-bytes v l d n e = e ∙ over-whole l (bytesOf 8 v) (length-bytes 8 v ∙ 
 
 -- ---- what comes of it
 
-module _ (st : State) (img : List ℕ) (k m a : ℕ) (d : Done) (found : Found) (f : EventFound st img k m a found) where
+module _ (st : State) (img ms : List ℕ) (k m a : ℕ) (d : Done) (found : Found) (f : EventFound st img ms k m a found) where
   abbrev after : State
-  after = withLines st (Event k m a) (eventLine st img k m a) (eventSecond st img k m a) (pageFrame st img 0)
+  after = withLines st (Event k m a) (eventLine st img ms k m a) (eventSecond st img ms k m a) (pageFrame st img 0)
 
-  pub event-refused : (found .row ≡ 0 → ⊥) → outcomeOf d ≡ answered (found .row) st 0 st → outcomeOf d ≡ eventOf st img k m a
+  pub event-refused : (found .row ≡ 0 → ⊥) → outcomeOf d ≡ answered (found .row) st 0 st → outcomeOf d ≡ eventOf st img ms k m a
   unfolding eventOf
-  event-refused n h = refused-by d (eventCallRows st img k m a) (found .row) (eventNeeds k) st after (f .0) n h
+  event-refused n h = refused-by d (eventCallRows st img ms k m a) (found .row) (eventNeeds k) st after (f .0) n h
 
-  pub event-asked : (v l n : ℕ) (line second : List ℕ) (q : Pending) → found .row ≡ 0 → v ≡ firstNumber k m (found .stored) a → l ≡ firstMeter k m
-      → line ≡ lineWords (merged (lineBytes img (st .sizes) (found .first) l) 0 8 (bytesOf 8 v)) → second ≡ secondOf img (st .sizes) (found .own) k m a
+  pub event-asked : (v l n : ℕ) (line second : List ℕ) (q : Pending) → found .row ≡ 0 → v ≡ firstNumber ms k m (found .stored) a → l ≡ firstMeter k m
+      → line ≡ lineWords (merged (lineBytes img (st .sizes) (found .first) l) 0 8 (bytesOf 8 v)) → second ≡ secondOf img ms (st .sizes) (found .own) k m a
       → q ≡ record { op = Event k m a; made = 0; line = line; second = second; frame = found .frame } → n ≡ eventNeeds k
       → outcomeOf d ≡ answered 0 (record { sizes = st .sizes; head = st .head; tail = st .tail; next = st .next; table = st .table; writers = st .writers; pending = q }) n (record { sizes = st .sizes; head = st .head; tail = st .tail; next = st .next; table = st .table; writers = st .writers; pending = q })
-      → outcomeOf d ≡ eventOf st img k m a
+      → outcomeOf d ≡ eventOf st img ms k m a
   unfolding eventOf
   event-asked v l n line second q z ev el eline esecond eq en h =
       let g = f .1 z in
-      let one : line ≡ eventLine st img k m a =
+      let one : line ≡ eventLine st img ms k m a =
       eline
-      ∙ ap₂ (λ (x y : ℕ). lineWords (merged (lineBytes img (st .sizes) (found .first) x) 0 8 (bytesOf 8 y))) el (ev ∙ ap (λ (s : ℕ). firstNumber k m s a) (g .3))
-      ∙ ap (λ (x : ℕ). lineWords (merged (lineBytes img (st .sizes) x (firstMeter k m)) 0 8 (bytesOf 8 (firstNumber k m (meterIn st img (firstMeter k m)) a)))) (g .1) in
-      let two : second ≡ eventSecond st img k m a = esecond ∙ ap (λ (x : ℕ). secondOf img (st .sizes) x k m a) (g .2) in
-      let pending : q ≡ record { op = Event k m a; made = 0; line = eventLine st img k m a; second = eventSecond st img k m a; frame = pageFrame st img 0 } = eq ∙ rw (one, two, g .0) in
-      taken-by d (eventCallRows st img k m a) (found .row) (eventNeeds k) st after (f .0) z
+      ∙ ap₂ (λ (x y : ℕ). lineWords (merged (lineBytes img (st .sizes) (found .first) x) 0 8 (bytesOf 8 y))) el (ev ∙ ap (λ (s : ℕ). firstNumber ms k m s a) (g .3))
+      ∙ ap (λ (x : ℕ). lineWords (merged (lineBytes img (st .sizes) x (firstMeter k m)) 0 8 (bytesOf 8 (firstNumber ms k m (meterIn st img (firstMeter k m)) a)))) (g .1) in
+      let two : second ≡ eventSecond st img ms k m a = esecond ∙ ap (λ (x : ℕ). secondOf img ms (st .sizes) x k m a) (g .2) in
+      let pending : q ≡ record { op = Event k m a; made = 0; line = eventLine st img ms k m a; second = eventSecond st img ms k m a; frame = pageFrame st img 0 } = eq ∙ rw (one, two, g .0) in
+      taken-by d (eventCallRows st img ms k m a) (found .row) (eventNeeds k) st after (f .0) z
       (h ∙ ap₂ (λ (i : ℕ) (p : Pending). answered 0 (record { sizes = st .sizes; head = st .head; tail = st .tail; next = st .next; table = st .table; writers = st .writers; pending = p }) i (record { sizes = st .sizes; head = st .head; tail = st .tail; next = st .next; table = st .table; writers = st .writers; pending = p })) en pending)
 
 -- what a taken one has made sure of
-pub asked-facts : (st : State) (img : List ℕ) (k m a : ℕ) → refusal (eventCallRows st img k m a) ≡ 0
-    → Quiet st (length img) × EventTaken st k m (pageFrame st img 0) × (amountBad k m (meterIn st img (firstMeter k m)) a ≡ false)
-asked-facts st img k m a e =
-    let h = none-apply (eventCallRows st img k m a) (omega arith) e in
-    (quiet st (length img) 0 (sym-none h) refl, event-taken st k m a (pageFrame st img 0) (event-op-row st img k m a e), event-amount st img k m a e)
+pub asked-facts : (st : State) (img ms : List ℕ) (k m a : ℕ) → refusal (eventCallRows st img ms k m a) ≡ 0
+    → Quiet st (length img) × EventTaken st k m (pageFrame st img 0) × (amountBad ms k m (meterIn st img (firstMeter k m)) a ≡ false) × (moduliOk ms ≡ true)
+asked-facts st img ms k m a e =
+    let h = none-apply (eventCallRows st img ms k m a) (omega arith) e in
+    (quiet st (length img) 0 (sym-none h) refl, event-taken st k m a (pageFrame st img 0) (event-op-row st img ms k m a e), event-amount st img ms k m a e, event-moduli st img ms k m a e)
   where
-    sym-none : Past (eventCallRows st img k m a) (length (eventCallRows st img k m a)) → 0 ≡ refusal (quietRows st (length img))
+    sym-none : Past (eventCallRows st img ms k m a) (length (eventCallRows st img ms k m a)) → 0 ≡ refusal (quietRows st (length img))
     sym-none h = row-none (quietRows st (length img)) (h .0, (h .1 .0, (h .1 .1 .0, tt)))

@@ -1,23 +1,27 @@
 -- What an event finds before it is taken: the first row that turns it back; where none does, the frames of page 0 and of its lines, and the stored
 -- number of the meter whose line goes first.
 use Prim.Native.Nat.{ℕ}
-use mathlib.Core.List.{List}
-use mathlib.Core.Bool.{cond}
+use mathlib.Core.List.{List, [], _∷_, _++_}
+use mathlib.Core.Bool.{not, cond}
 use mathlib.Core.Path.{_≡_}
 use lib.ListN.{replicate}
-use Rattle.bounded.specs.Rows.{refusal}
-use Rattle.meters.specs.Meters.{movesCredit, firstMeter, ownMeter, rolled}
+use Rattle.bounded.specs.Rows.{Row, refusal}
+use Rattle.meters.specs.Meters.{moduliOk, eventKnown, movesCredit, firstMeter, ownMeter, rolled}
 use Rattle.layout.specs.declared.Sizes.{Sizes}
 use Rattle.words.specs.Words.{bytesOf, wordAt}
 use Rattle.image.specs.Lines.{lineBytes, merged, lineWords}
 use Rattle.state.specs.declared.State.{State}
 use Rattle.refinement.specs.Frames.{pageFrame, seenFrame}
-use Rattle.refinement.specs.Calls.{meterIn, eventCallRows}
+use Rattle.refinement.specs.Calls.{quietRows, meterIn, eventCallRows}
 use Rattle.events.specs.declared.Found.{Found}
 
-abbrev pub EventFound : State → List ℕ → ℕ → ℕ → ℕ → Found → Type 0
-EventFound st img k m a r =
-    (r .row ≡ refusal (eventCallRows st img k m a))
+-- the rows before those of writer 1 and page 0
+abbrev pub startRows : State → ℕ → List ℕ → ℕ → ℕ → List Row
+startRows st n ms k m = quietRows st n ++ ((not (eventKnown k m), 20) ∷ (not (moduliOk ms), 26) ∷ [])
+
+abbrev pub EventFound : State → List ℕ → List ℕ → ℕ → ℕ → ℕ → Found → Type 0
+EventFound st img ms k m a r =
+    (r .row ≡ refusal (eventCallRows st img ms k m a))
     × (r .row ≡ 0
     → (r .frame ≡ pageFrame st img 0)
     × (r .first ≡ seenFrame st 1 0 (firstMeter k m) (pageFrame st img 0))
@@ -25,7 +29,7 @@ EventFound st img k m a r =
     × (r .stored ≡ meterIn st img (firstMeter k m)))
 
 -- the second finished line, line o of frame f being that of the event's own meter
-abbrev pub secondOf : List ℕ → Sizes → ℕ → ℕ → ℕ → ℕ → List ℕ
-secondOf img z f k m a =
+abbrev pub secondOf : List ℕ → List ℕ → Sizes → ℕ → ℕ → ℕ → ℕ → List ℕ
+secondOf img ms z f k m a =
     let line = lineBytes img z f (ownMeter k m) in
-    cond (movesCredit k) (lineWords (merged line 0 8 (bytesOf 8 (rolled (ownMeter k m) (wordAt line 0) a)))) (replicate 8 0)
+    cond (movesCredit k) (lineWords (merged line 0 8 (bytesOf 8 (rolled ms (ownMeter k m) (wordAt line 0) a)))) (replicate 8 0)

@@ -1,17 +1,18 @@
-// The call that asks for an event (document 02, L2): cash in, cash out, bet and won move credit and their own meter, a count one of meters 5 to 23. It
-// does not rely on its caller having checked anything; a refused event changes no state and no byte.
+// The call that asks for an event (document 02, L2 and L10): cash in, cash out, bet and won move credit and their own meter, a count one of meters 5 to 23. It
+// is lent the moduli, and does not rely on its caller having checked anything; a refused event changes no state and no byte.
 ghost use mathlib.Core.Path.{_≡_};
 ghost use mathlib.Core.Bool.{true};
 ghost use Prim.Native.Nat.{_<_, _≤_};
 ghost use lib.ListN.{length};
+ghost use Rattle.bounded.specs.Rows.{refusal};
 ghost use Rattle.layout.specs.Layout.{Legal, frames as framesOf, imageLength};
 ghost use Rattle.words.specs.Words.{bytesOf};
 ghost use Rattle.image.specs.Lines.{lineBytes, merged, lineWords};
-ghost use Rattle.meters.specs.Meters.{eventKnown};
+ghost use Rattle.meters.specs.Meters.{moduliOk, eventKnown};
 ghost use Rattle.state.specs.Parts.{stateOf};
 ghost use Rattle.answers.specs.Answers.{outcomeOf};
 ghost use Rattle.refinement.specs.Calls.{eventOf};
-ghost use Rattle.events.specs.Found.{EventFound, secondOf};
+ghost use Rattle.events.specs.Found.{startRows, EventFound, secondOf};
 use answers::Done;
 use layout::Sizes;
 use state::Op;
@@ -41,6 +42,55 @@ fn turned_back(row: usize) -> Found
     }
 }
 
+// Rows 8, 4, 9, 20 and 26 of an event, the image being of the length n.
+fn start_row<'a>(
+    z: Sizes,
+    head: usize,
+    tail: usize,
+    next: usize,
+    page: &'a [usize; 16],
+    original: &'a [usize; 16],
+    spare: &'a [usize; 16],
+    bitmap: &'a [u64; 16],
+    last: &'a [usize; 16],
+    opened: &'a [bool; 4],
+    held: &'a [u64; 64],
+    pending: Pending,
+    n: usize,
+    kind: usize,
+    meter: usize,
+    moduli: &[u64],
+) -> usize
+    ensures { λ r. ⌜ r ≡ refusal (startRows (stateOf z head tail next (now (page .entry)) (now (original .entry)) (now (spare .entry)) (now (bitmap .entry)) (now (last .entry)) (now (opened .entry)) (now (held .entry)) pending) n (now (moduli .entry)) kind meter) ⌝ }
+{
+    let row = rows::first_row(
+        z,
+        head,
+        tail,
+        next,
+        page,
+        original,
+        spare,
+        bitmap,
+        last,
+        opened,
+        held,
+        pending,
+        n,
+        false,
+    );
+    if row != 0 {
+        return row;
+    }
+    if !meters::is_known(kind, meter) {
+        return 20;
+    }
+    if !meters::moduli_ok(moduli) {
+        return 26;
+    }
+    0
+}
+
 // All rows of an event.
 fn event_found<'a>(
     z: Sizes,
@@ -60,10 +110,11 @@ fn event_found<'a>(
     kind: usize,
     meter: usize,
     amount: u64,
+    moduli: &[u64],
 ) -> Found
-    ensures { λ r. ⌜ EventFound (stateOf z head tail next (now (page .entry)) (now (original .entry)) (now (spare .entry)) (now (bitmap .entry)) (now (last .entry)) (now (opened .entry)) (now (held .entry)) prepared pending) (now (image .entry)) kind meter amount r ⌝ }
+    ensures { λ r. ⌜ EventFound (stateOf z head tail next (now (page .entry)) (now (original .entry)) (now (spare .entry)) (now (bitmap .entry)) (now (last .entry)) (now (opened .entry)) (now (held .entry)) prepared pending) (now (image .entry)) (now (moduli .entry)) kind meter amount r ⌝ }
 {
-    let row = rows::first_row(
+    let row = start_row(
         z,
         head,
         tail,
@@ -78,14 +129,16 @@ fn event_found<'a>(
         prepared,
         pending,
         image.len(),
-        false,
+        kind,
+        meter,
+        moduli,
     );
     if row != 0 {
         return turned_back(row);
     }
     let s = state::slots::slot_of(z, page, 0);
     let frame = frames::page_frame(z, original, image, 0, s);
-    let early = operations::event_first_row(
+    let early = operations::event_next_row(
         z,
         next,
         page,
@@ -107,7 +160,7 @@ fn event_found<'a>(
     let first = frames::seen_frame(z, original, spare, bitmap, held, 1, 0, s, l, frame);
     let own = frames::seen_frame(z, original, spare, bitmap, held, 1, 0, s, o, frame);
     let stored = image::read_line_word(image, z, first, l, 0);
-    if meters::amount_bad(kind, meter, stored, amount) {
+    if meters::amount_bad(moduli, kind, meter, stored, amount) {
         return turned_back(21);
     }
     if operations::no_room(z, head, tail) {
@@ -134,22 +187,37 @@ fn numbered_line(image: &[u8], z: Sizes, f: usize, l: usize, v: u64) -> [u64; 8]
 }
 
 // The second finished line: of the event's own meter, where it moves credit.
-fn second_line(image: &[u8], z: Sizes, f: usize, kind: usize, meter: usize, amount: u64) -> [u64; 8]
-    requires { ⌜ Legal z × (f < framesOf z) × (eventKnown kind meter ≡ true) × (imageLength z ≤ length (now image)) ⌝ }
-    ensures { λ r. ⌜ r ≡ secondOf (now (image .entry)) z f kind meter amount ⌝ }
+fn second_line(
+    image: &[u8],
+    z: Sizes,
+    f: usize,
+    kind: usize,
+    meter: usize,
+    amount: u64,
+    moduli: &[u64],
+) -> [u64; 8]
+    requires { ⌜ Legal z × (f < framesOf z) × (eventKnown kind meter ≡ true) × (imageLength z ≤ length (now image)) × (moduliOk (now moduli) ≡ true) ⌝ }
+    ensures { λ r. ⌜ r ≡ secondOf (now (image .entry)) (now (moduli .entry)) z f kind meter amount ⌝ }
 {
     if !meters::moves_credit(kind) {
         return [0; 8];
     }
     let o = meters::own_meter(kind, meter);
     let stored = image::read_line_word(image, z, f, o, 0);
-    let v = meters::rolled_by(o, stored, amount);
+    let v = meters::rolled_by(moduli, o, stored, amount);
     numbered_line(image, z, f, o, v)
 }
 
 // Asks for event `kind`: 1 cash in, 2 cash out, 3 bet, 4 won, 5 a count of the meter.
-pub fn event(st: State, image: &[u8], kind: usize, meter: usize, amount: u64) -> Done
-    ensures { λ r. ⌜ outcomeOf r ≡ eventOf st (now (image .entry)) kind meter amount ⌝ }
+pub fn event(
+    st: State,
+    image: &[u8],
+    kind: usize,
+    meter: usize,
+    amount: u64,
+    moduli: &[u64],
+) -> Done
+    ensures { λ r. ⌜ outcomeOf r ≡ eventOf st (now (image .entry)) (now (moduli .entry)) kind meter amount ⌝ }
 {
     let mut next = st;
     let found = event_found(
@@ -170,15 +238,16 @@ pub fn event(st: State, image: &[u8], kind: usize, meter: usize, amount: u64) ->
         kind,
         meter,
         amount,
+        moduli,
     );
     if found.row != 0 {
         return answers::refused(found.row, next);
     }
     let z = next.sizes;
-    let v = meters::first_number(kind, meter, found.stored, amount);
+    let v = meters::first_number(moduli, kind, meter, found.stored, amount);
     let l = meters::first_meter(kind, meter);
     let line = numbered_line(image, z, found.first, l, v);
-    let second = second_line(image, z, found.own, kind, meter, amount);
+    let second = second_line(image, z, found.own, kind, meter, amount, moduli);
     let op = Op::Event {
         kind,
         meter,

@@ -7,7 +7,9 @@ use native.Mathlib.Omega.{arith}
 use lib.Dec.{ltb, leb, eqb}
 use lib.ListN.{length, replicate}
 use borrow.Author.Tests.{eqb-true, le-ltb, not-false}
+use Rattle.bounded.specs.Below.{someBelow}
 use Rattle.bounded.specs.Rows.{Row, refusal}
+use Rattle.bounded.proofs.Below.{some-ext}
 use Rattle.bounded.proofs.Rows.{none-apply}
 use Rattle.bounded.proofs.Tests.{caseOn}
 use Rattle.layout.specs.declared.Sizes.{Sizes}
@@ -24,22 +26,24 @@ use Rattle.state.specs.declared.Op.the-variants.{Write, Commit, Consolidate, Ch
 use Rattle.state.specs.Held.{noWriter, somePrepared}
 use Rattle.operations.specs.Operations.{isIdle, slotFor, slotted, frameBad, journalFull, commitRows, confirmRows, consolidateRows}
 use Rattle.operations.proofs.Taken.{args-good}
-use Rattle.meters.specs.Meters.{eventKnown, movesCredit, firstMeter, ownMeter, eventNeeds, rolled, firstNumber, amountBad}
+use Rattle.meters.specs.Meters.{modulusOf, eventKnown, movesCredit, firstMeter, ownMeter, eventNeeds, rolled, firstNumber, amountBad}
 use Rattle.meters.proofs.MeterLaws.{first-low, own-range}
-use Rattle.refinement.specs.Frames.{pageFrame, holds}
+use Rattle.moduli_text.specs.Text.{textRow, moduliIn}
+use Rattle.refinement.specs.Frames.{pageFrame, holds, seenFrame}
 use Rattle.refinement.specs.Freeing.{freedSlot, freedPage}
 use Rattle.refinement.specs.Mount.{quietState}
 use Rattle.refinement.specs.Outcome.{Outcome, answered}
 use Rattle.refinement.specs.Settled.{withWriters, withPrepared, withLines}
 use Rattle.refinement.specs.Stores.{World, stepped, steppedBy, left}
-use Rattle.refinement.specs.Calls.{rowState, rowPending, rowNotPending, withPending, worldOf, asked, beginOf, abortOf, writeCallRows, seenLine, changesNothing, writeOf, commitOf, prepareOf, confirmOf, withdrawOf, consolidateOf, freeOf, checkpointOf, eventLine, eventSecond, eventCallRows, eventOf, readRows, readRow, readBytes, stepRows, stepRow, stepOf, stepBytes, runOf, runBytes}
+use Rattle.refinement.specs.Calls.{rowState, rowPending, rowNotPending, withPending, worldOf, asked, beginOf, abortOf, writeCallRows, finishedLine, seenLine, changesNothing, writeOf, commitOf, prepareOf, confirmOf, withdrawOf, consolidateOf, freeOf, checkpointOf, eventLine, eventSecond, eventCallRows, eventOf, meterStored, Loading, loadRows, loadOf, readRows, readRow, readBytes, stepRows, stepRow, stepOf, stepBytes, runOf, runBytes}
 use Rattle.refinement.specs.Recall.{recallRow, recallBytes}
-use Rattle.refinement.specs.Run.{Call, Result, mount, checkpoint, free, step, begin, abort, commit, prepare, confirm, withdraw, consolidate, run, write, read, recall, event, exec, result}
+use Rattle.refinement.specs.Run.{Call, Result, mount, checkpoint, free, step, begin, abort, commit, prepare, confirm, withdraw, consolidate, run, write, read, recall, event, load, exec, result}
 use Rattle.refinement.specs.Reference.{Reference}
 use Rattle.refinement.proofs.Copies.{durable-legal, durable-fits}
 use Rattle.refinement.proofs.Between.{Between, between-valid, between-durable, between-quiet}
 use Rattle.refinement.proofs.CallSound.{call-sound}
 use Rattle.refinement.proofs.Invariant.{Durable, Never, Quiet}
+use Rattle.refinement.proofs.LoadCall.{stored-meter}
 use Rattle.refinement.proofs.MountCall.{mount-found}
 use Rattle.refinement.proofs.Mounted.{stateOf}
 use Rattle.refinement.proofs.ReadCall.{read-args}
@@ -177,14 +181,14 @@ module _ {past past′ : List ℕ} (st : State) (x y : List ℕ) (b : Reference)
   meter-same : not (isIdle (st .pending .op)) ≡ false → (l : ℕ) → l < 64 → seenLine st x 1 0 l ≡ seenLine st y 1 0 l
   meter-same q l low = seen-same q 1 0 l (omega arith) page low
 
-  event-same : (i m a : ℕ) → eventOf st x i m a ≡ eventOf st y i m a
+  event-same : (ms : List ℕ) (i m a : ℕ) → eventOf st x ms i m a ≡ eventOf st y ms i m a
   unfolding eventOf
-  event-same i m a =
-      let row : ℕ = refusal (eventCallRows st x i m a) in
+  event-same ms i m a =
+      let row : ℕ = refusal (eventCallRows st x ms i m a) in
       let first : ℕ = firstMeter i m in
       let own : ℕ = ownMeter i m in
-      let e : row ≡ refusal (eventCallRows st y i m a) =
-      same-refusal (eventCallRows st x i m a) (eventCallRows st y i m a) (
+      let e : row ≡ refusal (eventCallRows st y ms i m a) =
+      same-refusal (eventCallRows st x ms i m a) (eventCallRows st y ms i m a) (
         refl,
         refl,
         λ _. (
@@ -212,7 +216,7 @@ module _ {past past′ : List ℕ} (st : State) (x y : List ℕ) (b : Reference)
                         bad-same 0 page,
                         refl,
                         λ _.
-                            (ap (λ (line : List ℕ). amountBad i m (wordAt line 0) a) (meter-same q first (omega (arith, first-low i m (not-false (eventKnown i m) g)))), refl, λ _. (refl, refl, λ _. tt)),
+                            (ap (λ (line : List ℕ). amountBad ms i m (wordAt line 0) a) (meter-same q first (omega (arith, first-low i m (not-false (eventKnown i m) g)))), refl, λ _. (refl, refl, λ _. tt)),
                       ),
                     ),
                   ),
@@ -222,17 +226,32 @@ module _ {past past′ : List ℕ} (st : State) (x y : List ℕ) (b : Reference)
           ),
         ),
       ) in
-      answered-same st row (refusal (eventCallRows st y i m a)) (eventNeeds i) (eventNeeds i) (withLines st (Event i m a) (eventLine st x i m a) (eventSecond st x i m a) (pageFrame st x 0)) _ e
+      answered-same st row (refusal (eventCallRows st y ms i m a)) (eventNeeds i) (eventNeeds i) (withLines st (Event i m a) (eventLine st x ms i m a) (eventSecond st x ms i m a) (pageFrame st x 0)) _ e
       (λ t.
-      let rows = none-apply (eventCallRows st x i m a) (omega arith) t in
+      let rows = none-apply (eventCallRows st x ms i m a) (omega arith) t in
       let q = rows .1 .1 .0 in
       let known : eventKnown i m ≡ true = not-false (eventKnown i m) (rows .1 .1 .1 .0) in
-      let line : eventLine st x i m a ≡ eventLine st y i m a =
-      ap (λ (l : List ℕ). lineWords (merged l 0 8 (bytesOf 8 (firstNumber i m (wordAt l 0) a)))) (meter-same q first (omega (arith, first-low i m known))) in
-      let second : eventSecond st x i m a ≡ eventSecond st y i m a =
-      ap (λ (l : List ℕ). cond (movesCredit i) (lineWords (merged l 0 8 (bytesOf 8 (rolled own (wordAt l 0) a)))) (replicate 8 0)) (meter-same q own (omega (arith, own-range i m known .1))) in
+      let line : eventLine st x ms i m a ≡ eventLine st y ms i m a =
+      ap (λ (l : List ℕ). lineWords (merged l 0 8 (bytesOf 8 (firstNumber ms i m (wordAt l 0) a)))) (meter-same q first (omega (arith, first-low i m known))) in
+      let second : eventSecond st x ms i m a ≡ eventSecond st y ms i m a =
+      ap (λ (l : List ℕ). cond (movesCredit i) (lineWords (merged l 0 8 (bytesOf 8 (rolled ms own (wordAt l 0) a)))) (replicate 8 0)) (meter-same q own (omega (arith, own-range i m known .1))) in
       let f = frame 0 page in
       (refl, λ j. withLines st (Event i m a) (line j) (second j) (f j)))
+
+  -- ---- load: the stored meters are the reference machine's
+
+  high-same : (ms : List ℕ) → someBelow 24 (λ m. leb (modulusOf ms m) (meterStored st x m)) ≡ someBelow 24 (λ m. leb (modulusOf ms m) (meterStored st y m))
+  high-same ms =
+      some-ext (λ m. leb (modulusOf ms m) (meterStored st x m)) (λ m. leb (modulusOf ms m) (meterStored st y m)) 24
+      (λ m l. ap (leb (modulusOf ms m)) (stored-meter st x b (between-valid v b h) D m l ∙ sym (stored-meter st y b (between-valid u b k) E m l)))
+
+  load-same : (text : List ℕ) → loadOf st x text ≡ loadOf st y text
+  unfolding loadOf
+  load-same text =
+      let e : refusal (loadRows st x text) ≡ refusal (loadRows st y text) =
+      same-refusal (loadRows st x text) (loadRows st y text)
+      (refl, refl, λ _. (short, refl, λ _. (refl, refl, λ _. (refl, refl, λ _. (refl, refl, λ _. (bad-same 0 page, refl, λ _. (high-same (moduliIn text), refl, λ _. tt))))))) in
+      ap (λ (r : ℕ). record { number = r; moduli = cond (eqb r 0) (moduliIn text) (replicate 24 0) }) e
 
   -- ---- read, recall
 
@@ -324,7 +343,10 @@ module _ {past past′ : List ℕ} (st : State) (x y : List ℕ) (b : Reference)
   call-same (write w p l o n bytes) = by-outcome (write-same w p l o n bytes)
   call-same (read w p l target) = read-same w p l target
   call-same (recall p l target) = recall-same p l target
-  call-same (event i m a) = by-outcome (event-same i m a)
+  call-same (event ms i m a) = by-outcome (event-same ms i m a)
+  call-same (load text) =
+      let e = load-same text in
+      record { number = ap (λ (o : Loading). o .number) e; stores = refl; target = ap (λ (o : Loading). o .moduli) e; state = refl }
 
   pub call-alike : (c : Call) → Alike z (exec c v .world .image) (exec c u .world .image)
   unfolding exec
@@ -343,4 +365,5 @@ module _ {past past′ : List ℕ} (st : State) (x y : List ℕ) (b : Reference)
   call-alike (write w p l o n bytes) = same
   call-alike (read w p l target) = same
   call-alike (recall p l target) = same
-  call-alike (event i m a) = same
+  call-alike (event ms i m a) = same
+  call-alike (load text) = same

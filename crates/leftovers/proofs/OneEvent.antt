@@ -97,14 +97,14 @@ module _ (past : List ℕ) (st : State) (img : List ℕ) (b : Reference) (M : Mo
       (subst (λ (y : Sizes). Stays y img (storeMade (withMade s j) img (s .pending .op) j)) z
       (mid-stays past (withMade s j) img (withWork (under t (needs s (s .pending .op) - j)) c) (U .busy .durable) (s .pending .op) j mid))
 
-  part-leaves : Stage past st img base k m a → Leaving st img event
+  part-leaves : Stage past st img base (M .moduli) k m a → Leaving st img event
   part-leaves (in-first j e U) =
       let low : j < 8 = low₁ past st img b M j e U in
       record {
         left = omega (arith, e, low, lines-eight k);
         on =
             λ _.
-            part-stays (firstAsked st k m) (firstTask k m a base) base j U refl (store₁ past st img b M j e U)
+            part-stays (firstAsked st k m) (firstTask (M .moduli) k m a base) base j U refl (store₁ past st img b M j e U)
             (write-mid past (withMade (firstAsked st k m) j) img _ (U .busy) 1 0 (firstMeter k m) 0 8 refl j low);
         last = λ q. absurd (omega (arith, e, low, lines-eight k, q));
       }
@@ -115,7 +115,7 @@ module _ (past : List ℕ) (st : State) (img : List ℕ) (b : Reference) (M : Mo
         left = omega (arith, e, low, lines);
         on =
             λ _.
-            part-stays (secondAsked st k m) (secondTask k m a base) (firstBook k m a base) j U (first-sizes st k m) (store₂ past st img b M j u e U)
+            part-stays (secondAsked st k m) (secondTask (M .moduli) k m a base) (firstBook (M .moduli) k m a base) j U (first-sizes st k m) (store₂ past st img b M j u e U)
             (write-mid past (withMade (secondAsked st k m) j) img _ (U .busy) 1 0 (ownMeter k m) 0 8 refl j low);
         last = λ q. absurd (omega (arith, e, low, lines, q));
       }
@@ -128,7 +128,7 @@ module _ (past : List ℕ) (st : State) (img : List ℕ) (b : Reference) (M : Mo
         left = omega (arith, e, low);
         on =
             λ l.
-            part-stays s (committing 1) (linesBook k m a base) j U (lines-sizes st k m) same
+            part-stays s (committing 1) (linesBook (M .moduli) k m a base) j U (lines-sizes st k m) same
             (commit-mid past (withMade s j) img _ (U .busy) 1 refl j (omega (arith, e, l, one)));
         last =
             λ q.

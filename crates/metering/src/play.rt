@@ -6,9 +6,18 @@ use answers::number_of;
 use layout::Sizes;
 use state::State;
 
-// The state, the checksum so far, and the number drawn last.
+// A venue's moduli.
+const VENUE: [u8; 251] =
+    *b"0,300000000\n1,1000000000000\n2,100000000\n3,250000000\n4,999999937\n5,1000000\n6,2000000\n7,1000000\n8,1000003\n9,1000000\n10,1000000\n11,1000000\n12,3000000\n13,1000000\n14,1000000\n15,10007\n16,10000\n17,10000\n18,100000\n19,10000\n20,10000\n21,10000\n22,10000\n23,20000\n";
+
+// Moduli that the meters have outgrown.
+const SMALL: [u8; 158] =
+    *b"0,100\n1,100\n2,100\n3,100\n4,100\n5,100\n6,100\n7,100\n8,100\n9,100\n10,100\n11,100\n12,100\n13,100\n14,100\n15,100\n16,100\n17,100\n18,100\n19,100\n20,100\n21,100\n22,100\n23,100\n";
+
+// The state, the moduli, the checksum so far, and the number drawn last.
 pub struct Game {
     pub state: State,
+    pub moduli: [u64; 24],
     pub sum: u64,
     pub seed: u64,
 }
@@ -57,9 +66,10 @@ fn ask(
     kind: usize,
     meter: usize,
     amount: u64,
+    moduli: &[u64],
     k: usize,
 ) -> Asked {
-    let done = events::event(st, image, kind, meter, amount);
+    let done = events::event(st, image, kind, meter, amount, moduli);
     let answer = done.answer;
     let number = number_of(answer) as u64;
     if number == 19 {
@@ -86,17 +96,19 @@ fn turn(image: &mut [u8; 16640], game: Game) -> Game {
     let kind = (a / 65536 % 7) as usize;
     let meter = (b / 65536 % 26) as usize;
     let k = (d / 65536 % 44) as usize;
-    let asked = ask(image, game.state, kind, meter, amount_of(c), k);
+    let moduli = game.moduli;
+    let asked = ask(image, game.state, kind, meter, amount_of(c), &moduli, k);
     let state = asked.state;
     Game {
         state,
+        moduli,
         sum: with(game.sum, asked.number),
         seed: d,
     }
 }
 
-// A fresh store with n events asked for.
-pub fn events(image: &mut [u8; 16640], n: usize) -> Game {
+// A fresh store, with the fixed moduli.
+pub fn fresh(image: &mut [u8; 16640]) -> Game {
     let done = mounting::format(
         image,
         Sizes {
@@ -106,11 +118,51 @@ pub fn events(image: &mut [u8; 16640], n: usize) -> Game {
         },
     );
     let state = done.state;
-    let mut game = Game {
+    let moduli = meters::fixed_moduli();
+    Game {
         state,
+        moduli,
         sum: 0,
         seed: 1,
-    };
+    }
+}
+
+// The moduli of a text loaded, the ones before where the load is refused, and its answer in the checksum.
+fn with_text(image: &[u8; 16640], game: Game, text: &[u8]) -> Game {
+    let done = loading::load(game.state, image, text);
+    let answer = done.answer;
+    let number = number_of(answer) as u64;
+    let state = game.state;
+    let sum = with(game.sum, number);
+    if number != 0 {
+        let moduli = game.moduli;
+        return Game {
+            state,
+            moduli,
+            sum,
+            seed: game.seed,
+        };
+    }
+    let moduli = done.moduli;
+    Game {
+        state,
+        moduli,
+        sum,
+        seed: game.seed,
+    }
+}
+
+// Texts of a wrong count and a wrong range are turned back, then moduli that the meters have outgrown; a venue's are taken.
+pub fn with_venue(image: &[u8; 16640], game: Game) -> Game {
+    let a = with_text(image, game, b"0,100\n");
+    let b = with_text(image, a, b"0,99\n1,x");
+    let c = with_text(image, b, &SMALL);
+    with_text(image, c, &VENUE)
+}
+
+// The game after n events more.
+pub fn events(image: &mut [u8; 16640], game: Game, n: usize) -> Game {
+    let mut game = game;
     let mut i = 0;
     while i < n {
         game = turn(image, game);

@@ -1,8 +1,8 @@
 // Meters and their events: the moduli, the events that there are, and a meter's new number.
 ghost use mathlib.Core.Path.{_≡_};
 ghost use mathlib.Core.Bool.{true, false};
-ghost use Prim.Native.Nat.{_<_};
-ghost use Rattle.meters.specs.Meters.{adds, modulusOf, eventKnown, movesCredit, ownMeter, firstMeter, eventNeeds, rolled, creditAfter, firstNumber, creditBad, amountBad};
+ghost use Prim.Native.Nat.{_+_, _^_, _<_, _≤_};
+ghost use Rattle.meters.specs.Meters.{modulusBad, moduliOk, fixedModuli, adds, modulusOf, eventKnown, movesCredit, ownMeter, firstMeter, eventNeeds, rolled, creditAfter, firstNumber, creditBad, amountBad};
 
 // Document 02: "Each has its modulus from a fixed table".
 const MODULI: [u64; 24] = [
@@ -32,12 +32,43 @@ const MODULI: [u64; 24] = [
     10000,
 ];
 
-// The modulus of meter m.
-pub fn modulus(m: usize) -> u64
-    requires { ⌜ m < 24 ⌝ }
-    ensures { λ r. ⌜ r ≡ modulusOf m ⌝ }
+// The fixed table, for a host that loads no other.
+pub fn fixed_moduli() -> [u64; 24]
+    ensures { λ r. ⌜ r ≡ fixedModuli ⌝ }
 {
-    MODULI[m]
+    MODULI
+}
+
+// Row 26 of a modulus.
+pub fn modulus_bad(modulus: u64) -> bool
+    ensures { λ r. ⌜ r ≡ modulusBad modulus ⌝ }
+{
+    (modulus < 100) | (1000000000000 < modulus)
+}
+
+// Whether these are 24 moduli in the range.
+pub fn moduli_ok(moduli: &[u64]) -> bool
+    ensures { λ r. ⌜ r ≡ moduliOk (now (moduli .entry)) ⌝ }
+{
+    if moduli.len() != 24 {
+        return false;
+    }
+    let mut m = 0;
+    while m < 24 {
+        if modulus_bad(moduli[m]) {
+            return false;
+        }
+        m += 1;
+    }
+    true
+}
+
+// The modulus of meter m.
+fn modulus(moduli: &[u64], m: usize) -> u64
+    requires { ⌜ (moduliOk (now moduli) ≡ true) × (m < 24) ⌝ }
+    ensures { λ r. ⌜ r ≡ modulusOf (now (moduli .entry)) m ⌝ }
+{
+    moduli[m]
 }
 
 // Whether there is such an event.
@@ -76,11 +107,11 @@ pub fn event_needs(kind: usize) -> usize
 }
 
 // The new number of a meter that rolls. The stored number may be any word, so no sum of words is made.
-pub fn rolled_by(m: usize, stored: u64, amount: u64) -> u64
-    requires { ⌜ m < 24 ⌝ }
-    ensures { λ r. ⌜ r ≡ rolled m stored amount ⌝ }
+pub fn rolled_by(moduli: &[u64], m: usize, stored: u64, amount: u64) -> u64
+    requires { ⌜ (moduliOk (now moduli) ≡ true) × (m < 24) ⌝ }
+    ensures { λ r. ⌜ r ≡ rolled (now (moduli .entry)) m stored amount ⌝ }
 {
-    let k = modulus(m);
+    let k = modulus(moduli, m);
     (stored % k + amount % k) % k
 }
 
@@ -91,11 +122,12 @@ fn is_adding(kind: usize) -> bool
     (kind == 1) | (kind == 4)
 }
 
-// Row 21 of credit: whether its new number would lie outside 0 to 99,999,999. No sum wraps.
-pub fn credit_bad(kind: usize, credit: u64, amount: u64) -> bool
-    ensures { λ r. ⌜ r ≡ creditBad kind credit amount ⌝ }
+// Row 21 of credit: whether its new number would lie outside 0 to most - 1, most being its modulus. No sum wraps.
+pub fn credit_bad(moduli: &[u64], kind: usize, credit: u64, amount: u64) -> bool
+    requires { ⌜ moduliOk (now moduli) ≡ true ⌝ }
+    ensures { λ r. ⌜ r ≡ creditBad (now (moduli .entry)) kind credit amount ⌝ }
 {
-    let most = modulus(0);
+    let most = modulus(moduli, 0);
     if is_adding(kind) {
         if most <= credit {
             return true;
@@ -109,22 +141,22 @@ pub fn credit_bad(kind: usize, credit: u64, amount: u64) -> bool
 }
 
 // Row 21.
-pub fn amount_bad(kind: usize, meter: usize, stored: u64, amount: u64) -> bool
-    requires { ⌜ eventKnown kind meter ≡ true ⌝ }
-    ensures { λ r. ⌜ r ≡ amountBad kind meter stored amount ⌝ }
+pub fn amount_bad(moduli: &[u64], kind: usize, meter: usize, stored: u64, amount: u64) -> bool
+    requires { ⌜ (moduliOk (now moduli) ≡ true) × (eventKnown kind meter ≡ true) ⌝ }
+    ensures { λ r. ⌜ r ≡ amountBad (now (moduli .entry)) kind meter stored amount ⌝ }
 {
-    if modulus(own_meter(kind, meter)) <= amount {
+    if modulus(moduli, own_meter(kind, meter)) <= amount {
         return true;
     }
     if moves_credit(kind) {
-        return credit_bad(kind, stored, amount);
+        return credit_bad(moduli, kind, stored, amount);
     }
     false
 }
 
-// The new credit.
+// The new credit, where it is a word.
 fn credit_after(kind: usize, credit: u64, amount: u64) -> u64
-    requires { ⌜ creditBad kind credit amount ≡ false ⌝ }
+    requires { ⌜ (adds kind ≡ true → credit + amount < 2 ^ 64) × (adds kind ≡ false → amount ≤ credit) ⌝ }
     ensures { λ r. ⌜ r ≡ creditAfter kind credit amount ⌝ }
 {
     if is_adding(kind) {
@@ -135,12 +167,12 @@ fn credit_after(kind: usize, credit: u64, amount: u64) -> u64
 }
 
 // The new number of the line that goes first.
-pub fn first_number(kind: usize, meter: usize, stored: u64, amount: u64) -> u64
-    requires { ⌜ (eventKnown kind meter ≡ true) × (amountBad kind meter stored amount ≡ false) ⌝ }
-    ensures { λ r. ⌜ r ≡ firstNumber kind meter stored amount ⌝ }
+pub fn first_number(moduli: &[u64], kind: usize, meter: usize, stored: u64, amount: u64) -> u64
+    requires { ⌜ (moduliOk (now moduli) ≡ true) × (eventKnown kind meter ≡ true) × (amountBad (now moduli) kind meter stored amount ≡ false) ⌝ }
+    ensures { λ r. ⌜ r ≡ firstNumber (now (moduli .entry)) kind meter stored amount ⌝ }
 {
     if moves_credit(kind) {
         return credit_after(kind, stored, amount);
     }
-    rolled_by(meter, stored, amount)
+    rolled_by(moduli, meter, stored, amount)
 }

@@ -15,7 +15,7 @@ use Rattle.state.specs.declared.State.{State}
 use Rattle.state.specs.declared.Op.{Op}
 use Rattle.state.specs.declared.Op.the-variants.{Idle, Write, Commit, Consolidate, Checkpoint, Event, Prepare, Confirm}
 use Rattle.state.specs.Held.{isOpen, somePrepared, someHold, heldSlots}
-use Rattle.operations.specs.Operations.{live, slotFor, slotted, writeArgsBad, lineTaken, noneFree, frameBad, writeRows, commitRows, confirmRows, consolidateRows, eventFirstRows, opRows, Asked}
+use Rattle.operations.specs.Operations.{live, slotFor, slotted, writeArgsBad, lineTaken, noneFree, frameBad, writeRows, commitRows, confirmRows, consolidateRows, eventNextRows, opRows, Asked}
 
 -- row 11 of a write
 pub record ArgsGood (z : Sizes) (w p l o n : ℕ) : Type 0 where

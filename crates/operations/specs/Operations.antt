@@ -109,12 +109,11 @@ consolidateRowsOf z head tail page held prepared p =
     ∷ (journalFullOf z head tail 1, 19)
     ∷ []
 
--- an event's, s being the slot of page 0 and f its frame, without row 21, which row 8 leaves out (document 02, L2). 20: there is no such event;
--- 12: writer 1 is open; 14: another writer holds one of its lines
-abbrev pub eventFirstRowsOf : Sizes → ℕ → List ℕ → List ℕ → List ℕ → List Bool → List ℕ → ℕ → ℕ → ℕ → ℕ → ℕ → List Row
-eventFirstRowsOf z next page original spare opened held prepared k m s f =
-    (not (eventKnown k m), 20)
-    ∷ (isOpen opened 1, 12)
+-- an event's, s being the slot of page 0 and f its frame, without rows 26 and 21, which row 8 leaves out (document 02, L2 and L10). 20: there is no such
+-- event; 12: writer 1 is open; 14: another writer holds one of its lines
+abbrev pub eventNextRowsOf : Sizes → ℕ → List ℕ → List ℕ → List ℕ → List Bool → List ℕ → ℕ → ℕ → ℕ → ℕ → ℕ → List Row
+eventNextRowsOf z next page original spare opened held prepared k m s f =
+    (isOpen opened 1, 12)
     ∷ (somePrepared prepared, 23)
     ∷ (lineTaken z held 1 s (firstMeter k m) || lineTaken z held 1 s (ownMeter k m), 14)
     ∷ (noneFree z page next s, 15)
@@ -123,7 +122,7 @@ eventFirstRowsOf z next page original spare opened held prepared k m s f =
 
 abbrev pub eventRowsOf : Sizes → ℕ → ℕ → ℕ → List ℕ → List ℕ → List ℕ → List Bool → List ℕ → ℕ → ℕ → ℕ → ℕ → ℕ → List Row
 eventRowsOf z head tail next page original spare opened held prepared k m s f =
-    eventFirstRowsOf z next page original spare opened held prepared k m s f ++ ((journalFullOf z head tail 1, 19) ∷ [])
+    (not (eventKnown k m), 20) ∷ (eventNextRowsOf z next page original spare opened held prepared k m s f ++ ((journalFullOf z head tail 1, 19) ∷ []))
 
 -- the rows of an operation, of a write or an event with the page's frame f
 abbrev pub opRowsOf : Sizes → ℕ → ℕ → ℕ → List ℕ → List ℕ → List ℕ → List Bool → List ℕ → ℕ → Op → ℕ → List Row
@@ -152,9 +151,9 @@ confirmRows st w = confirmRowsOf (st .writers .prepared) w
 abbrev pub consolidateRows : State → ℕ → List Row
 consolidateRows st p = consolidateRowsOf (st .sizes) (st .head) (st .tail) (st .table .page) (st .writers .held) (st .writers .prepared) p
 
-abbrev pub eventFirstRows : State → ℕ → ℕ → ℕ → List Row
-eventFirstRows st k m f =
-    eventFirstRowsOf (st .sizes) (st .next) (st .table .page) (st .table .original) (st .table .spare) (st .writers .opened) (st .writers .held) (st .writers .prepared) k m (slotFor st 0) f
+abbrev pub eventNextRows : State → ℕ → ℕ → ℕ → List Row
+eventNextRows st k m f =
+    eventNextRowsOf (st .sizes) (st .next) (st .table .page) (st .table .original) (st .table .spare) (st .writers .opened) (st .writers .held) (st .writers .prepared) k m (slotFor st 0) f
 
 abbrev pub opRows : State → Op → ℕ → List Row
 opRows st op f =

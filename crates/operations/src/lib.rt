@@ -1,11 +1,13 @@
 // The rows from 11 on of each operation.
 ghost use mathlib.Core.Path.{_≡_};
+ghost use mathlib.Core.Bool.{true};
 ghost use Prim.Native.Nat.{_*_, _<_, _≤_};
 ghost use Rattle.bounded.specs.Rows.{refusal};
 ghost use Rattle.layout.specs.Layout.{Legal};
 ghost use Rattle.journal.specs.Records.{liveCount};
+ghost use Rattle.meters.specs.Meters.{eventKnown};
 ghost use Rattle.state.specs.Slots.{slotOfPage};
-ghost use Rattle.operations.specs.Operations.{isIdle, writeArgsBad, lineTaken, noneFree, frameBad, journalFullOf, writeRowsOf, commitRowsOf, confirmRowsOf, consolidateRowsOf, eventFirstRowsOf, eventRowsOf, opRowsOf};
+ghost use Rattle.operations.specs.Operations.{isIdle, writeArgsBad, lineTaken, noneFree, frameBad, journalFullOf, writeRowsOf, commitRowsOf, confirmRowsOf, consolidateRowsOf, eventNextRowsOf, eventRowsOf, opRowsOf};
 use layout::Sizes;
 use state::Op;
 
@@ -222,8 +224,8 @@ pub fn no_room(z: Sizes, head: usize, tail: usize) -> bool
     z.places < journal::records::live_count(z, head, tail) + 1
 }
 
-// The first row before 21 that turns an event back, with the slot s of page 0, S where it has none, and its frame.
-pub fn event_first_row<'a>(
+// The first row from 12 to 16 that turns a known event back, with the slot s of page 0, S where it has none, and its frame.
+pub fn event_next_row<'a>(
     z: Sizes,
     next: usize,
     page: &'a [usize; 16],
@@ -237,12 +239,9 @@ pub fn event_first_row<'a>(
     s: usize,
     frame: usize,
 ) -> usize
-    requires { ⌜ Legal z × (next < z .slots) ⌝ }
-    ensures { λ r. ⌜ r ≡ refusal (eventFirstRowsOf z next (now (page .entry)) (now (original .entry)) (now (spare .entry)) (now (opened .entry)) (now (held .entry)) prepared kind meter s frame) ⌝ }
+    requires { ⌜ Legal z × (next < z .slots) × (eventKnown kind meter ≡ true) ⌝ }
+    ensures { λ r. ⌜ r ≡ refusal (eventNextRowsOf z next (now (page .entry)) (now (original .entry)) (now (spare .entry)) (now (opened .entry)) (now (held .entry)) prepared kind meter s frame) ⌝ }
 {
-    if !meters::is_known(kind, meter) {
-        return 20;
-    }
     if state::held::is_open(opened, 1) {
         return 12;
     }
@@ -281,8 +280,11 @@ fn event_row<'a>(
     requires { ⌜ Legal z × (head < 2 * z .places) × (tail < 2 * z .places) × (liveCount z head tail ≤ z .places) × (next < z .slots) ⌝ }
     ensures { λ r. ⌜ r ≡ refusal (eventRowsOf z head tail next (now (page .entry)) (now (original .entry)) (now (spare .entry)) (now (opened .entry)) (now (held .entry)) prepared kind meter (slotOfPage z (now (page .entry)) 0) frame) ⌝ }
 {
+    if !meters::is_known(kind, meter) {
+        return 20;
+    }
     let s = state::slots::slot_of(z, page, 0);
-    let row = event_first_row(
+    let row = event_next_row(
         z,
         next,
         page,

@@ -54,12 +54,13 @@ const CALLS: [[usize; 4]; 41] = [
 
 // Makes a call.
 fn make(st: State, image: &[u8], row: &[usize; 4]) -> Done {
+    let moduli = meters::fixed_moduli();
     match row[0] {
         wording::BEGIN => writers::begin(st, row[1]),
         wording::ABORT => writers::abort(st, row[1]),
         wording::WRITE => transactions::write(st, image, row[1], row[2], row[3], 0, 1, b"x"),
         wording::CONSOLIDATE => transactions::consolidate(st, image, row[2]),
-        wording::EVENT => events::event(st, image, row[1], row[2], row[3] as u64),
+        wording::EVENT => events::event(st, image, row[1], row[2], row[3] as u64, &moduli),
         wording::PREPARE => preparing::prepare(st, image, row[1]),
         wording::CONFIRM => preparing::confirm(st, image, row[1]),
         wording::WITHDRAW => preparing::withdraw(st, image, row[1]),

@@ -41,24 +41,24 @@ use Rattle.refinement.proofs.Moving.{Facts, Under, Moving, in-first, fi
 use Rattle.refinement.proofs.Seen.{seen-line, unheld-line}
 use Rattle.refinement.proofs.StateValid.{valid}
 
-module _ {past : List ℕ} (st : State) (img : List ℕ) (b : Reference) (k m a : ℕ) (Q : Quiet past st img b) (row : refusal (eventCallRows st img k m a) ≡ 0) where
+module _ {past : List ℕ} (st : State) (img : List ℕ) (b : Reference) (ms : List ℕ) (k m a : ℕ) (Q : Quiet past st img b) (row : refusal (eventCallRows st img ms k m a) ≡ 0) where
   abbrev f : ℕ
   f = pageFrame st img 0
 
   abbrev line : List ℕ
-  line = eventLine st img k m a
+  line = eventLine st img ms k m a
 
   abbrev second : List ℕ
-  second = eventSecond st img k m a
+  second = eventSecond st img ms k m a
 
   abbrev asked : State
   asked = withLines st (Event k m a) line second f
 
   abbrev book : Reference
-  book = withWork (under (moving k m a) (eventNeeds k)) b
+  book = withWork (under (moving ms k m a) (eventNeeds k)) b
 
   ok-rows : EventTaken st k m f
-  ok-rows = event-taken st k m a f (event-op-row st img k m a row)
+  ok-rows = event-taken st k m a f (event-op-row st img ms k m a row)
 
   first : firstMeter k m < 64
   first = omega (arith, first-low k m (ok-rows .known))
@@ -84,7 +84,7 @@ module _ {past : List ℕ} (st : State) (img : List ℕ) (b : Reference) (k m a 
       }
 
   asked-valid : stateOk asked ≡ true
-  asked-valid = lines-valid st line second f (Event k m a) (Q .valid) (event-op-row st img k m a row) (omega (arith, event-some k, event-needs st k m a))
+  asked-valid = lines-valid st line second f (Event k m a) (Q .valid) (event-op-row st img ms k m a row) (omega (arith, event-some k, event-needs st k m a))
 
   ready : Ready (withOpen asked 1) k m f
   ready = event-begun asked k m a asked-valid (Q .durable .behind .sixteen) (Q .writers .sixty-four) (Q .writers .four) asked-rows
@@ -113,20 +113,20 @@ module _ {past : List ℕ} (st : State) (img : List ℕ) (b : Reference) (k m a 
   finished l v low =
       ap lineWords (ap (λ (x : List ℕ). merged x 0 8 (bytesOf 8 v)) (seen l low) ∙ merged-read b 1 0 l 0 8 (bytesOf 8 v) (omega arith) (omega (arith, length-bytes 8 v)))
 
-  pub facts : Facts line second book k m a
+  pub facts : Facts line second book ms k m a
   facts =
       record {
         first-line =
-            finished (firstMeter k m) (firstNumber k m (meterIn st img (firstMeter k m)) a) first
-            ∙ ap (λ (x : ℕ). lineWords (readLine (written 1 0 (firstMeter k m) 0 8 (bytesOf 8 (firstNumber k m x a)) b) 1 0 (firstMeter k m))) (number (firstMeter k m) first);
+            finished (firstMeter k m) (firstNumber ms k m (meterIn st img (firstMeter k m)) a) first
+            ∙ ap (λ (x : ℕ). lineWords (readLine (written 1 0 (firstMeter k m) 0 8 (bytesOf 8 (firstNumber ms k m x a)) b) 1 0 (firstMeter k m))) (number (firstMeter k m) first);
         second-line =
             λ t.
-            sym (row-yes (movesCredit k) (meterLine st img (ownMeter k m) (rolled (ownMeter k m) (meterIn st img (ownMeter k m)) a)) (replicate 8 0) t)
-            ∙ (finished (ownMeter k m) (rolled (ownMeter k m) (meterIn st img (ownMeter k m)) a) own
-            ∙ ap (λ (x : ℕ). lineWords (readLine (written 1 0 (ownMeter k m) 0 8 (bytesOf 8 (rolled (ownMeter k m) x a)) b) 1 0 (ownMeter k m))) (number (ownMeter k m) own));
+            sym (row-yes (movesCredit k) (meterLine st img (ownMeter k m) (rolled ms (ownMeter k m) (meterIn st img (ownMeter k m)) a)) (replicate 8 0) t)
+            ∙ (finished (ownMeter k m) (rolled ms (ownMeter k m) (meterIn st img (ownMeter k m)) a) own
+            ∙ ap (λ (x : ℕ). lineWords (readLine (written 1 0 (ownMeter k m) 0 8 (bytesOf 8 (rolled ms (ownMeter k m) x a)) b) 1 0 (ownMeter k m))) (number (ownMeter k m) own));
         first-bytes = line-bytes (firstMeter k m) first;
         own-bytes = line-bytes (ownMeter k m) own;
-        amount = ap (λ (x : ℕ). amountBad k m x a) (sym (number (firstMeter k m) first)) ∙ event-amount st img k m a row;
+        amount = ap (λ (x : ℕ). amountBad ms k m x a) (sym (number (firstMeter k m) first)) ∙ event-amount st img ms k m a row;
       }
 
   -- writer 1 begun
@@ -152,14 +152,14 @@ module _ {past : List ℕ} (st : State) (img : List ℕ) (b : Reference) (k m a 
   abbrev op : Op
   op = Write 1 0 (firstMeter k m) 0 8
 
-  first-busy : Busy past (firstAsked asked k m) img (withWork (under (firstTask k m a b) (needs (withOpen asked 1) op)) b)
+  first-busy : Busy past (firstAsked asked k m) img (withWork (under (firstTask ms k m a b) (needs (withOpen asked 1) op)) b)
   first-busy =
-      let bytes = firstBytes k m a b in
-      asked-busy (withOpen asked 1) img b op line f (firstTask k m a b) begun eight
+      let bytes = firstBytes ms k m a b in
+      asked-busy (withOpen asked 1) img b op line f (firstTask ms k m a b) begun eight
       (write-row (withOpen asked 1) k m f (firstMeter k m) line ready first (ready .first-free))
-      (bytes, bytes-bytesOf 8 _, omega (arith, length-bytes 8 (firstNumber k m (meterOn b (firstMeter k m)) a)), all-left (withOpen asked 1) op line f (firstTask k m a b), facts .first-line, same-frame, line-bytes (firstMeter k m) first)
+      (bytes, bytes-bytesOf 8 _, omega (arith, length-bytes 8 (firstNumber ms k m (meterOn b (firstMeter k m)) a)), all-left (withOpen asked 1) op line f (firstTask ms k m a b), facts .first-line, same-frame, line-bytes (firstMeter k m) first)
 
-  first-under : Under past (firstAsked asked k m) img (firstTask k m a b) (withWork idle b) 0
+  first-under : Under past (firstAsked asked k m) img (firstTask ms k m a b) (withWork idle b) 0
   unfolding needs
   first-under = record { low = eight; busy = first-busy }
 
@@ -167,6 +167,7 @@ module _ {past : List ℕ} (st : State) (img : List ℕ) (b : Reference) (k m a 
   event-moving =
       let e : eventNeeds k ≡ eventNeeds k - 0 = omega arith in
       record {
+        moduli = ms;
         kind = k;
         meter = m;
         amount = a;
@@ -177,6 +178,6 @@ module _ {past : List ℕ} (st : State) (img : List ℕ) (b : Reference) (k m a 
         sixty-four = Q .writers .sixty-four;
         no-writes = λ p l i lp ll li. Q .writers .no-writes 1 p l i (omega arith) lp ll li (none-held p l);
         facts = facts;
-        work = ap (under (moving k m a)) e;
+        work = ap (under (moving ms k m a)) e;
         stage = in-first 0 refl first-under;
       }

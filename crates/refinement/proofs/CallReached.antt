@@ -9,7 +9,7 @@ use Rattle.words.proofs.WordLaws.{bytes-store}
 use Rattle.state.specs.declared.State.{State}
 use Rattle.refinement.specs.Stores.{World, storeAt, storeValue, stepped, steppedBy, left}
 use Rattle.refinement.specs.Calls.{stepRow, worldOf, stepBytes, runBytes}
-use Rattle.refinement.specs.Run.{Call, mount, checkpoint, free, step, begin, abort, commit, prepare, confirm, withdraw, consolidate, run, write, read, recall, exec, after, event}
+use Rattle.refinement.specs.Run.{Call, mount, checkpoint, free, step, begin, abort, commit, prepare, confirm, withdraw, consolidate, run, write, read, recall, exec, after, event, load}
 use Rattle.refinement.proofs.Called.{Good, call-good}
 
 step-image : (v : World) → Bytes (v .image) → Bytes (stepped v .image)
@@ -50,7 +50,8 @@ call-bytes (run k) v b = run-bytes (v .st) (v .image) b k
 call-bytes (write w p l o n bytes) v b = b
 call-bytes (read w p l target) v b = b
 call-bytes (recall p l target) v b = b
-call-bytes (event k m a) v b = b
+call-bytes (event ms k m a) v b = b
+call-bytes (load text) v b = b
 
 pub after-good : (cs : List Call) (v : World) → Bytes (v .image) → Good (v .st) → Good (after cs v .st)
 unfolding after

@@ -3,7 +3,7 @@ use Prim.Native.Nat.{ℕ}
 use mathlib.Core.List.{List}
 use mathlib.Core.Logic.{inl, inr}
 use Rattle.refinement.specs.Stores.{World}
-use Rattle.refinement.specs.Run.{Call, mount, checkpoint, free, step, begin, abort, commit, prepare, confirm, withdraw, consolidate, run, write, read, recall, event}
+use Rattle.refinement.specs.Run.{Call, mount, checkpoint, free, step, begin, abort, commit, prepare, confirm, withdraw, consolidate, run, write, read, recall, event, load}
 use Rattle.refinement.specs.Reference.{Reference}
 use Rattle.refinement.specs.Statement.{Lent}
 use Rattle.refinement.proofs.Invariant.{Related}
@@ -13,6 +13,7 @@ use Rattle.refinement.proofs.EventCalls.{event-sound, moving-sound}
 use Rattle.refinement.proofs.Begin.{begin-sound}
 use Rattle.refinement.proofs.Abort.{abort-sound}
 use Rattle.refinement.proofs.ReadCall.{read-sound}
+use Rattle.refinement.proofs.LoadCall.{load-sound}
 use Rattle.refinement.proofs.RecallCall.{recall-sound}
 use Rattle.refinement.proofs.MountCall.{mount-sound}
 use Rattle.refinement.proofs.AskWrite.{write-sound}
@@ -40,7 +41,8 @@ related-sound (run k) lent v b h = sounds v b (run-sound k v b h)
 related-sound (write w p l o n bytes) lent v b h = sounds v b (write-sound w p l o n bytes lent v b h)
 related-sound (read w p l target) lent v b h = sounds v b (read-sound w p l target v b h)
 related-sound (recall p l target) lent v b h = sounds v b (recall-sound p l target v b h)
-related-sound (event k m a) lent v b h = event-sound k m a v b h
+related-sound (event ms k m a) lent v b h = event-sound ms k m a v b h
+related-sound (load text) lent v b h = sounds v b (load-sound text v b h)
 
 pub call-sound : {past : List ℕ} (c : Call) → Lent c → (v : World) (b : Reference) → Between past v b → Sounds past c v b
 call-sound c lent v b (inl h) = related-sound c lent v b h

@@ -30,7 +30,7 @@ use Rattle.refinement.proofs.Steps.{run-valid, run-sized, step-valid, s
 use Rattle.refinement.specs.Outcome.{answered}
 use Rattle.refinement.specs.Calls.{quietRows, withWriters, beginRows, abortRows, beginOf, abortOf, asked, withPending, finishedLine, changesNothing, writeCallRows, commitCallRows, confirmCallRows, consolidateCallRows, freeCallRows, checkpointCallRows, writeOf, commitOf, prepareOf, confirmOf, withdrawOf, consolidateOf, freeOf, checkpointOf, stepRow, stepRows, worldOf, runOf, stepOf, eventLine, eventSecond, eventCallRows, eventOf}
 use Rattle.refinement.specs.Mount.{mountedState, mountCall, noState, freshState, formatCall}
-use Rattle.refinement.specs.Run.{Call, mount, checkpoint, free, step, begin, abort, commit, prepare, confirm, withdraw, consolidate, run, write, read, recall, exec, event}
+use Rattle.refinement.specs.Run.{Call, mount, checkpoint, free, step, begin, abort, commit, prepare, confirm, withdraw, consolidate, run, write, read, recall, exec, event, load}
 use Rattle.meters.specs.Meters.{eventNeeds}
 use Rattle.refinement.specs.Settled.{withLines}
 use Rattle.refinement.proofs.EventRows.{event-some, event-needs, event-op-row}
@@ -135,16 +135,16 @@ module _ (st : State) (img : List ℕ) (g : Good st) where
   unfolding checkpointOf
   checkpoint-good = asked-good st (refusal (checkpointCallRows st img)) Checkpoint (replicate 8 0) 0 g (λ e. refl)
 
-  event-good : (k m a : ℕ) → Good (eventOf st img k m a .state)
+  event-good : (ms : List ℕ) (k m a : ℕ) → Good (eventOf st img ms k m a .state)
   unfolding eventOf
-  event-good k m a =
-      let line = eventLine st img k m a in
-      let second = eventSecond st img k m a in
+  event-good ms k m a =
+      let line = eventLine st img ms k m a in
+      let second = eventSecond st img ms k m a in
       let f = pageFrame st img 0 in
-      answered-good (refusal (eventCallRows st img k m a)) st (eventNeeds k) (withLines st (Event k m a) line second f) g
+      answered-good (refusal (eventCallRows st img ms k m a)) st (eventNeeds k) (withLines st (Event k m a) line second f) g
       (λ e.
       record {
-        is-valid = lines-valid st line second f (Event k m a) (g .is-valid) (event-op-row st img k m a e) (omega (arith, event-some k, event-needs st k m a));
+        is-valid = lines-valid st line second f (Event k m a) (g .is-valid) (event-op-row st img ms k m a e) (omega (arith, event-some k, event-needs st k m a));
         sized = record { table = g .sized .table; writers = g .sized .writers };
       })
 
@@ -211,4 +211,5 @@ call-good (run k) v b g = run-good (v .st) (v .image) g k
 call-good (write w p l o n bytes) v b g = write-good (v .st) (v .image) g w p l o n bytes
 call-good (read w p l target) v b g = g
 call-good (recall p l target) v b g = g
-call-good (event k m a) v b g = event-good (v .st) (v .image) g k m a
+call-good (event ms k m a) v b g = event-good (v .st) (v .image) g ms k m a
+call-good (load text) v b g = g

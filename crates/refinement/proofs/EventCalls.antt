@@ -21,8 +21,8 @@ use Rattle.refinement.specs.Settled.{withLines}
 use Rattle.refinement.specs.Frames.{pageFrame}
 use Rattle.refinement.specs.Stores.{World, stepped, steppedBy, left}
 use Rattle.refinement.specs.Outcome.{answered}
-use Rattle.refinement.specs.Calls.{worldOf, beginRows, abortRows, writeCallRows, commitCallRows, confirmCallRows, consolidateCallRows, freeCallRows, checkpointCallRows, readRows, beginOf, abortOf, writeOf, commitOf, prepareOf, confirmOf, withdrawOf, consolidateOf, freeOf, checkpointOf, eventOf, eventLine, eventSecond, eventCallRows, readRow, readBytes, stepRow, stepRows, stepOf, stepBytes, runOf, runBytes}
-use Rattle.refinement.specs.Run.{Call, mount, checkpoint, free, step, begin, abort, commit, prepare, confirm, withdraw, consolidate, run, write, read, recall, event, exec}
+use Rattle.refinement.specs.Calls.{worldOf, beginRows, abortRows, writeCallRows, commitCallRows, confirmCallRows, consolidateCallRows, freeCallRows, checkpointCallRows, readRows, beginOf, abortOf, writeOf, commitOf, prepareOf, confirmOf, withdrawOf, consolidateOf, freeOf, checkpointOf, eventOf, eventLine, eventSecond, eventCallRows, loadRows, loadOf, readRow, readBytes, stepRow, stepRows, stepOf, stepBytes, runOf, runBytes}
+use Rattle.refinement.specs.Run.{Call, mount, checkpoint, free, step, begin, abort, commit, prepare, confirm, withdraw, consolidate, run, write, read, recall, event, load, exec}
 use Rattle.refinement.specs.Recall.{recallRow}
 use Rattle.refinement.specs.Reference.{Reference, Task, Work, idle, under, moving, withWork, starts, continues, advances, taken, turn}
 use Rattle.refinement.proofs.AskEvent.{event-moving}
@@ -65,23 +65,23 @@ same-image : (row : ℕ) (img : List ℕ) → cond (eqb row 0) img img ≡ img
 same-image zero img = refl
 same-image (suc k) img = rw (eqb·suc-zero k)
 
-pub event-sound : {past : List ℕ} (k m a : ℕ) (v : World) (b : Reference) → Related past v b → Sounds past (event k m a) v b
+pub event-sound : {past : List ℕ} (ms : List ℕ) (k m a : ℕ) (v : World) (b : Reference) → Related past v b → Sounds past (event ms k m a) v b
 unfolding exec eventOf
-event-sound {past = past} k m a v b h =
+event-sound {past = past} ms k m a v b h =
     let st = v .st in
     let img = v .image in
-    let row : ℕ = refusal (eventCallRows st img k m a) in
-    let asked = withLines st (Event k m a) (eventLine st img k m a) (eventSecond st img k m a) (pageFrame st img 0) in
+    let row : ℕ = refusal (eventCallRows st img ms k m a) in
+    let asked = withLines st (Event k m a) (eventLine st img ms k m a) (eventSecond st img ms k m a) (pageFrame st img 0) in
     let r =
-    answered-then (event k m a) v b row (eventNeeds k) asked img (inl h)
+    answered-then (event ms k m a) v b row (eventNeeds k) asked img (inl h)
     (λ e.
-    let q : Quiet past st img b = is-quiet st img b h (none-apply (eventCallRows st img k m a) (omega arith) e .1 .1 .0) in
-    record { sizes = refl; between = subst (Between past (worldOf asked img)) (sym (starts-some (moving k m a) (eventNeeds k) b (event-some k))) (inr (event-moving st img b k m a q e)) }) in
+    let q : Quiet past st img b = is-quiet st img b h (none-apply (eventCallRows st img ms k m a) (omega arith) e .1 .1 .0) in
+    record { sizes = refl; between = subst (Between past (worldOf asked img)) (sym (starts-some (moving ms k m a) (eventNeeds k) b (event-some k))) (inr (event-moving st img b ms k m a q e)) }) in
     record {
       right = tt;
       sizes = r .sizes;
       between =
-          subst (λ (i : List ℕ). Between past (worldOf (answered row st (eventNeeds k) asked .state) i) (turn (event k m a) row (answered row st (eventNeeds k) asked .stores) b)) (same-image row img) (r .between);
+          subst (λ (i : List ℕ). Between past (worldOf (answered row st (eventNeeds k) asked .state) i) (turn (event ms k m a) row (answered row st (eventNeeds k) asked .stores) b)) (same-image row img) (r .between);
     }
 
 -- ---- an event pending
@@ -119,13 +119,13 @@ module _ {past : List ℕ} (v : World) (b : Reference) (M : Moving past (v .st) 
   some-left : 0 < left st
   some-left = let p = pends st (st .pending .op) (M .valid) refl (moving-pending v b M) .made-low in omega (arith, p)
 
-  work-left : b .work ≡ under (moving (M .kind) (M .meter) (M .amount)) (left st)
+  work-left : b .work ≡ under (moving (M .moduli) (M .kind) (M .meter) (M .amount)) (left st)
   work-left =
-      M .work ∙ sym (ap (λ (x : ℕ). under (moving (M .kind) (M .meter) (M .amount)) (x - st .pending .made)) (ap (needs st) (M .event) ∙ event-needs st (M .kind) (M .meter) (M .amount)))
+      M .work ∙ sym (ap (λ (x : ℕ). under (moving (M .moduli) (M .kind) (M .meter) (M .amount)) (x - st .pending .made)) (ap (needs st) (M .event) ∙ event-needs st (M .kind) (M .meter) (M .amount)))
 
   pub run-stores : (k : ℕ) → Between past (steppedBy (min k (left st)) v) (advances k (b .work) b)
   run-stores k =
-      let t : Task = moving (M .kind) (M .meter) (M .amount) in
+      let t : Task = moving (M .moduli) (M .kind) (M .meter) (M .amount) in
       let n : ℕ = min k (left st) in
       let g = many (Goes past) one-more b t (left st) v some-left work-left (inr M) n (omega arith) in
       subst (λ (w : Work). Between past (steppedBy n v) (advances k w b)) (sym work-left) (between-goes (steppedBy n v) (continues t (left st - n) b) g)
@@ -143,11 +143,25 @@ module _ {past : List ℕ} (v : World) (b : Reference) (M : Moving past (v .st) 
       let r = answered-then (run k) v b (stepRow st img) n (steppedBy n v .st) (steppedBy n v .image) (inr M) (λ e. record { sizes = steppedBy-sizes n v; between = run-stores k }) in
       record { right = tt; sizes = r .sizes; between = r .between }
 
-  -- ---- read and recall
+  -- ---- read, load and recall
 
   read-nine : (w p l : ℕ) (target : List ℕ) → readRow st img w p l target ≡ 9
   unfolding readRow
   read-nine w p l target = sym (row-at (readRows st img w p l target) 2 (omega arith) (valid-row, (fits-row, tt)) pending-row)
+
+  load-nine : (text : List ℕ) → loadOf st img text .number ≡ 9
+  unfolding loadOf
+  load-nine text = sym (row-at (loadRows st img text) 2 (omega arith) (valid-row, (fits-row, tt)) pending-row)
+
+  load-goes : (text : List ℕ) → Sounds past (load text) v b
+  unfolding exec
+  load-goes text =
+      let e = load-nine text in
+      record {
+        right = λ q. let x : _≡_ {A = ℕ} 9 0 = sym e ∙ q in absurd (omega arith);
+        sizes = refl;
+        between = subst (λ (r : ℕ). Between past v (turn (load text) r 0 b)) (sym e) (inr M);
+      }
 
   read-goes : (w p l : ℕ) (target : List ℕ) → Sounds past (read w p l target) v b
   unfolding exec
@@ -181,6 +195,7 @@ module _ {past : List ℕ} (v : World) (b : Reference) (M : Moving past (v .st) 
   moving-sound-at (run k) = run-goes k
   moving-sound-at (read w p l target) = read-goes w p l target
   moving-sound-at (recall p l target) = recall-goes p l target
+  moving-sound-at (load text) = load-goes text
   moving-sound-at checkpoint = let r = refused checkpoint (refusal (checkpointCallRows st img)) _ _ (sym (row-at (checkpointCallRows st img) 2 (omega arith) (valid-row, (fits-row, tt)) pending-row)) in record { right = tt; sizes = r .sizes; between = r .between }
   moving-sound-at free = let r = refused free (refusal (freeCallRows st img)) _ _ (sym (row-at (freeCallRows st img) 2 (omega arith) (valid-row, (fits-row, tt)) pending-row)) in record { right = tt; sizes = r .sizes; between = r .between }
   moving-sound-at (begin w) = let r = refused (begin w) (refusal (beginRows st w)) _ _ (sym (row-at (beginRows st w) 1 (omega arith) (valid-row, tt) pending-row)) in record { right = tt; sizes = r .sizes; between = r .between }
@@ -191,7 +206,7 @@ module _ {past : List ℕ} (v : World) (b : Reference) (M : Moving past (v .st) 
   moving-sound-at (withdraw w) = let r = refused (withdraw w) (refusal (confirmCallRows st img w)) _ _ (sym (row-at (confirmCallRows st img w) 2 (omega arith) (valid-row, (fits-row, tt)) pending-row)) in record { right = tt; sizes = r .sizes; between = r .between }
   moving-sound-at (consolidate p) = let r = refused (consolidate p) (refusal (consolidateCallRows st img p)) _ _ (sym (row-at (consolidateCallRows st img p) 2 (omega arith) (valid-row, (fits-row, tt)) pending-row)) in record { right = tt; sizes = r .sizes; between = r .between }
   moving-sound-at (write w p l o n bytes) = let r = refused (write w p l o n bytes) (refusal (writeCallRows st img w p l o n bytes)) _ _ (sym (row-at (writeCallRows st img w p l o n bytes) 2 (omega arith) (valid-row, (fits-row, tt)) pending-row)) in record { right = tt; sizes = r .sizes; between = r .between }
-  moving-sound-at (event k m a) = let r = refused (event k m a) (refusal (eventCallRows st img k m a)) _ _ (sym (row-at (eventCallRows st img k m a) 2 (omega arith) (valid-row, (fits-row, tt)) pending-row)) in record { right = tt; sizes = r .sizes; between = r .between }
+  moving-sound-at (event ms k m a) = let r = refused (event ms k m a) (refusal (eventCallRows st img ms k m a)) _ _ (sym (row-at (eventCallRows st img ms k m a) 2 (omega arith) (valid-row, (fits-row, tt)) pending-row)) in record { right = tt; sizes = r .sizes; between = r .between }
 
 pub moving-sound : {past : List ℕ} (c : Call) (v : World) (b : Reference) → Moving past (v .st) (v .image) b → Sounds past c v b
 moving-sound c v b M = moving-sound-at v b M c

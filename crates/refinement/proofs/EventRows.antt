@@ -4,11 +4,12 @@ use mathlib.Core.Bool.{Bool, true, false, cond}
 use mathlib.Core.List.{List}
 use mathlib.Core.Path.{_≡_, refl, sym, ap, _∙_}
 use native.Mathlib.Omega.{arith}
+use borrow.Author.Tests.{not-false}
 use Rattle.bounded.specs.Rows.{refusal}
 use Rattle.bounded.proofs.Rows.{none-apply, row-none}
 use Rattle.bounded.proofs.Tests.{row-keeps}
 use Rattle.layout.specs.declared.Sizes.{Sizes}
-use Rattle.meters.specs.Meters.{movesCredit, firstMeter, ownMeter, eventNeeds, amountBad}
+use Rattle.meters.specs.Meters.{moduliOk, movesCredit, firstMeter, ownMeter, eventNeeds, amountBad}
 use Rattle.state.specs.declared.State.{State}
 use Rattle.state.specs.declared.Op.the-variants.{Event}
 use Rattle.operations.specs.Operations.{isIdle, needs, opRows}
@@ -26,14 +27,17 @@ unfolding needs
 event-needs st k m a = refl
 
 -- a taken one's rows
-module _ (st : State) (img : List ℕ) (k m a : ℕ) (e : refusal (eventCallRows st img k m a) ≡ 0) where
+module _ (st : State) (img ms : List ℕ) (k m a : ℕ) (e : refusal (eventCallRows st img ms k m a) ≡ 0) where
   pub event-op-row : refusal (opRows st (Event k m a) (pageFrame st img 0)) ≡ 0
   event-op-row =
-      let h = none-apply (eventCallRows st img k m a) (omega arith) e .1 .1 .1 in
-      sym (row-none (opRows st (Event k m a) (pageFrame st img 0)) (h .0, (h .1 .0, (h .1 .1 .0, (h .1 .1 .1 .0, (h .1 .1 .1 .1 .0, (h .1 .1 .1 .1 .1 .0, (h .1 .1 .1 .1 .1 .1 .1 .0, tt))))))))
+      let h = none-apply (eventCallRows st img ms k m a) (omega arith) e .1 .1 .1 in
+      sym (row-none (opRows st (Event k m a) (pageFrame st img 0)) (h .0, (h .1 .1 .0, (h .1 .1 .1 .0, (h .1 .1 .1 .1 .0, (h .1 .1 .1 .1 .1 .0, (h .1 .1 .1 .1 .1 .1 .0, (h .1 .1 .1 .1 .1 .1 .1 .1 .0, tt))))))))
 
-  pub event-amount : amountBad k m (meterIn st img (firstMeter k m)) a ≡ false
-  event-amount = none-apply (eventCallRows st img k m a) (omega arith) e .1 .1 .1 .1 .1 .1 .1 .1 .1 .0
+  pub event-amount : amountBad ms k m (meterIn st img (firstMeter k m)) a ≡ false
+  event-amount = none-apply (eventCallRows st img ms k m a) (omega arith) e .1 .1 .1 .1 .1 .1 .1 .1 .1 .1 .0
+
+  pub event-moduli : moduliOk ms ≡ true
+  event-moduli = not-false (moduliOk ms) (none-apply (eventCallRows st img ms k m a) (omega arith) e .1 .1 .1 .1 .0)
 
 -- its sizes
 pub line-sizes : (s : State) (l : ℕ) (words : List ℕ) (f : ℕ) → lineDone s l words f .sizes ≡ s .sizes

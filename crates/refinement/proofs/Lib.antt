@@ -45,6 +45,7 @@ pub mod ReadCall
 pub mod Mounted
 pub mod MountCall
 pub mod RecallCall
+pub mod LoadCall
 pub mod Start
 pub mod Asked
 pub mod Rewritten
@@ -93,6 +94,7 @@ pub mod PageFrame
 pub mod NeverRefused
 pub mod Totals
 pub mod MetersAddUp
+pub mod FixedEvent
 pub mod CommitWhole
 pub mod CheckpointRoom
 pub mod Refused

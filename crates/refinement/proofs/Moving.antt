@@ -28,12 +28,12 @@ use Rattle.refinement.proofs.Steps.{store-of, completed-made}
 
 -- ---- the reference machine with the event's lines among writer 1's unfinished writes
 
-module _ (k m a : ℕ) (b : Reference) where
+module _ (ms : List ℕ) (k m a : ℕ) (b : Reference) where
   abbrev pub firstBytes : List ℕ
-  firstBytes = bytesOf 8 (firstNumber k m (meterOn b (firstMeter k m)) a)
+  firstBytes = bytesOf 8 (firstNumber ms k m (meterOn b (firstMeter k m)) a)
 
   abbrev pub ownBytes : List ℕ
-  ownBytes = bytesOf 8 (rolled (ownMeter k m) (meterOn b (ownMeter k m)) a)
+  ownBytes = bytesOf 8 (rolled ms (ownMeter k m) (meterOn b (ownMeter k m)) a)
 
   abbrev pub firstBook : Reference
   firstBook = written 1 0 (firstMeter k m) 0 8 firstBytes b
@@ -51,12 +51,12 @@ module _ (k m a : ℕ) (b : Reference) where
   secondTask = writing 1 0 (ownMeter k m) 0 8 ownBytes
 
 -- what the finished lines are, and that the amount was taken
-pub record Facts (line second : List ℕ) (b : Reference) (k m a : ℕ) : Type 0 where
-  pub first-line : line ≡ lineWords (readLine (firstBook k m a b) 1 0 (firstMeter k m))
-  pub second-line : movesCredit k ≡ true → second ≡ lineWords (readLine (written 1 0 (ownMeter k m) 0 8 (ownBytes k m a b) b) 1 0 (ownMeter k m))
+pub record Facts (line second : List ℕ) (b : Reference) (ms : List ℕ) (k m a : ℕ) : Type 0 where
+  pub first-line : line ≡ lineWords (readLine (firstBook ms k m a b) 1 0 (firstMeter k m))
+  pub second-line : movesCredit k ≡ true → second ≡ lineWords (readLine (written 1 0 (ownMeter k m) 0 8 (ownBytes ms k m a b) b) 1 0 (ownMeter k m))
   pub first-bytes : Bytes (readLine b 1 0 (firstMeter k m))
   pub own-bytes : Bytes (readLine b 1 0 (ownMeter k m))
-  pub amount : amountBad k m (meterOn b (firstMeter k m)) a ≡ false
+  pub amount : amountBad ms k m (meterOn b (firstMeter k m)) a ≡ false
 
 -- ---- an operation of the transaction, with j of its stores made
 
@@ -104,13 +104,14 @@ abbrev pub commitAsked : State → ℕ → ℕ → State
 commitAsked st k m = withPending (linesDone st k m) (Commit 1) (replicate 8 0) 0
 
 -- the operation of the transaction that goes on, with its j stores
-pub data Stage (past : List ℕ) (st : State) (img : List ℕ) (b : Reference) (k m a : ℕ) : Type 0 where
-  in-first : (j : ℕ) → st .pending .made ≡ j → Under past (firstAsked st k m) img (firstTask k m a b) b j → Stage past st img b k m a
-  in-second : (j : ℕ) → movesCredit k ≡ true → st .pending .made ≡ 8 + j → Under past (secondAsked st k m) img (secondTask k m a b) (firstBook k m a b) j
-      → Stage past st img b k m a
-  in-commit : (j : ℕ) → st .pending .made ≡ lineStores k + j → Under past (commitAsked st k m) img (committing 1) (linesBook k m a b) j → Stage past st img b k m a
+pub data Stage (past : List ℕ) (st : State) (img : List ℕ) (b : Reference) (ms : List ℕ) (k m a : ℕ) : Type 0 where
+  in-first : (j : ℕ) → st .pending .made ≡ j → Under past (firstAsked st k m) img (firstTask ms k m a b) b j → Stage past st img b ms k m a
+  in-second : (j : ℕ) → movesCredit k ≡ true → st .pending .made ≡ 8 + j → Under past (secondAsked st k m) img (secondTask ms k m a b) (firstBook ms k m a b) j
+      → Stage past st img b ms k m a
+  in-commit : (j : ℕ) → st .pending .made ≡ lineStores k + j → Under past (commitAsked st k m) img (committing 1) (linesBook ms k m a b) j → Stage past st img b ms k m a
 
 pub record Moving (past : List ℕ) (st : State) (img : List ℕ) (b : Reference) : Type 0 where
+  pub moduli : List ℕ
   pub kind : ℕ
   pub meter : ℕ
   pub amount : ℕ
@@ -121,6 +122,6 @@ pub record Moving (past : List ℕ) (st : State) (img : List ℕ) (b : Reference
   pub sixty-four : length (st .writers .held) ≡ 64
   -- writer 1, who is closed, has no unfinished writes
   pub no-writes : (p l i : ℕ) → p < st .sizes .pages → l < 64 → i < 64 → b .writes 1 p l i ≡ none
-  pub facts : Facts (st .pending .line) (st .pending .second) b kind meter amount
-  pub work : b .work ≡ under (moving kind meter amount) (eventNeeds kind - st .pending .made)
-  pub stage : Stage past st img (withWork idle b) kind meter amount
+  pub facts : Facts (st .pending .line) (st .pending .second) b moduli kind meter amount
+  pub work : b .work ≡ under (moving moduli kind meter amount) (eventNeeds kind - st .pending .made)
+  pub stage : Stage past st img (withWork idle b) moduli kind meter amount

@@ -16,8 +16,8 @@ use Rattle.validity.specs.Validity.{stateOk}
 use Rattle.operations.proofs.Taken.{args-good}
 use Rattle.refinement.specs.Frames.{pageFrame}
 use Rattle.refinement.specs.Stores.{World}
-use Rattle.refinement.specs.Calls.{beginRows, beginOf, abortRows, abortOf, writeCallRows, writeOf, commitCallRows, commitOf, prepareOf, confirmCallRows, confirmOf, withdrawOf, consolidateCallRows, consolidateOf, freeCallRows, freeOf, checkpointCallRows, checkpointOf, readRows, readRow, stepRows, stepOf, runOf, eventCallRows, eventOf}
-use Rattle.refinement.specs.Run.{Call, mount, checkpoint, free, step, begin, abort, commit, prepare, confirm, withdraw, consolidate, run, write, read, recall, exec, event}
+use Rattle.refinement.specs.Calls.{beginRows, beginOf, abortRows, abortOf, writeCallRows, writeOf, commitCallRows, commitOf, prepareOf, confirmCallRows, confirmOf, withdrawOf, consolidateCallRows, consolidateOf, freeCallRows, freeOf, checkpointCallRows, checkpointOf, readRows, readRow, stepRows, stepOf, runOf, eventCallRows, eventOf, loadRows, loadOf}
+use Rattle.refinement.specs.Run.{Call, mount, checkpoint, free, step, begin, abort, commit, prepare, confirm, withdraw, consolidate, run, write, read, recall, exec, event, load}
 use Rattle.refinement.specs.Beside.{broken, NeverRefused}
 use Rattle.refinement.specs.Reference.{Reference}
 use Rattle.refinement.proofs.Copies.{durable-fits, names-once}
@@ -59,7 +59,7 @@ module _ {past : List ℕ} (v : World) (b : Reference) (ok : stateOk (v .st) ≡
   confirm-kept w = lacks broken (confirmCallRows st img w) (valid, λ a. (fits, λ c. (refl, λ d. (refl, λ e. (refl, λ f. refl)))))
 
   pub call-kept : (c : Call) → broken (exec c v .number) ≡ false
-  unfolding exec beginOf abortOf writeOf commitOf prepareOf confirmOf withdrawOf consolidateOf freeOf checkpointOf eventOf readRow stepOf runOf
+  unfolding exec beginOf abortOf writeOf commitOf prepareOf confirmOf withdrawOf consolidateOf freeOf checkpointOf eventOf loadOf readRow stepOf runOf
   call-kept mount = ap broken (mount-taken v b ok D)
   call-kept checkpoint = lacks broken (checkpointCallRows st img) (valid, λ a. (fits, λ c. (refl, λ d. refl)))
   call-kept free = lacks broken (freeCallRows st img) (valid, λ a. (fits, λ c. (refl, λ d. (refl, λ e. (refl, λ f. (refl, λ g. refl))))))
@@ -77,9 +77,10 @@ module _ {past : List ℕ} (v : World) (b : Reference) (ok : stateOk (v .st) ≡
       (valid, λ a. (fits, λ c. (refl, λ d. (refl, λ e. (refl, λ f. (refl, λ g. (refl, λ i. (refl, λ j. (refl, λ x. (frame p (args-good (st .sizes) w p l o n f .page-low), λ k. refl))))))))))
   call-kept (read w p l target) = lacks broken (readRows st img w p l target) (valid, λ a. (fits, λ c. (refl, λ d. (refl, λ e. (frame p (read-args st w p l target e .1), λ f. refl)))))
   call-kept (recall p l target) = ⊎-elim (λ e. ap broken e) (λ e. ap broken e) (recall-answer st img b ok D p l target)
-  call-kept (event k m a) =
-      lacks broken (eventCallRows st img k m a)
-      (valid, λ a. (fits, λ c. (refl, λ d. (refl, λ e. (refl, λ f. (refl, λ x. (refl, λ g. (refl, λ i. (frame 0 page, λ j. (refl, λ n. (refl, λ o. refl)))))))))))
+  call-kept (event ms k m a) =
+      lacks broken (eventCallRows st img ms k m a)
+      (valid, λ a. (fits, λ c. (refl, λ d. (refl, λ e. (refl, λ f. (refl, λ g. (refl, λ i. (refl, λ j. (refl, λ n. (frame 0 page, λ o. (refl, λ p. (refl, λ q. refl))))))))))))
+  call-kept (load text) = lacks broken (loadRows st img text) (valid, λ a. (fits, λ c. (refl, λ d. (refl, λ e. (refl, λ f. (frame 0 page, λ g. (refl, λ i. refl)))))))
 
 pub never-refused : NeverRefused
 never-refused = always _ (λ z buffer v b h. call-kept v b (between-valid v b (h .related)) (between-durable v b (h .related)))

@@ -8,10 +8,10 @@ use borrow.Author.Tests.{ne-eqb}
 use Rattle.state.specs.declared.State.{State}
 use Rattle.refinement.specs.Stores.{World}
 use Rattle.refinement.specs.Outcome.{answered}
-use Rattle.refinement.specs.Calls.{beginOf, abortOf, writeOf, commitOf, prepareOf, confirmOf, withdrawOf, consolidateOf, freeOf, checkpointOf, eventOf, readBytes, stepOf, stepBytes, runOf, runBytes}
+use Rattle.refinement.specs.Calls.{beginOf, abortOf, writeOf, commitOf, prepareOf, confirmOf, withdrawOf, consolidateOf, freeOf, checkpointOf, eventOf, loadOf, readBytes, stepOf, stepBytes, runOf, runBytes}
 use Rattle.refinement.specs.Mount.{mountCall}
 use Rattle.refinement.specs.Recall.{recallBytes}
-use Rattle.refinement.specs.Run.{Call, result, mount, checkpoint, free, step, begin, abort, commit, prepare, confirm, withdraw, consolidate, run, write, read, recall, event, exec}
+use Rattle.refinement.specs.Run.{Call, result, mount, checkpoint, free, step, begin, abort, commit, prepare, confirm, withdraw, consolidate, run, write, read, recall, event, load, exec}
 use Rattle.refinement.specs.Refused.{Unchanged, RefusedUnchanged}
 
 -- either of two, by a number that is not 0
@@ -27,7 +27,7 @@ plain : (row n : ℕ) (after : State) (img : List ℕ) (v : World) → (row ≡ 
 plain row n after img v h e = record { world = world v _ _ (kept row after (v .st) h) e; stores = kept row n 0 h; target-kept = refl }
 
 pub refused-unchanged : RefusedUnchanged
-unfolding exec beginOf abortOf writeOf commitOf prepareOf confirmOf withdrawOf consolidateOf freeOf checkpointOf eventOf readBytes stepOf stepBytes runOf runBytes mountCall recallBytes
+unfolding exec beginOf abortOf writeOf commitOf prepareOf confirmOf withdrawOf consolidateOf freeOf checkpointOf eventOf loadOf readBytes stepOf stepBytes runOf runBytes mountCall recallBytes
 refused-unchanged (begin w) v h = plain _ _ _ _ v h refl
 refused-unchanged (abort w) v h = plain _ _ _ _ v h refl
 refused-unchanged (commit w) v h = plain _ _ _ _ v h refl
@@ -36,7 +36,7 @@ refused-unchanged (confirm w) v h = plain _ _ _ _ v h refl
 refused-unchanged (withdraw w) v h = plain _ _ _ _ v h refl
 refused-unchanged (consolidate p) v h = plain _ _ _ _ v h refl
 refused-unchanged (write w p l o m bytes) v h = plain _ _ _ _ v h refl
-refused-unchanged (event k m a) v h = plain _ _ _ _ v h refl
+refused-unchanged (event ms k m a) v h = plain _ _ _ _ v h refl
 refused-unchanged free v h = plain _ _ _ _ v h refl
 refused-unchanged checkpoint v h = plain _ _ _ _ v h refl
 refused-unchanged step v h = plain _ _ _ _ v h (kept _ _ _ h)
@@ -44,3 +44,4 @@ refused-unchanged (run k) v h = plain _ _ _ _ v h (kept _ _ _ h)
 refused-unchanged mount v h = record { world = world v _ _ (kept _ _ _ h) refl; stores = kept _ _ _ h; target-kept = refl }
 refused-unchanged (read w p l target) v h = record { world = refl; stores = refl; target-kept = kept _ _ _ h }
 refused-unchanged (recall p l target) v h = record { world = refl; stores = refl; target-kept = kept _ _ _ h }
+refused-unchanged (load text) v h = record { world = refl; stores = refl; target-kept = kept _ _ _ h }

@@ -4,21 +4,24 @@ use mathlib.Core.Bool.{Bool, true, _&&_, _||_, not, cond}
 use mathlib.Core.List.{List, [], _∷_, _++_}
 use lib.Dec.{ltb, leb, eqb}
 use lib.ListN.{length, set, replicate}
+use Rattle.bounded.specs.Below.{someBelow}
 use Rattle.bounded.specs.Rows.{Row, refusal}
 use Rattle.layout.specs.Layout.{imageLength}
 use Rattle.image.specs.Lines.{lineBytes, merged, mergeChanges, lineWords}
-use Rattle.words.specs.Words.{over, bytesOf, wordAt}
-use Rattle.meters.specs.Meters.{movesCredit, firstMeter, ownMeter, eventNeeds, rolled, firstNumber, amountBad}
+use Rattle.words.specs.Words.{over, bytesOf, word, wordAt}
+use Rattle.meters.specs.Meters.{moduliOk, modulusOf, eventKnown, movesCredit, firstMeter, ownMeter, eventNeeds, rolled, firstNumber, amountBad}
+use Rattle.moduli_text.specs.Text.{textRow, moduliIn}
 use Rattle.state.specs.declared.State.{State}
 use Rattle.state.specs.declared.Writers.{Writers}
 use Rattle.state.specs.declared.Op.{Op}
 use Rattle.state.specs.declared.Op.the-variants.{Idle, Write, Commit, Consolidate, Checkpoint, Event, Prepare, Confirm}
 use Rattle.state.specs.Held.{isOpen, noWriter, somePrepared}
-use Rattle.operations.specs.Operations.{isIdle, slotFor, frameBad, journalFull, writeRows, commitRows, confirmRows, consolidateRows, needs, eventFirstRows}
+use Rattle.operations.specs.Operations.{isIdle, slotFor, frameBad, journalFull, writeRows, commitRows, confirmRows, consolidateRows, needs, eventNextRows}
 use Rattle.validity.specs.Validity.{stateOk}
 use Rattle.refinement.specs.Settled.{withPrepared, withLines}
 use Rattle.refinement.specs.Commit.{closedWriter}
 use Rattle.refinement.specs.Frames.{pageFrame, seenFrame, holds}
+use Rattle.refinement.specs.Recall.{frameOf}
 use Rattle.refinement.specs.Freeing.{freedSlot, freedPage}
 use Rattle.refinement.specs.Stores.{World, completed, stepped, steppedBy, left}
 use Rattle.refinement.specs.Outcome.{Outcome, answered}
@@ -135,7 +138,7 @@ checkpointCallRows st img = rowState st ∷ rowShort st (length img) ∷ rowPend
 unfoldable pub checkpointOf : State → List ℕ → Outcome
 checkpointOf st img = asked (refusal (checkpointCallRows st img)) st Checkpoint (replicate 8 0) 0
 
--- ---- events (document 02, L2)
+-- ---- events (document 02, L2 and L10), lent the moduli ms
 
 -- the stored number of meter m as writer 1, who is closed, reads it; and its finished line, with number v
 abbrev pub meterIn : State → List ℕ → ℕ → ℕ
@@ -145,24 +148,51 @@ abbrev pub meterLine : State → List ℕ → ℕ → ℕ → List ℕ
 meterLine st img m v = finishedLine st img 1 0 m 0 8 (bytesOf 8 v)
 
 -- the two finished lines of an event: credit's first; a count has one
-abbrev pub eventLine : State → List ℕ → ℕ → ℕ → ℕ → List ℕ
-eventLine st img k m a = meterLine st img (firstMeter k m) (firstNumber k m (meterIn st img (firstMeter k m)) a)
+abbrev pub eventLine : State → List ℕ → List ℕ → ℕ → ℕ → ℕ → List ℕ
+eventLine st img ms k m a = meterLine st img (firstMeter k m) (firstNumber ms k m (meterIn st img (firstMeter k m)) a)
 
-abbrev pub eventSecond : State → List ℕ → ℕ → ℕ → ℕ → List ℕ
-eventSecond st img k m a =
-    cond (movesCredit k) (meterLine st img (ownMeter k m) (rolled (ownMeter k m) (meterIn st img (ownMeter k m)) a)) (replicate 8 0)
+abbrev pub eventSecond : State → List ℕ → List ℕ → ℕ → ℕ → ℕ → List ℕ
+eventSecond st img ms k m a =
+    cond (movesCredit k) (meterLine st img (ownMeter k m) (rolled ms (ownMeter k m) (meterIn st img (ownMeter k m)) a)) (replicate 8 0)
 
--- 20, 12, 23, 14, 15, 16, then 21, then 19
-abbrev pub eventCallRows : State → List ℕ → ℕ → ℕ → ℕ → List Row
-eventCallRows st img k m a =
+-- 20, 26 (not 24 moduli in the range), 12, 23, 14, 15, 16, then 21, then 19
+abbrev pub eventCallRows : State → List ℕ → List ℕ → ℕ → ℕ → ℕ → List Row
+eventCallRows st img ms k m a =
     rowState st ∷ rowShort st (length img) ∷ rowPending st
-    ∷ (eventFirstRows st k m (pageFrame st img 0) ++ ((amountBad k m (meterIn st img (firstMeter k m)) a, 21) ∷ (journalFull st 1, 19) ∷ []))
+    ∷ (not (eventKnown k m), 20)
+    ∷ (not (moduliOk ms), 26)
+    ∷ (eventNextRows st k m (pageFrame st img 0) ++ ((amountBad ms k m (meterIn st img (firstMeter k m)) a, 21) ∷ (journalFull st 1, 19) ∷ []))
 
 -- an event needs stores always
-unfoldable pub eventOf : State → List ℕ → ℕ → ℕ → ℕ → Outcome
-eventOf st img k m a =
-    answered (refusal (eventCallRows st img k m a)) st (eventNeeds k)
-    (withLines st (Event k m a) (eventLine st img k m a) (eventSecond st img k m a) (pageFrame st img 0))
+unfoldable pub eventOf : State → List ℕ → List ℕ → ℕ → ℕ → ℕ → Outcome
+eventOf st img ms k m a =
+    answered (refusal (eventCallRows st img ms k m a)) st (eventNeeds k)
+    (withLines st (Event k m a) (eventLine st img ms k m a) (eventSecond st img ms k m a) (pageFrame st img 0))
+
+-- ---- load (document 02, L10): a text's moduli, for events to be lent
+
+-- the stored number of meter m: that of its line's committed copy
+abbrev pub meterStored : State → List ℕ → ℕ → ℕ
+meterStored st img m = wordAt (lineBytes img (st .sizes) (frameOf (word img) (st .sizes) (st .table) 0 m) m) 0
+
+-- 25 and 26 line by line; 16: page 0, whose meters are read then; 27: a stored meter is not below its new modulus
+abbrev pub loadRows : State → List ℕ → List ℕ → List Row
+loadRows st img text =
+    rowState st ∷ rowShort st (length img) ∷ rowPending st
+    ∷ (eqb (textRow text) 25, 25)
+    ∷ (eqb (textRow text) 26, 26)
+    ∷ (frameBad (st .sizes) (st .table .page) (st .table .original) (st .table .spare) (slotFor st 0) (pageFrame st img 0), 16)
+    ∷ (someBelow 24 (λ m. leb (modulusOf (moduliIn text) m) (meterStored st img m)), 27)
+    ∷ []
+
+-- its number and the moduli; a refused one gives 24 zeros, which no event takes
+pub record Loading : Type 0 where
+  pub number : ℕ
+  pub moduli : List ℕ
+
+unfoldable pub loadOf : State → List ℕ → List ℕ → Loading
+loadOf st img text =
+    let row = refusal (loadRows st img text) in record { number = row; moduli = cond (eqb row 0) (moduliIn text) (replicate 24 0) }
 
 -- ---- read: the number, and the target after it
 

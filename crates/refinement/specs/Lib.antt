@@ -20,3 +20,4 @@ pub mod Demand
 pub mod Freed
 pub mod Before
 pub mod Totals
+pub mod FixedEvent

@@ -7,7 +7,7 @@ use mathlib.Core.List.{List}
 use lib.Dec.{ltb, leb, eqb}
 use lib.ListN.{getD}
 use Rattle.bounded.specs.Tab.{tab}
-use Rattle.refinement.specs.Run.{Call, mount, checkpoint, free, step, begin, abort, commit, prepare, confirm, withdraw, consolidate, run, write, read, recall, event}
+use Rattle.refinement.specs.Run.{Call, mount, checkpoint, free, step, begin, abort, commit, prepare, confirm, withdraw, consolidate, run, write, read, recall, event, load}
 use Rattle.words.specs.Words.{bytesOf, wordAt}
 use Rattle.meters.specs.Meters.{movesCredit, firstMeter, ownMeter, rolled, firstNumber}
 
@@ -25,8 +25,8 @@ pub data Task : Type 0 where
   -- writer, page, line, offset, length, data
   writing : ℕ → ℕ → ℕ → ℕ → ℕ → List ℕ → Task
   committing : ℕ → Task
-  -- an event: kind, meter, amount
-  moving : ℕ → ℕ → ℕ → Task
+  -- an event: the moduli, kind, meter, amount
+  moving : List ℕ → ℕ → ℕ → ℕ → Task
   nothing : Task
 
 pub data Work : Type 0 where
@@ -83,17 +83,17 @@ withMeter m v b =
     record { pages = λ p l i. cond (eqb p 0 && eqb l m && ltb i 8) (getD (bytesOf 8 v) i 0) (b .pages p l i); writes = b .writes; work = b .work }
 
 -- an event moves its meters on the pages
-abbrev pub firstMoved : ℕ → ℕ → ℕ → Reference → Reference
-firstMoved k m a b = withMeter (firstMeter k m) (firstNumber k m (meterOn b (firstMeter k m)) a) b
+abbrev pub firstMoved : List ℕ → ℕ → ℕ → ℕ → Reference → Reference
+firstMoved ms k m a b = withMeter (firstMeter k m) (firstNumber ms k m (meterOn b (firstMeter k m)) a) b
 
-abbrev pub moved : ℕ → ℕ → ℕ → Reference → Reference
-moved k m a b =
-    cond (movesCredit k) (withMeter (ownMeter k m) (rolled (ownMeter k m) (meterOn b (ownMeter k m)) a) (firstMoved k m a b)) (firstMoved k m a b)
+abbrev pub moved : List ℕ → ℕ → ℕ → ℕ → Reference → Reference
+moved ms k m a b =
+    cond (movesCredit k) (withMeter (ownMeter k m) (rolled ms (ownMeter k m) (meterOn b (ownMeter k m)) a) (firstMoved ms k m a b)) (firstMoved ms k m a b)
 
 abbrev pub does : Task → Reference → Reference
 does (writing w p l o n bytes) b = written w p l o n bytes b
 does (committing w) b = emptied w (laid w b)
-does (moving k m a) b = moved k m a b
+does (moving ms k m a) b = moved ms k m a b
 does nothing b = b
 
 -- an operation that needs no stores is completed when taken
@@ -127,7 +127,8 @@ taken (run k) n b = advances k (b .work) b
 taken (write w p l o m bytes) n b = starts (writing w p l o m bytes) n b
 taken (read w p l target) n b = b
 taken (recall p l target) n b = b
-taken (event k m a) n b = starts (moving k m a) n b
+taken (event ms k m a) n b = starts (moving ms k m a) n b
+taken (load text) n b = b
 
 -- a refused call changes nothing
 abbrev pub turn : Call → ℕ → ℕ → Reference → Reference

@@ -2,10 +2,11 @@
 use Prim.Native.Nat.{ℕ}
 use mathlib.Core.List.{List, []}
 use mathlib.Core.Path.{_≡_}
+use lib.ListN.{replicate}
 use Rattle.refinement.specs.Stores.{World}
-use Rattle.refinement.specs.Run.{Call, Result, mount, checkpoint, free, step, begin, abort, commit, prepare, confirm, withdraw, consolidate, run, write, read, recall, event, exec}
+use Rattle.refinement.specs.Run.{Call, Result, mount, checkpoint, free, step, begin, abort, commit, prepare, confirm, withdraw, consolidate, run, write, read, recall, event, load, exec}
 
--- the target that a read or a recall is lent; no other call has one
+-- the target that a read or a recall is lent, and of a load the moduli that a refused one gives; no other call has one
 abbrev pub targetOf : Call → List ℕ
 targetOf (read w p l target) = target
 targetOf (recall p l target) = target
@@ -22,7 +23,8 @@ targetOf (withdraw w) = []
 targetOf (consolidate p) = []
 targetOf (run k) = []
 targetOf (write w p l o n bytes) = []
-targetOf (event k m a) = []
+targetOf (event ms k m a) = []
+targetOf (load text) = replicate 24 0
 
 -- of what a call came to: the state and the image as they were, no store, the target as it was lent
 pub record Unchanged (d : Result) (v : World) (target : List ℕ) : Type 0 where

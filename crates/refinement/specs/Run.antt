@@ -8,7 +8,7 @@ use Rattle.fresh.specs.Fresh.{formatBytes}
 use Rattle.state.specs.declared.State.{State}
 use Rattle.refinement.specs.Stores.{World}
 use Rattle.refinement.specs.Outcome.{Outcome}
-use Rattle.refinement.specs.Calls.{beginOf, abortOf, writeOf, commitOf, prepareOf, confirmOf, withdrawOf, consolidateOf, freeOf, checkpointOf, readRow, readBytes, stepOf, stepBytes, runOf, runBytes, eventOf}
+use Rattle.refinement.specs.Calls.{beginOf, abortOf, writeOf, commitOf, prepareOf, confirmOf, withdrawOf, consolidateOf, freeOf, checkpointOf, readRow, readBytes, stepOf, stepBytes, runOf, runBytes, eventOf, loadOf}
 use Rattle.refinement.specs.Mount.{mountCall, formatCall}
 use Rattle.refinement.specs.Recall.{recallRow, recallBytes}
 
@@ -22,10 +22,12 @@ pub data Call : Type 0 where
   read : ℕ → ℕ → ℕ → List ℕ → Call
   -- page, line, the target's bytes
   recall : ℕ → ℕ → List ℕ → Call
-  -- kind, meter, amount
-  event : ℕ → ℕ → ℕ → Call
+  -- the moduli lent, kind, meter, amount
+  event : List ℕ → ℕ → ℕ → ℕ → Call
+  -- the text of the moduli
+  load : List ℕ → Call
 
--- the number and the stores of a call's answer, the world after it, and the target after it
+-- the number and the stores of a call's answer, the world after it, and the target after it, of a load the moduli
 pub record Result : Type 0 where
   pub number : ℕ
   pub stores : ℕ
@@ -58,7 +60,8 @@ exec (read w p l target) v =
     record { number = readRow (v .st) (v .image) w p l target; stores = 0; world = v; target = readBytes (v .st) (v .image) w p l target }
 exec (recall p l target) v =
     record { number = recallRow (v .image) p l target; stores = 0; world = v; target = recallBytes (v .image) p l target }
-exec (event k m a) v = result (eventOf (v .st) (v .image) k m a) (v .image)
+exec (event ms k m a) v = result (eventOf (v .st) (v .image) ms k m a) (v .image)
+exec (load text) v = let o = loadOf (v .st) (v .image) text in record { number = o .number; stores = 0; world = v; target = o .moduli }
 
 -- where a format leaves the bytes lent and the state
 abbrev pub formattedWorld : Sizes → List ℕ → World

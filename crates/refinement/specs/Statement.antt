@@ -1,6 +1,6 @@
 -- Demand 3, the statement. For every list of calls on a freshly formatted buffer, refused calls included, and with a mount (which stands for
 -- a power cut) after any call, the store and the reference machine agree at every call.
-use Prim.Native.Nat.{ℕ, _≤_}
+use Prim.Native.Nat.{ℕ, _<_, _≤_}
 use mathlib.Core.Bool.{true}
 use mathlib.Core.List.{List, [], _∷_}
 use mathlib.Core.Logic.{_⊎_}
@@ -9,14 +9,16 @@ use lib.ListN.{length, drop}
 use Rattle.layout.specs.declared.Sizes.{Sizes}
 use Rattle.layout.specs.Layout.{sizesOk, imageLength}
 use Rattle.words.specs.Words.{Bytes, over}
+use Rattle.meters.specs.Meters.{modulusOf}
 use Rattle.refinement.specs.Stores.{World}
-use Rattle.refinement.specs.Run.{Call, Result, mount, checkpoint, free, step, begin, abort, commit, prepare, confirm, withdraw, consolidate, run, write, read, recall, exec, formattedWorld, event}
-use Rattle.refinement.specs.Reference.{Reference, blank, turn, readLine, recallLine}
+use Rattle.refinement.specs.Run.{Call, Result, mount, checkpoint, free, step, begin, abort, commit, prepare, confirm, withdraw, consolidate, run, write, read, recall, exec, formattedWorld, event, load}
+use Rattle.refinement.specs.Reference.{Reference, blank, turn, readLine, recallLine, meterOn}
 
 -- what one call must answer, b being the reference machine before it:
 -- a taken read's target starts with the reference machine's 64 bytes, and the rest of it is unchanged;
 -- every mount is taken;
--- a recall is taken, or its number is 11, and a taken one's target starts with the 64 bytes of the pages
+-- a recall is taken, or its number is 11, and a taken one's target starts with the 64 bytes of the pages;
+-- of a taken load each meter of the pages is below its modulus
 abbrev pub Right : Call → Result → Reference → Type 0
 Right mount d b = d .number ≡ 0
 Right (read w p l target) d b = d .number ≡ 0 → d .target ≡ over target 0 (readLine b w p l)
@@ -34,7 +36,8 @@ Right (withdraw w) d b = Unit
 Right (consolidate p) d b = Unit
 Right (run k) d b = Unit
 Right (write w p l o n bytes) d b = Unit
-Right (event k m a) d b = Unit
+Right (event ms k m a) d b = Unit
+Right (load text) d b = d .number ≡ 0 → (m : ℕ) → m < 24 → meterOn b m < modulusOf (d .target) m
 
 -- the data of a write are bytes, as those of a lent buffer are
 abbrev pub Lent : Call → Type 0
@@ -53,7 +56,8 @@ Lent (consolidate p) = Unit
 Lent (run k) = Unit
 Lent (read w p l target) = Unit
 Lent (recall p l target) = Unit
-Lent (event k m a) = Unit
+Lent (event ms k m a) = Unit
+Lent (load text) = Unit
 
 -- in every call of a list
 abbrev pub AllLent : List Call → Type 0

@@ -107,11 +107,11 @@ both : (s a b : Bool) → (s && a) || (s && b) ≡ true → (s ≡ true) × (a |
 both true a b e = (refl, e)
 both false a b e = contradicts e refl
 
-pub event-met : (st : State) (img : List ℕ) (k m a : ℕ) → refusal (eventCallRows st img k m a) ≡ 14
+pub event-met : (st : State) (img ms : List ℕ) (k m a : ℕ) → refusal (eventCallRows st img ms k m a) ≡ 14
     → Lowest (λ v. holdsLine (st .writers .held) 1 (slotFor st 0) (firstMeter k m) v || holdsLine (st .writers .held) 1 (slotFor st 0) (ownMeter k m) v) (eventHolder st k m)
 unfolding othersHold eventHolder
-event-met st img k m a e =
-    let s = stopped (eventCallRows st img k m a) 6 14 refl e in
+event-met st img ms k m a e =
+    let s = stopped (eventCallRows st img ms k m a) 7 14 refl e in
     let f = holdsLine (st .writers .held) 1 (slotFor st 0) (firstMeter k m) in
     let g = holdsLine (st .writers .held) 1 (slotFor st 0) (ownMeter k m) in
     let h = both (slotted st 0) (someBelow 4 f) (someBelow 4 g) (s .applies) in

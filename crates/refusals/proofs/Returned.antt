@@ -13,9 +13,9 @@ use Rattle.words.specs.Words.{word}
 use Rattle.mount.specs.Mount.{mountRows}
 use Rattle.fresh.specs.Fresh.{formatRows}
 use Rattle.state.specs.declared.State.{State}
-use Rattle.refinement.specs.Calls.{beginRows, abortRows, writeCallRows, commitCallRows, confirmCallRows, consolidateCallRows, freeCallRows, checkpointCallRows, readRows, stepRows, eventCallRows}
+use Rattle.refinement.specs.Calls.{beginRows, abortRows, writeCallRows, commitCallRows, confirmCallRows, consolidateCallRows, freeCallRows, checkpointCallRows, readRows, stepRows, eventCallRows, loadRows}
 use Rattle.refinement.specs.Recall.{recallRows}
-use Rattle.wording.specs.Calls.{format, mount, recall, begin, abort, write, commit, consolidate, checkpoint, read, step, run, freeSlot, event, prepare, confirm, withdraw, numberCount, places, oneMore, oneOf, standsIn, canReturn}
+use Rattle.wording.specs.Calls.{format, mount, recall, begin, abort, write, commit, consolidate, checkpoint, read, step, run, freeSlot, event, load, prepare, confirm, withdraw, numberCount, places, oneMore, oneOf, standsIn, canReturn}
 
 abbrev numbersOf : List Row → List ℕ
 numbersOf [] = []
@@ -123,6 +123,10 @@ module _ (st : State) (img : List ℕ) where
   unfolding canReturn standsIn places oneOf oneMore allBelow
   free-returns = returns freeSlot (freeCallRows st img) refl refl
 
-  pub event-returns : (k m a : ℕ) → Returns event (eventCallRows st img k m a)
+  pub event-returns : (ms : List ℕ) (k m a : ℕ) → Returns event (eventCallRows st img ms k m a)
   unfolding canReturn standsIn places oneOf oneMore allBelow
-  event-returns k m a = returns event (eventCallRows st img k m a) refl refl
+  event-returns ms k m a = returns event (eventCallRows st img ms k m a) refl refl
+
+  pub load-returns : (text : List ℕ) → Returns load (loadRows st img text)
+  unfolding canReturn standsIn places oneOf oneMore allBelow
+  load-returns text = returns load (loadRows st img text) refl refl

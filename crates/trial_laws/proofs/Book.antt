@@ -51,7 +51,7 @@ idle-same b h = ap (λ (w : Work). withWork w b) h
 does-work : (t : Task) (b : Reference) → b .work ≡ idle → does t b .work ≡ idle
 does-work (writing w p l o n bytes) b h = h
 does-work (committing w) b h = h
-does-work (moving e m a) b h = caseOn (ltb e 5) (λ t. rw t h) (λ t. rw t h)
+does-work (moving ms e m a) b h = caseOn (ltb e 5) (λ t. rw t h) (λ t. rw t h)
 does-work nothing b h = h
 
 -- a task of n stores, and a run of n

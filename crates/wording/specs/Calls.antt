@@ -55,12 +55,15 @@ confirm = 15
 abbrev pub withdraw : ℕ
 withdraw = 16
 
+abbrev pub load : ℕ
+load = 17
+
 -- how many calls and numbers the tables have; a request that adds one raises these, and CALLS and NUMBERS in the code
 abbrev pub callCount : ℕ
-callCount = 17
+callCount = 18
 
 abbrev pub numberCount : ℕ
-numberCount = 25
+numberCount = 28
 
 -- ---- the places of the table
 
@@ -69,7 +72,7 @@ readers = mount ∷ recall ∷ []
 
 -- the calls that take a state and the image, but step and run
 abbrev pub askers : List ℕ
-askers = write ∷ commit ∷ consolidate ∷ checkpoint ∷ read ∷ freeSlot ∷ event ∷ prepare ∷ confirm ∷ withdraw ∷ []
+askers = write ∷ commit ∷ consolidate ∷ checkpoint ∷ read ∷ freeSlot ∷ event ∷ prepare ∷ confirm ∷ withdraw ∷ load ∷ []
 
 -- the table, row by row: the number and the calls of its place; then the rows of document 02
 unfoldable pub places : List (ℕ × List ℕ)
@@ -90,7 +93,7 @@ places =
     ∷ (13, write ∷ commit ∷ abort ∷ prepare ∷ [])
     ∷ (14, write ∷ event ∷ [])
     ∷ (15, write ∷ event ∷ [])
-    ∷ (16, write ∷ read ∷ event ∷ [])
+    ∷ (16, write ∷ read ∷ event ∷ load ∷ [])
     ∷ (17, consolidate ∷ [])
     ∷ (18, consolidate ∷ [])
     ∷ (19, commit ∷ consolidate ∷ freeSlot ∷ event ∷ prepare ∷ [])
@@ -99,6 +102,9 @@ places =
     ∷ (22, freeSlot ∷ [])
     ∷ (23, abort ∷ write ∷ commit ∷ consolidate ∷ freeSlot ∷ event ∷ prepare ∷ [])
     ∷ (24, confirm ∷ withdraw ∷ [])
+    ∷ (25, load ∷ [])
+    ∷ (26, event ∷ load ∷ [])
+    ∷ (27, load ∷ [])
     ∷ []
 
 -- whether x is one of a list, which computes to `x == y | x == z | ..`

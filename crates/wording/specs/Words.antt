@@ -35,6 +35,7 @@ names =
     ∷ codes "Prepare"
     ∷ codes "A confirm"
     ∷ codes "Withdraw"
+    ∷ codes "Load"
     ∷ []
 
 -- by number, from 0 on; 0 turns nothing back and has none
@@ -65,6 +66,9 @@ texts =
     ∷ codes "there is no taken slot without a held line"
     ∷ codes "a transaction is prepared"
     ∷ codes "the writer is not prepared"
+    ∷ codes "a line of the table is wrong"
+    ∷ codes "a modulus is out of range"
+    ∷ codes "a stored meter is not below its modulus"
     ∷ []
 
 abbrev pub nameOf : ℕ → List ℕ

@@ -41,38 +41,43 @@ pub const CONFIRM: usize = 15;
 
 pub const WITHDRAW: usize = 16;
 
-// How many calls and numbers the tables have.
-const CALLS: usize = 17;
+pub const LOAD: usize = 17;
 
-const NUMBERS: usize = 25;
+// How many calls and numbers the tables have.
+const CALLS: usize = 18;
+
+const NUMBERS: usize = 28;
 
 // A row for each number from 0 on, a column for each call: `x` where the call can return the number.
 const RETURNS: [[u8; CALLS]; NUMBERS] = [
-    *b"                 ",
-    *b" xx              ",
-    *b" xx              ",
-    *b"xxx              ",
-    *b"xxx  xxxxxxxxxxxx",
-    *b" xx              ",
-    *b" xx              ",
-    *b" xx              ",
-    *b"   xxxxxxxxxxxxxx",
-    *b"   xxxxxxx  xxxxx",
-    *b"          xx     ",
-    *b"  xxxxxx x    xxx",
-    *b"   x         x   ",
-    *b"    xxx       x  ",
-    *b"     x       x   ",
-    *b"     x       x   ",
-    *b"     x   x   x   ",
-    *b"       x         ",
-    *b"       x         ",
-    *b"      xx    xxx  ",
-    *b"             x   ",
-    *b"             x   ",
-    *b"            x    ",
-    *b"    xxxx    xxx  ",
-    *b"               xx",
+    *b"                  ",
+    *b" xx               ",
+    *b" xx               ",
+    *b"xxx               ",
+    *b"xxx  xxxxxxxxxxxxx",
+    *b" xx               ",
+    *b" xx               ",
+    *b" xx               ",
+    *b"   xxxxxxxxxxxxxxx",
+    *b"   xxxxxxx  xxxxxx",
+    *b"          xx      ",
+    *b"  xxxxxx x    xxx ",
+    *b"   x         x    ",
+    *b"    xxx       x   ",
+    *b"     x       x    ",
+    *b"     x       x    ",
+    *b"     x   x   x   x",
+    *b"       x          ",
+    *b"       x          ",
+    *b"      xx    xxx   ",
+    *b"             x    ",
+    *b"             x    ",
+    *b"            x     ",
+    *b"    xxxx    xxx   ",
+    *b"               xx ",
+    *b"                 x",
+    *b"             x   x",
+    *b"                 x",
 ];
 
 // The calls' names, each up to its dot.
@@ -94,6 +99,7 @@ const NAMES: [[u8; 12]; CALLS] = [
     *b"Prepare.    ",
     *b"A confirm.  ",
     *b"Withdraw.   ",
+    *b"Load.       ",
 ];
 
 // The numbers' texts, each up to its dot.
@@ -123,6 +129,9 @@ const TEXTS: [[u8; 49]; NUMBERS] = [
     *b"there is no taken slot without a held line.      ",
     *b"a transaction is prepared.                       ",
     *b"the writer is not prepared.                      ",
+    *b"a line of the table is wrong.                    ",
+    *b"a modulus is out of range.                       ",
+    *b"a stored meter is not below its modulus.         ",
 ];
 
 // Whether a call can return a number.

@@ -4,7 +4,7 @@
 
 use model::calls::{abort, begin, confirm, consolidate, event, free_slot, prepare, run, withdraw, write, Patch};
 use model::layout::Sizes;
-use model::meters::Asked;
+use model::meters::{fixed_moduli, Asked};
 use model::mount::format;
 use model::refusal::Refusal;
 use model::state::State;
@@ -31,7 +31,7 @@ const fn call(name: &'static str, given: &str, numbers: &'static [u64]) -> Call 
     Call { name, writer, page, line, numbers }
 }
 
-const CALLS: [Call; 17] = [
+const CALLS: [Call; 18] = [
     call("Format", "", &[3, 4]),
     call("Mount", "", &[1, 2, 3, 4, 5, 6, 7]),
     call("Recall", "pl", &[1, 2, 3, 4, 5, 6, 7, 11]),
@@ -45,10 +45,11 @@ const CALLS: [Call; 17] = [
     call("Step", "", &[4, 8, 10]),
     call("Run", "", &[4, 8, 10]),
     call("Free slot", "", &[4, 8, 9, 19, 22, 23]),
-    call("Event", "", &[4, 8, 9, 12, 14, 15, 16, 19, 20, 21, 23]),
+    call("Event", "", &[4, 8, 9, 12, 14, 15, 16, 19, 20, 21, 23, 26]),
     call("Prepare", "w", &[4, 8, 9, 11, 13, 19, 23]),
     call("A confirm", "w", &[4, 8, 9, 11, 24]),
     call("Withdraw", "w", &[4, 8, 9, 11, 24]),
+    call("Load", "", &[4, 8, 9, 16, 25, 26, 27]),
 ];
 const WRITE: usize = 5;
 const CONSOLIDATE: usize = 7;
@@ -85,6 +86,9 @@ fn text(number: u64) -> &'static str {
         22 => "there is no taken slot without a held line",
         23 => "a transaction is prepared",
         24 => "the writer is not prepared",
+        25 => "a line of the table is wrong",
+        26 => "a modulus is out of range",
+        27 => "a stored meter is not below its modulus",
         _ => unreachable!("no number of the table"),
     }
 }
@@ -269,7 +273,7 @@ impl Store {
     /// Turned back, or run to its end.
     fn event(&mut self, kind: u64, meter: u64) {
         let asked = Asked { kind, meter, amount: 1 };
-        match event(&mut self.state, &self.image, asked) {
+        match event(&mut self.state, &self.image, asked, &fixed_moduli()) {
             Ok(needed) => assert_eq!(run(&mut self.state, &mut self.image, needed), Ok(needed)),
             Err(refusal) => {
                 let lines = asked.meters();
@@ -350,7 +354,7 @@ fn show_met() {
 }
 
 fn main() {
-    (0..18).for_each(show_call);
+    (0..19).for_each(show_call);
     show_odd();
     show_met();
 }

@@ -4,7 +4,7 @@
 use model::calls::{self, Patch};
 use model::image::word;
 use model::layout::Sizes;
-use model::meters::Asked;
+use model::meters::{fixed_moduli, Asked};
 use model::mount::{format, mount};
 use model::refusal::Refusal;
 use model::state::State;
@@ -77,7 +77,15 @@ impl Store {
     }
 
     pub fn ask_event(&mut self, kind: u64, meter: u64, amount: u64) -> Answer {
-        numbered(calls::event(&mut self.state, &self.image, Asked { kind, meter, amount }))
+        self.ask_event_with(kind, meter, amount, &fixed_moduli())
+    }
+
+    pub fn ask_event_with(&mut self, kind: u64, meter: u64, amount: u64, moduli: &[u64]) -> Answer {
+        numbered(calls::event(&mut self.state, &self.image, Asked { kind, meter, amount }, moduli))
+    }
+
+    pub fn load(&self, text: &[u8]) -> Result<Vec<u64>, u8> {
+        numbered(calls::load(&self.state, &self.image, text))
     }
 
     pub fn run(&mut self, k: u64) -> Answer {

@@ -7,7 +7,7 @@ use Rattle.meters.proofs.amount_bad.Statement.{statement}
 use Rattle.meters.proofs.amount_bad.Tie as tie
 
 modulus-requires : tie.Need-modulus-requires
-modulus-requires c κs = let s = c .before in rw (c .own-meter .ensures) (own-range (s .args .kind) (s .args .meter) (s .pre) .1)
+modulus-requires c κs = let s = c .before in (s .before .pre .0, rw (c .own-meter .ensures) (own-range (s .before .args .kind) (s .before .args .meter) (s .before .pre .1) .1))
 
 returns : tie.Need-returns
 unfolding amountBad

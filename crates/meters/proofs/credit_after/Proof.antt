@@ -1,21 +1,17 @@
 use mathlib.Core.Path.{sym, _∙_}
-use native.Mathlib.Omega.{arith}
 use borrow.Author.Needs.{needs}
-use Rattle.meters.proofs.MeterLaws.{credit-adds, credit-takes}
 use Rattle.meters.proofs.credit_after.Statement.{statement}
 use Rattle.meters.proofs.credit_after.Tie as tie
 
 add-result : tie.Need-add-result
 add-result c =
     let s = c .before .before in
-    let h = credit-adds (s .args .kind) (s .args .credit) (s .args .amount) (s .pre) (sym (c .before .is-adding .ensures) ∙ c .if1 .taken) in
-    record { fits = omega arith }
+    record { fits = s .pre .0 (sym (c .before .is-adding .ensures) ∙ c .if1 .taken) }
 
 sub-result : tie.Need-sub-result
 sub-result c =
     let s = c .before .before in
-    let h = credit-takes (s .args .kind) (s .args .credit) (s .args .amount) (s .pre) (sym (c .before .is-adding .ensures) ∙ c .if1 .left) in
-    h .0
+    s .pre .1 (sym (c .before .is-adding .ensures) ∙ c .if1 .left)
 
 returns : tie.Need-returns
 returns c = rw (← c .before .is-adding .ensures, c .if1 .taken)
