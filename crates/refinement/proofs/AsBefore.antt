@@ -21,7 +21,7 @@ use Rattle.refinement.specs.Outcome.{Outcome}
 use Rattle.refinement.specs.Stores.{World, steppedBy}
 use Rattle.refinement.specs.Calls.{withPending, worldOf, finishedLine, writeCallRows, changesNothing, writeOf, stepRows, stepRow, runOf, runBytes}
 use Rattle.refinement.specs.Mount.{mountCall}
-use Rattle.refinement.specs.Run.{Call, Result, mount, checkpoint, free, step, begin, abort, commit, prepare, confirm, withdraw, consolidate, run, write, read, recall, event, exec, formattedWorld}
+use Rattle.refinement.specs.Run.{Call, Result, mount, checkpoint, free, step, begin, abort, commit, prepare, confirm, withdraw, consolidate, run, write, read, recall, event, load, exec, formattedWorld}
 use Rattle.refinement.specs.Reference.{Reference, blank, turn}
 use Rattle.refinement.specs.Statement.{Lent}
 use Rattle.refinement.specs.Before.{writeBefore, execBefore, Whole, through, cut, callOf, plays, played, AllBytes, SameAsBefore, AsBefore}
@@ -165,7 +165,8 @@ by-call v P f (consolidate p) = refl
 by-call v P f (run k) = refl
 by-call v P f (read w p l target) = refl
 by-call v P f (recall p l target) = refl
-by-call v P f (event k m a) = refl
+by-call v P f (event ms k m a) = refl
+by-call v P f (load text) = refl
 
 module _ {past : List ℕ} (v : World) (b : Reference) (h : Between past v b) where
   plays-same : (x : Whole) → plays exec x v ≡ plays execBefore x v

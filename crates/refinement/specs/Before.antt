@@ -15,7 +15,7 @@ use Rattle.refinement.specs.Frames.{pageFrame}
 use Rattle.refinement.specs.Outcome.{Outcome}
 use Rattle.refinement.specs.Stores.{World}
 use Rattle.refinement.specs.Calls.{asked, finishedLine, writeCallRows}
-use Rattle.refinement.specs.Run.{Call, Result, mount, checkpoint, free, step, begin, abort, commit, prepare, confirm, withdraw, consolidate, run, write, read, recall, event, result, exec, formattedWorld}
+use Rattle.refinement.specs.Run.{Call, Result, mount, checkpoint, free, step, begin, abort, commit, prepare, confirm, withdraw, consolidate, run, write, read, recall, event, load, result, exec, formattedWorld}
 use Rattle.refinement.specs.Statement.{Lent}
 
 -- the write before this change: every taken one needs its eight stores
@@ -40,7 +40,8 @@ execBefore (consolidate p) v = exec (consolidate p) v
 execBefore (run k) v = exec (run k) v
 execBefore (read w p l target) v = exec (read w p l target) v
 execBefore (recall p l target) v = exec (recall p l target) v
-execBefore (event k m a) v = exec (event k m a) v
+execBefore (event ms k m a) v = exec (event ms k m a) v
+execBefore (load text) v = exec (load text) v
 
 -- a call with a run to its end behind it; or cut after k stores, or after all that it needs if they are fewer: a mount stands for the cut. A call that
 -- needs no stores leaves nothing to run: the run is turned back and changes nothing
