@@ -25,7 +25,7 @@ use Rattle.refinement.proofs.EventReady.{one-slot}
 use Rattle.refinement.proofs.EventRows.{first-sizes, lines-sizes}
 use Rattle.refinement.proofs.EventStores.{lines-eight}
 use Rattle.refinement.proofs.Invariant.{Doing}
-use Rattle.refinement.proofs.Moving.{Under, Stage, in-first, in-second, in-commit, Moving, commitAsked, firstBook, linesBook, firstTask, secondTask}
+use Rattle.refinement.proofs.Moving.{Under, Stage, in-first, in-second, in-commit, Moving, commitAsked, firstReference, linesReference, firstTask, secondTask}
 use Rattle.refinement.proofs.Sound.{is-busy}
 use Rattle.refinement.proofs.StepEvent.{W, low₁, store₁, low₂, sixteen, store₂, low₃, store₃}
 use Rattle.refinement.proofs.Stepping.{Mid}
@@ -115,7 +115,7 @@ module _ (past : List ℕ) (st : State) (img : List ℕ) (b : Reference) (M : Mo
         left = omega (arith, e, low, lines);
         on =
             λ _.
-            part-stays (secondAsked st k m) (secondTask (M .moduli) k m a base) (firstBook (M .moduli) k m a base) j U (first-sizes st k m) (store₂ past st img b M j u e U)
+            part-stays (secondAsked st k m) (secondTask (M .moduli) k m a base) (firstReference (M .moduli) k m a base) j U (first-sizes st k m) (store₂ past st img b M j u e U)
             (write-mid past (withMade (secondAsked st k m) j) img _ (U .busy) 1 0 (ownMeter k m) 0 8 refl j low);
         last = λ q. absurd (omega (arith, e, low, lines, q));
       }
@@ -128,7 +128,7 @@ module _ (past : List ℕ) (st : State) (img : List ℕ) (b : Reference) (M : Mo
         left = omega (arith, e, low);
         on =
             λ l.
-            part-stays s (committing 1) (linesBook (M .moduli) k m a base) j U (lines-sizes st k m) same
+            part-stays s (committing 1) (linesReference (M .moduli) k m a base) j U (lines-sizes st k m) same
             (commit-mid past (withMade s j) img _ (U .busy) 1 refl j (omega (arith, e, l, one)));
         last =
             λ q.

@@ -37,7 +37,7 @@ use Rattle.refinement.proofs.EventRows.{event-some, event-needs, event-
 use Rattle.refinement.proofs.Invariant.{Never, Quiet, Busy, holds}
 use Rattle.refinement.proofs.Keeps.{durable-kept}
 use Rattle.refinement.proofs.LinesAsked.{lines-valid}
-use Rattle.refinement.proofs.Moving.{Facts, Under, Moving, in-first, firstBytes, firstBook, firstTask}
+use Rattle.refinement.proofs.Moving.{Facts, Under, Moving, in-first, firstBytes, firstReference, firstTask}
 use Rattle.refinement.proofs.Seen.{seen-line, unheld-line}
 use Rattle.refinement.proofs.StateValid.{valid}
 
@@ -54,8 +54,8 @@ module _ {past : List ℕ} (st : State) (img : List ℕ) (b : Reference) (ms : L
   abbrev asked : State
   asked = withLines st (Event k m a) line second f
 
-  abbrev book : Reference
-  book = withWork (under (moving ms k m a) (eventNeeds k)) b
+  abbrev machine : Reference
+  machine = withWork (under (moving ms k m a) (eventNeeds k)) b
 
   ok-rows : EventTaken st k m f
   ok-rows = event-taken st k m a f (event-op-row st img ms k m a row)
@@ -113,7 +113,7 @@ module _ {past : List ℕ} (st : State) (img : List ℕ) (b : Reference) (ms : L
   finished l v low =
       ap lineWords (ap (λ (x : List ℕ). merged x 0 8 (bytesOf 8 v)) (seen l low) ∙ merged-read b 1 0 l 0 8 (bytesOf 8 v) (omega arith) (omega (arith, length-bytes 8 v)))
 
-  pub facts : Facts line second book ms k m a
+  pub facts : Facts line second machine ms k m a
   facts =
       record {
         first-line =
@@ -163,7 +163,7 @@ module _ {past : List ℕ} (st : State) (img : List ℕ) (b : Reference) (ms : L
   unfolding needs
   first-under = record { low = eight; busy = first-busy }
 
-  pub event-moving : Moving past asked img book
+  pub event-moving : Moving past asked img machine
   event-moving =
       let e : eventNeeds k ≡ eventNeeds k - 0 = omega arith in
       record {
@@ -173,7 +173,7 @@ module _ {past : List ℕ} (st : State) (img : List ℕ) (b : Reference) (ms : L
         amount = a;
         event = refl;
         valid = asked-valid;
-        durable = durable-kept st img b book (st .next) (st .writers) _ (λ p l h i. refl) (Q .durable);
+        durable = durable-kept st img b machine (st .next) (st .writers) _ (λ p l h i. refl) (Q .durable);
         four = Q .writers .four;
         sixty-four = Q .writers .sixty-four;
         no-writes = λ p l i lp ll li. Q .writers .no-writes 1 p l i (omega arith) lp ll li (none-held p l);

@@ -79,7 +79,7 @@ pub mod StepCall
 pub mod Moving
 pub mod EventKept
 pub mod AskEvent
-pub mod EventBook
+pub mod EventReference
 pub mod EventStores
 pub mod StepEvent
 pub mod Between

@@ -198,10 +198,10 @@ module _ {past : List ℕ} (v : World) (b : Reference) (h : Account) (R : Betwee
       let st = v .st in
       let img = v .image in
       let q = between-quiet v b R (none-apply (eventCallRows st img ms k m a) (omega arith) e .1 .1 .0) in
-      let book = withWork (under (moving ms k m a) (eventNeeds k)) b in
-      let T′ : Tally book h =
+      let machine = withWork (under (moving ms k m a) (eventNeeds k)) b in
+      let T′ : Tally machine h =
       record { clean = T .clean; adds = T .adds; fits = (s, event-taken st k m a (pageFrame st img 0) (event-op-row st img ms k m a e) .known, event-moduli st img ms k m a e, facts st img b ms k m a q e .amount) } in
-      subst (λ (c : Reference). Tally c (gained h [])) (sym (starts-some (moving ms k m a) (eventNeeds k) b (event-some k))) (no-move book h T′)
+      subst (λ (c : Reference). Tally c (gained h [])) (sym (starts-some (moving ms k m a) (eventNeeds k) b (event-some k))) (no-move machine h T′)
 
   -- a load: every meter starts from its number
   load-tally : (text : List ℕ) → exec (load text) v .number ≡ 0 → Tally b (loaded h (exec (load text) v .target) v)

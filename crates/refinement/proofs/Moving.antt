@@ -35,14 +35,14 @@ module _ (ms : List ℕ) (k m a : ℕ) (b : Reference) where
   abbrev pub ownBytes : List ℕ
   ownBytes = bytesOf 8 (rolled ms (ownMeter k m) (meterOn b (ownMeter k m)) a)
 
-  abbrev pub firstBook : Reference
-  firstBook = written 1 0 (firstMeter k m) 0 8 firstBytes b
+  abbrev pub firstReference : Reference
+  firstReference = written 1 0 (firstMeter k m) 0 8 firstBytes b
 
-  abbrev pub secondBook : Reference
-  secondBook = written 1 0 (ownMeter k m) 0 8 ownBytes firstBook
+  abbrev pub secondReference : Reference
+  secondReference = written 1 0 (ownMeter k m) 0 8 ownBytes firstReference
 
-  abbrev pub linesBook : Reference
-  linesBook = cond (movesCredit k) secondBook firstBook
+  abbrev pub linesReference : Reference
+  linesReference = cond (movesCredit k) secondReference firstReference
 
   abbrev pub firstTask : Task
   firstTask = writing 1 0 (firstMeter k m) 0 8 firstBytes
@@ -52,7 +52,7 @@ module _ (ms : List ℕ) (k m a : ℕ) (b : Reference) where
 
 -- what the finished lines are, and that the amount was taken
 pub record Facts (line second : List ℕ) (b : Reference) (ms : List ℕ) (k m a : ℕ) : Type 0 where
-  pub first-line : line ≡ lineWords (readLine (firstBook ms k m a b) 1 0 (firstMeter k m))
+  pub first-line : line ≡ lineWords (readLine (firstReference ms k m a b) 1 0 (firstMeter k m))
   pub second-line : movesCredit k ≡ true → second ≡ lineWords (readLine (written 1 0 (ownMeter k m) 0 8 (ownBytes ms k m a b) b) 1 0 (ownMeter k m))
   pub first-bytes : Bytes (readLine b 1 0 (firstMeter k m))
   pub own-bytes : Bytes (readLine b 1 0 (ownMeter k m))
@@ -71,18 +71,18 @@ module _ (past : List ℕ) (s : State) (img : List ℕ) (t : Task) (base : Refer
   abbrev after : List ℕ
   after = storeMade s img op j
 
-  abbrev book : Reference
-  book = withWork (under t (needs s op - j)) base
+  abbrev machine : Reference
+  machine = withWork (under t (needs s op - j)) base
 
-  moved : Related past (stepped (worldOf (withMade s j) img)) (advances 1 (book .work) book)
-  moved = one-store past (withMade s j) img book (U .busy)
+  moved : Related past (stepped (worldOf (withMade s j) img)) (advances 1 (machine .work) machine)
+  moved = one-store past (withMade s j) img machine (U .busy)
 
   -- one store more, before the last and with it
   pub under-on : j + 1 < needs s op → Under past s after t base (j + 1)
   under-on l =
       let e = step-on (withMade s j) img (rw (needs-made s j op) l) in
       let f = ap (λ (x : List ℕ). worldOf (withMade s (j + 1)) x) (store-of s j img op j) in
-      let g = advance-on book t (needs s op) j refl l in
+      let g = advance-on machine t (needs s op) j refl l in
       let r : Related past (worldOf (withMade s (j + 1)) after) (withWork (under t (needs s op - (j + 1))) base) =
       subst (λ (v : World). Related past v (withWork (under t (needs s op - (j + 1))) base)) (e ∙ f) (subst (Related past (stepped (worldOf (withMade s j) img))) g moved) in
       record { low = l; busy = is-busy (withMade s (j + 1)) after (withWork (under t (needs s op - (j + 1))) base) r some }
@@ -92,7 +92,7 @@ module _ (past : List ℕ) (s : State) (img : List ℕ) (t : Task) (base : Refer
       let e = step-ends (withMade s j) img (q ∙ sym (needs-made s j op)) in
       let f = ap (λ (x : List ℕ). worldOf (completed (withMade s j) op) x) (store-of s j img op j) in
       let h = ap (λ (x : State). worldOf x after) (completed-made s j op some) in
-      let g = advance-ends book t (needs s op) j refl q in
+      let g = advance-ends machine t (needs s op) j refl q in
       let r : Related past (worldOf (completed s op) after) (does t (withWork idle base)) =
       subst (λ (v : World). Related past v (does t (withWork idle base))) (e ∙ f ∙ h) (subst (Related past (stepped (worldOf (withMade s j) img))) g moved) in
       is-quiet (completed s op) after (does t (withWork idle base)) r (ap not done)
@@ -106,9 +106,9 @@ commitAsked st k m = withPending (linesDone st k m) (Commit 1) (replicate 8 0) 0
 -- the operation of the transaction that goes on, with its j stores
 pub data Stage (past : List ℕ) (st : State) (img : List ℕ) (b : Reference) (ms : List ℕ) (k m a : ℕ) : Type 0 where
   in-first : (j : ℕ) → st .pending .made ≡ j → Under past (firstAsked st k m) img (firstTask ms k m a b) b j → Stage past st img b ms k m a
-  in-second : (j : ℕ) → movesCredit k ≡ true → st .pending .made ≡ 8 + j → Under past (secondAsked st k m) img (secondTask ms k m a b) (firstBook ms k m a b) j
+  in-second : (j : ℕ) → movesCredit k ≡ true → st .pending .made ≡ 8 + j → Under past (secondAsked st k m) img (secondTask ms k m a b) (firstReference ms k m a b) j
       → Stage past st img b ms k m a
-  in-commit : (j : ℕ) → st .pending .made ≡ lineStores k + j → Under past (commitAsked st k m) img (committing 1) (linesBook ms k m a b) j → Stage past st img b ms k m a
+  in-commit : (j : ℕ) → st .pending .made ≡ lineStores k + j → Under past (commitAsked st k m) img (committing 1) (linesReference ms k m a b) j → Stage past st img b ms k m a
 
 pub record Moving (past : List ℕ) (st : State) (img : List ℕ) (b : Reference) : Type 0 where
   pub moduli : List ℕ

@@ -112,8 +112,8 @@ module _ (past : List ℕ) (st : State) (img : List ℕ) (b : Reference) (ok : s
         names
 
     -- the copies are where they should be
-    module _ (book : Reference) (copies : (p l : ℕ) → p < z .pages → l < 64 → lineBytes img z (frameOf (word img) z (commitTable st w) p l) l ≡ recallLine book p l) where
-      pub committed-durable : Durable past (completed st (Commit w)) headStored book
+    module _ (machine : Reference) (copies : (p l : ℕ) → p < z .pages → l < 64 → lineBytes img z (frameOf (word img) z (commitTable st w) p l) l ≡ recallLine machine p l) where
+      pub committed-durable : Durable past (completed st (Commit w)) headStored machine
       committed-durable =
           let x : ℕ = position z (st .head) n in
           let fits = header-fits img z headWord x (omega arith) whole in
@@ -135,17 +135,17 @@ module _ (past : List ℕ) (st : State) (img : List ℕ) (b : Reference) (ok : s
 -- ---- what the reference machine has then
 
 -- the writer's lines are the pages'
-abbrev pub committedBook : ℕ → Reference → Reference
-committedBook w b = emptied w (laid w b)
+abbrev pub committedReference : ℕ → Reference → Reference
+committedReference w b = emptied w (laid w b)
 
 -- where the writer has none, the pages are as they were
-pub pages-same : (b : Reference) (w p l : ℕ) → ((i : ℕ) → i < 64 → laidOver (b .writes w p l i) (b .pages p l i) ≡ b .pages p l i) → recallLine b p l ≡ recallLine (committedBook w b) p l
+pub pages-same : (b : Reference) (w p l : ℕ) → ((i : ℕ) → i < 64 → laidOver (b .writes w p l i) (b .pages p l i) ≡ b .pages p l i) → recallLine b p l ≡ recallLine (committedReference w b) p l
 pages-same b w p l h = tab-ext 64 (b .pages p l) (λ i. laidOver (b .writes w p l i) (b .pages p l i)) (λ i m. sym (h i m))
 
 pub others-same : (b : Reference) (w v p l : ℕ) → (v ≡ w → ⊥) → ((i : ℕ) → i < 64 → laidOver (b .writes w p l i) (b .pages p l i) ≡ b .pages p l i)
-    → readLine b v p l ≡ readLine (committedBook w b) v p l
+    → readLine b v p l ≡ readLine (committedReference w b) v p l
 others-same b w v p l ne h =
-    tab-ext 64 (λ i. laidOver (b .writes v p l i) (b .pages p l i)) (λ i. laidOver (committedBook w b .writes v p l i) (laidOver (b .writes w p l i) (b .pages p l i)))
+    tab-ext 64 (λ i. laidOver (b .writes v p l i) (b .pages p l i)) (λ i. laidOver (committedReference w b .writes v p l i) (laidOver (b .writes w p l i) (b .pages p l i)))
     (λ i m. rw (ne-eqb v w ne, h i m))
 
 -- ---- head stored, where the records are in the image
@@ -158,8 +158,8 @@ module _ (past : List ℕ) (st : State) (img : List ℕ) (b : Reference) (ok : s
   abbrev image : List ℕ
   image = store img headWord (position (st .sizes) (st .head) (count st w))
 
-  abbrev book : Reference
-  book = committedBook w (withWork idle b)
+  abbrev machine : Reference
+  machine = committedReference w (withWork idle b)
 
   done-ok : stateOk after ≡ true
   done-ok = committed-valid st w ok (D₀ .behind .sixteen) can
@@ -180,7 +180,7 @@ module _ (past : List ℕ) (st : State) (img : List ℕ) (b : Reference) (ok : s
   none-laid p l lp ll h i m = ap (λ (c : Cell). laidOver c (b .pages p l i)) (writing .no-writes w p l i (can .writer-low) lp ll m h)
 
   copies : (p l : ℕ) → p < st .sizes .pages → l < 64
-      → lineBytes img (st .sizes) (frameOf (word img) (st .sizes) (commitTable st w) p l) l ≡ recallLine book p l
+      → lineBytes img (st .sizes) (frameOf (word img) (st .sizes) (commitTable st w) p l) l ≡ recallLine machine p l
   copies p l lp ll =
       caseOn (holds st w p l)
       (λ h.
@@ -191,8 +191,8 @@ module _ (past : List ℕ) (st : State) (img : List ℕ) (b : Reference) (ok : s
       ∙ D₀ .committed p l lp ll
       ∙ pages-same (withWork idle b) w p l (none-laid p l lp ll h))
 
-  durable : Durable past after image book
-  durable = committed-durable past st img b ok D₀ w can done-ok all-landed book copies
+  durable : Durable past after image machine
+  durable = committed-durable past st img b ok D₀ w can done-ok all-landed machine copies
 
   is-other : (v p l : ℕ) → holds after v p l ≡ true → v ≡ w → ⊥
   is-other v p l h q =
@@ -201,7 +201,7 @@ module _ (past : List ℕ) (st : State) (img : List ℕ) (b : Reference) (ok : s
   keep : (v p l : ℕ) → (v ≡ w → ⊥) → holds after v p l ≡ holds st v p l
   keep = others-keep st w ok (D₀ .behind .sixteen) can
 
-  writers : Writing after image book Never
+  writers : Writing after image machine Never
   writers =
       let z : Sizes = st .sizes in
       let g : Legal z = valid st ok .legal in
@@ -236,7 +236,7 @@ module _ (past : List ℕ) (st : State) (img : List ℕ) (b : Reference) (ok : s
   pub commit-shows : Shows image (appended (word img) (ownView past st img b D₀) (count st w) (commitRecord st w))
   commit-shows = head-shows past st img b ok D₀ w can done-ok all-landed
 
-  pub commit-quiet : Quiet past after image book
+  pub commit-quiet : Quiet past after image machine
   commit-quiet = record { valid = done-ok; pending = refl; durable = durable; writers = writers; work = refl }
 
 -- ---- the last store of a commit

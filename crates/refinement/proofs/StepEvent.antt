@@ -32,13 +32,13 @@ use Rattle.refinement.specs.Reference.{Reference, Cell, none, byte, laid
 use Rattle.refinement.proofs.Asked.{all-left, asked-busy}
 use Rattle.refinement.proofs.CallAsked.{needs-asked}
 use Rattle.refinement.proofs.CommitMid.{commit-mid}
-use Rattle.refinement.proofs.EventBook.{rows-keep, moved-quiet}
+use Rattle.refinement.proofs.EventReference.{rows-keep, moved-quiet}
 use Rattle.refinement.proofs.EventKept.{durable-beside}
 use Rattle.refinement.proofs.EventReady.{Ready, Wrote, write-row, first-wrote, second-wrote, lines-wrote, wrote-frame, one-slot, commit-five, commit-row}
 use Rattle.refinement.proofs.EventRows.{event-needs, first-sizes, lines-sizes, done-sizes}
 use Rattle.refinement.proofs.EventStores.{lines-eight, at-first, value-first, at-second, value-second, at-commit, value-commit}
 use Rattle.refinement.proofs.Invariant.{Durable, Quiet, Busy}
-use Rattle.refinement.proofs.Moving.{Facts, Under, under-on, under-ends, Stage, in-first, in-second, in-commit, Moving, commitAsked, ownBytes, firstBytes, firstBook, secondBook, linesBook, firstTask, secondTask}
+use Rattle.refinement.proofs.Moving.{Facts, Under, under-on, under-ends, Stage, in-first, in-second, in-commit, Moving, commitAsked, ownBytes, firstBytes, firstReference, secondReference, linesReference, firstTask, secondTask}
 use Rattle.refinement.proofs.Pending.{pends, made-valid}
 use Rattle.refinement.proofs.Stepping.{Mid, durable-made, step-on, step-ends, advance-on, advance-ends}
 use Rattle.refinement.proofs.Steps.{store-of}
@@ -152,23 +152,23 @@ module _ (past : List ℕ) (st : State) (img : List ℕ) (b : Reference) (M : Mo
       let x : k ≡ 0 = row-yes (movesCredit k) k m t ∙ e ∙ sym (row-yes (movesCredit k) 0 m t) in
       omega (arith, x, c .some)
 
-  second-words : movesCredit k ≡ true → st .pending .second ≡ lineWords (readLine (secondBook ms k m a base) 1 0 (ownMeter k m))
+  second-words : movesCredit k ≡ true → st .pending .second ≡ lineWords (readLine (secondReference ms k m a base) 1 0 (ownMeter k m))
   second-words t =
       let o = ownMeter k m in
       let bytes = ownBytes ms k m a base in
       M .facts .second-line t
       ∙ ap lineWords
-      (tab-ext 64 (λ i. laidOver (written 1 0 o 0 8 bytes b .writes 1 0 o i) (b .pages 0 o i)) (λ i. laidOver (secondBook ms k m a base .writes 1 0 o i) (b .pages 0 o i))
+      (tab-ext 64 (λ i. laidOver (written 1 0 o 0 8 bytes b .writes 1 0 o i) (b .pages 0 o i)) (λ i. laidOver (secondReference ms k m a base .writes 1 0 o i) (b .pages 0 o i))
       (λ i l.
       ap (λ (x : Cell). laidOver (cond (eqb 1 1 && eqb 0 0 && eqb o o && leb 0 i && ltb i (0 + 8)) (byte (getD bytes (i - 0) 0)) x) (b .pages 0 o i))
       (sym (writes-kept base 1 0 (firstMeter k m) 0 8 (firstBytes ms k m a base) 1 0 o i (λ h. other-line t (h .2))))))
 
-  second-bytes : movesCredit k ≡ true → Bytes (readLine (firstBook ms k m a base) 1 0 (ownMeter k m))
+  second-bytes : movesCredit k ≡ true → Bytes (readLine (firstReference ms k m a base) 1 0 (ownMeter k m))
   second-bytes t =
       subst Bytes (line-same base 1 0 (firstMeter k m) 0 8 (firstBytes ms k m a base) 1 0 (ownMeter k m) (λ h. other-line t (h .2))) (M .facts .own-bytes)
 
-  second-under : (i : List ℕ) → movesCredit k ≡ true → Quiet past (firstDone st k m) i (firstBook ms k m a base)
-      → Under past (secondAsked st k m) i (secondTask ms k m a base) (firstBook ms k m a base) 0
+  second-under : (i : List ℕ) → movesCredit k ≡ true → Quiet past (firstDone st k m) i (firstReference ms k m a base)
+      → Under past (secondAsked st k m) i (secondTask ms k m a base) (firstReference ms k m a base) 0
   unfolding needs
   second-under i t Q =
       let s = firstDone st k m in
@@ -177,19 +177,19 @@ module _ (past : List ℕ) (st : State) (img : List ℕ) (b : Reference) (M : Mo
       record {
         low = omega arith;
         busy =
-            asked-busy s i (firstBook ms k m a base) (Write 1 0 o 0 8) (st .pending .second) f (secondTask ms k m a base) Q (omega arith)
+            asked-busy s i (firstReference ms k m a base) (Write 1 0 o 0 8) (st .pending .second) f (secondTask ms k m a base) Q (omega arith)
             (write-row s k m f o (st .pending .second) (W₁ .ready) (omega (arith, own-range k m (E .known) .1)) (W₁ .ready .own-free))
             (bytes, bytes-bytesOf 8 _, omega (arith, length-bytes 8 (rolled ms o (meterOn b o) a)), all-left s (Write 1 0 o 0 8) (st .pending .second) f (secondTask ms k m a base), second-words t, wrote-frame s k m f W₁ i o (st .pending .second), second-bytes t);
       }
 
   -- the commit
-  commit-under : (i : List ℕ) → Quiet past (linesDone st k m) i (linesBook ms k m a base) → Under past (commitAsked st k m) i (committing 1) (linesBook ms k m a base) 0
+  commit-under : (i : List ℕ) → Quiet past (linesDone st k m) i (linesReference ms k m a base) → Under past (commitAsked st k m) i (committing 1) (linesReference ms k m a base) 0
   commit-under i Q =
       let s = linesDone st k m in
       let some : 0 < needs s (Commit 1) = omega (arith, commit-five s k m f W) in
       let e = all-left s (Commit 1) (replicate 8 0) 0 (committing 1) in
-      let B = asked-busy s i (linesBook ms k m a base) (Commit 1) (replicate 8 0) 0 (committing 1) Q some (commit-row s k m f W) e in
-      record { low = rw (needs-asked s (replicate 8 0) 0 (Commit 1) (Commit 1)) some; busy = subst (λ (w : Work). Busy past (withMade (commitAsked st k m) 0) i (withWork w (linesBook ms k m a base))) e B }
+      let B = asked-busy s i (linesReference ms k m a base) (Commit 1) (replicate 8 0) 0 (committing 1) Q some (commit-row s k m f W) e in
+      record { low = rw (needs-asked s (replicate 8 0) 0 (Commit 1) (Commit 1)) some; busy = subst (λ (w : Work). Busy past (withMade (commitAsked st k m) 0) i (withWork w (linesReference ms k m a base))) e B }
 
   -- ---- a store of an operation of the transaction
 
@@ -218,9 +218,9 @@ module _ (past : List ℕ) (st : State) (img : List ℕ) (b : Reference) (M : Mo
     durable₁ : Durable past st i₁ b
     durable₁ = beside (firstAsked st k m) (firstTask ms k m a base) base j U refl (write-mid past (withMade (firstAsked st k m) j) img _ (U .busy) 1 0 (firstMeter k m) 0 8 refl j low₁)
 
-    done₁ : j + 1 ≡ 8 → Quiet past (firstDone st k m) i₁ (firstBook ms k m a base)
+    done₁ : j + 1 ≡ 8 → Quiet past (firstDone st k m) i₁ (firstReference ms k m a base)
     done₁ q =
-        subst (λ (s : State). Quiet past s i₁ (firstBook ms k m a base)) (done-is (withOpen st 1) (firstMeter k m) (st .pending .line) f)
+        subst (λ (s : State). Quiet past s i₁ (firstReference ms k m a base)) (done-is (withOpen st 1) (firstMeter k m) (st .pending .line) f)
         (under-ends past (firstAsked st k m) img (firstTask ms k m a base) base j U refl (q ∙ sym (write-eight (firstAsked st k m) 1 0 (firstMeter k m) 0 8)) refl)
 
     step₁ : Result
@@ -239,12 +239,12 @@ module _ (past : List ℕ) (st : State) (img : List ℕ) (b : Reference) (M : Mo
         (λ u.
         let x : lineStores k ≡ 8 = sym (row-no (movesCredit k) 16 8 8 u refl) in
         let R =
-        subst (λ (s : State). Quiet past s i₁ (linesBook ms k m a base)) (row-no (movesCredit k) (secondDone st k m) (firstDone st k m) (firstDone st k m) u refl)
-        (subst (λ (c : Reference). Quiet past (firstDone st k m) i₁ c) (row-no (movesCredit k) (secondBook ms k m a base) (firstBook ms k m a base) (firstBook ms k m a base) u refl) Q) in
+        subst (λ (s : State). Quiet past s i₁ (linesReference ms k m a base)) (row-no (movesCredit k) (secondDone st k m) (firstDone st k m) (firstDone st k m) u refl)
+        (subst (λ (c : Reference). Quiet past (firstDone st k m) i₁ c) (row-no (movesCredit k) (secondReference ms k m a base) (firstReference ms k m a base) (firstReference ms k m a base) u refl) Q) in
         in-commit 0 (omega (arith, e, q, x)) (commit-under i₁ R))))
 
   -- of the second
-  module _ (j : ℕ) (u : movesCredit k ≡ true) (e : n ≡ 8 + j) (U : Under past (secondAsked st k m) img (secondTask ms k m a base) (firstBook ms k m a base) j) where
+  module _ (j : ℕ) (u : movesCredit k ≡ true) (e : n ≡ 8 + j) (U : Under past (secondAsked st k m) img (secondTask ms k m a base) (firstReference ms k m a base) j) where
     abbrev op₂ : Op
     op₂ = Write 1 0 (ownMeter k m) 0 8
 
@@ -263,13 +263,13 @@ module _ (past : List ℕ) (st : State) (img : List ℕ) (b : Reference) (M : Mo
 
     durable₂ : Durable past st i₂ b
     durable₂ =
-        beside (secondAsked st k m) (secondTask ms k m a base) (firstBook ms k m a base) j U (first-sizes st k m)
+        beside (secondAsked st k m) (secondTask ms k m a base) (firstReference ms k m a base) j U (first-sizes st k m)
         (write-mid past (withMade (secondAsked st k m) j) img _ (U .busy) 1 0 (ownMeter k m) 0 8 refl j low₂)
 
-    done₂ : j + 1 ≡ 8 → Quiet past (secondDone st k m) i₂ (secondBook ms k m a base)
+    done₂ : j + 1 ≡ 8 → Quiet past (secondDone st k m) i₂ (secondReference ms k m a base)
     done₂ q =
-        subst (λ (s : State). Quiet past s i₂ (secondBook ms k m a base)) (done-is (firstDone st k m) (ownMeter k m) (st .pending .second) f)
-        (under-ends past (secondAsked st k m) img (secondTask ms k m a base) (firstBook ms k m a base) j U refl (q ∙ sym (write-eight (secondAsked st k m) 1 0 (ownMeter k m) 0 8)) refl)
+        subst (λ (s : State). Quiet past s i₂ (secondReference ms k m a base)) (done-is (firstDone st k m) (ownMeter k m) (st .pending .second) f)
+        (under-ends past (secondAsked st k m) img (secondTask ms k m a base) (firstReference ms k m a base) j U refl (q ∙ sym (write-eight (secondAsked st k m) 1 0 (ownMeter k m) 0 8)) refl)
 
     step₂ : Result
     unfolding needs
@@ -277,16 +277,16 @@ module _ (past : List ℕ) (st : State) (img : List ℕ) (b : Reference) (M : Mo
         caseOn (ltb (j + 1) 8)
         (λ t.
         goes-on i₂ store₂ (omega (arith, e, low₂, needs-lines k, sixteen)) durable₂
-        (in-second (j + 1) u (omega (arith, e)) (under-on past (secondAsked st k m) img (secondTask ms k m a base) (firstBook ms k m a base) j U refl (ltb-true (j + 1) 8 t))))
+        (in-second (j + 1) u (omega (arith, e)) (under-on past (secondAsked st k m) img (secondTask ms k m a base) (firstReference ms k m a base) j U refl (ltb-true (j + 1) 8 t))))
         (λ t.
         let q : j + 1 ≡ 8 = omega (arith, low₂, ltb-false (j + 1) 8 t) in
         let R =
-        subst (λ (s : State). Quiet past s i₂ (linesBook ms k m a base)) (row-yes (movesCredit k) (secondDone st k m) (firstDone st k m) u)
-        (subst (λ (c : Reference). Quiet past (secondDone st k m) i₂ c) (row-yes (movesCredit k) (secondBook ms k m a base) (firstBook ms k m a base) u) (done₂ q)) in
+        subst (λ (s : State). Quiet past s i₂ (linesReference ms k m a base)) (row-yes (movesCredit k) (secondDone st k m) (firstDone st k m) u)
+        (subst (λ (c : Reference). Quiet past (secondDone st k m) i₂ c) (row-yes (movesCredit k) (secondReference ms k m a base) (firstReference ms k m a base) u) (done₂ q)) in
         goes-on i₂ store₂ (omega (arith, e, low₂, needs-lines k, sixteen)) durable₂ (in-commit 0 (omega (arith, e, q, sixteen)) (commit-under i₂ R)))
 
   -- of the commit
-  module _ (j : ℕ) (e : n ≡ lineStores k + j) (U : Under past (commitAsked st k m) img (committing 1) (linesBook ms k m a base) j) where
+  module _ (j : ℕ) (e : n ≡ lineStores k + j) (U : Under past (commitAsked st k m) img (committing 1) (linesReference ms k m a base) j) where
     abbrev i₃ : List ℕ
     i₃ = storeMade (commitAsked st k m) img (Commit 1) j
 
@@ -301,14 +301,14 @@ module _ (past : List ℕ) (st : State) (img : List ℕ) (b : Reference) (M : Mo
 
     durable₃ : j < 4 → Durable past st i₃ b
     durable₃ l =
-        beside (commitAsked st k m) (committing 1) (linesBook ms k m a base) j U (lines-sizes st k m)
+        beside (commitAsked st k m) (committing 1) (linesReference ms k m a base) j U (lines-sizes st k m)
         (commit-mid past (withMade (commitAsked st k m) j) img _ (U .busy) 1 refl j (omega (arith, l, one-slot (linesDone st k m) k m f W)))
 
     done₃ : j + 1 ≡ 5 → Quiet past (eventDone st k m) i₃ (moved ms k m a (withWork idle b))
     done₃ q =
         moved-quiet (eventDone st k m) i₃ base ms k m a (subst (λ (z : Sizes). (p l i : ℕ) → p < z .pages → l < 64 → i < 64 → b .writes 1 p l i ≡ none) (sym (done-sizes st k m)) (M .no-writes))
-        (subst (λ (s : State). Quiet past s i₃ (emptied 1 (laid 1 (withWork idle (linesBook ms k m a base))))) (event-is st k m)
-        (under-ends past (commitAsked st k m) img (committing 1) (linesBook ms k m a base) j U refl (q ∙ sym five) refl))
+        (subst (λ (s : State). Quiet past s i₃ (emptied 1 (laid 1 (withWork idle (linesReference ms k m a base))))) (event-is st k m)
+        (under-ends past (commitAsked st k m) img (committing 1) (linesReference ms k m a base) j U refl (q ∙ sym five) refl))
 
     step₃ : Result
     step₃ =
@@ -316,7 +316,7 @@ module _ (past : List ℕ) (st : State) (img : List ℕ) (b : Reference) (M : Mo
         (λ t.
         let l : j + 1 < 5 = ltb-true (j + 1) 5 t in
         goes-on i₃ store₃ (omega (arith, e, l, needs-lines k)) (durable₃ (omega arith))
-        (in-commit (j + 1) (omega (arith, e)) (under-on past (commitAsked st k m) img (committing 1) (linesBook ms k m a base) j U refl (omega (arith, l, five)))))
+        (in-commit (j + 1) (omega (arith, e)) (under-on past (commitAsked st k m) img (committing 1) (linesReference ms k m a base) j U refl (omega (arith, l, five)))))
         (λ t.
         let q : j + 1 ≡ 5 = omega (arith, low₃, ltb-false (j + 1) 5 t) in
         goes-out i₃ store₃ (omega (arith, e, q, needs-lines k)) (done₃ q))

@@ -62,8 +62,8 @@ module _ (past : List ℕ) (st : State) (img : List ℕ) (b : Reference) (B : Bu
   abbrev bytes : List ℕ
   bytes = given st img b w p l o n (write-doing past st img b B w p l o n e)
 
-  abbrev book : Reference
-  book = written w p l o n bytes (withWork idle b)
+  abbrev machine : Reference
+  machine = written w p l o n bytes (withWork idle b)
 
   abbrev target : ℕ
   target = otherFrame (slotIn (st .table) (writeSlot st p)) l
@@ -87,7 +87,7 @@ module _ (past : List ℕ) (st : State) (img : List ℕ) (b : Reference) (B : Bu
       (subst (λ (q : Op). (i : ℕ) → i < m → word img (storeAt st q i) ≡ storeValue st img q i) e (B .landed)) j (omega arith)
 
   -- the line is there, whole
-  line-there : lineBytes image z target l ≡ readLine book w p l
+  line-there : lineBytes image z target l ≡ readLine machine w p l
   line-there =
       let d = write-doing past st img b B w p l o n e in
       let line : List ℕ = newLine st img b w p l o n d in
@@ -117,7 +117,7 @@ module _ (past : List ℕ) (st : State) (img : List ℕ) (b : Reference) (B : Bu
       ∙ sym (page-frame-kept past st img b B w p l o n e m (getD (st .pending .line) m 0) (omega arith))
       ∙ ap (λ (c : Bool). cond c (slotIn (st .table) (slotFor st p) .original) (word image (pageWord p))) (le-ltb (slotFor st p) (z .slots) (omega arith))
 
-  durable : Durable past after image book
+  durable : Durable past after image machine
   durable =
       record {
         bytes = D .bytes;
@@ -139,7 +139,7 @@ module _ (past : List ℕ) (st : State) (img : List ℕ) (b : Reference) (B : Bu
 
   -- the writer's own copy, and another's
   abbrev Copy : ℕ → ℕ → ℕ → Type 0
-  Copy v q i = lineBytes image z (otherFrame (slotIn (after .table) (slotFor after q)) i) i ≡ readLine book v q i
+  Copy v q i = lineBytes image z (otherFrame (slotIn (after .table) (slotFor after q)) i) i ≡ readLine machine v q i
 
   copy-new : Copy w p l
   copy-new =
@@ -157,7 +157,7 @@ module _ (past : List ℕ) (st : State) (img : List ℕ) (b : Reference) (B : Bu
   holds-other : (v q i : ℕ) → v < 4 → q < z .pages → ((v ≡ w) × (q ≡ p) × (i ≡ l) → ⊥) → holds after v q i ≡ holds st v q i
   holds-other = holds-kept st w p l o n (B .valid) T (D .behind .sixteen) (W .sixty-four) apart
 
-  writers : Writing after image book Never
+  writers : Writing after image machine Never
   writers =
       record {
         four = W .four;

@@ -1,4 +1,4 @@
-pub mod Book
+pub mod Standing
 pub mod Round
 pub mod Theorem
 pub mod Needed

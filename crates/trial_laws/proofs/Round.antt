@@ -15,7 +15,7 @@ use Rattle.trials.specs.declared.Ask.{Ask}
 use Rattle.trials.specs.declared.Ask.the-variants.{Begin, Write, Free, Checkpoint, Commit, Abort}
 use Rattle.trials.specs.Trials.{callOf, Tried, made, withRoom, put, putAll, committed, counted, asDone, asAbandoned, played}
 use Rattle.trial_laws.specs.Pages.{isListed, marked}
-use Rattle.trial_laws.proofs.Book.{Stands, wrote, blankSheet, stands-refused, stands-begin, stands-free, stands-checkpoint, stands-write, stands-commit, stands-as}
+use Rattle.trial_laws.proofs.Standing.{Stands, wrote, noWrites, stands-refused, stands-begin, stands-free, stands-checkpoint, stands-write, stands-commit, stands-as}
 
 -- what holds of both answers of a test, each where it is the one
 row-splits : (P : Tried → Type 0) (b : Bool) (x y : Tried) → (b ≡ true → P x) → (b ≡ false → P y) → P (cond b x y)
@@ -114,9 +114,9 @@ round-done ps b t =
     let k : asAbandoned (made Abort u) .abandoned ≡ 0 = rw e at h in
     absurd (abandoned-some (made Abort u) k))
 
--- ---- the book through a round
+-- ---- the reference machine through a round
 
--- the bytes of a round on the sheet
+-- the bytes of a round among the unfinished writes
 unfoldable wroteAll : ℕ → List ℕ → (ℕ → ℕ → ℕ → Cell) → ℕ → ℕ → ℕ → Cell
 wroteAll x [] s = s
 wroteAll x (p ∷ ps) s = wroteAll x ps (wrote p x s)
@@ -128,9 +128,9 @@ byte-lent x h (suc i) = omega arith
 abbrev At : Sizes → List ℕ → (ℕ → ℕ → ℕ → ℕ) → Tried → (ℕ → ℕ → ℕ → Cell) → Type 0
 At z past f t s = Stands z past (t .world) f s
 
--- with the sheet laid on the pages
+-- with the unfinished writes laid on the pages
 abbrev Laid : Sizes → List ℕ → (ℕ → ℕ → ℕ → ℕ) → (ℕ → ℕ → ℕ → Cell) → Tried → Type 0
-Laid z past f s t = Stands z past (t .world) (λ p l i. laidOver (s p l i) (f p l i)) blankSheet
+Laid z past f s t = Stands z past (t .world) (λ p l i. laidOver (s p l i) (f p l i)) noWrites
 
 module _ {z : Sizes} {past : List ℕ} {f : ℕ → ℕ → ℕ → ℕ} where
   made-refused : {s : ℕ → ℕ → ℕ → Cell} (a : Ask) → Lent (callOf a) → (t : Tried) → At z past f t s → (made a t .number ≡ 0 → ⊥) → At z past f (made a t) s
@@ -236,12 +236,12 @@ laid-cond true x y = refl
 laid-cond false x y = refl
 
 -- a round that is done
-pub round-stands : {z : Sizes} {past : List ℕ} {f : ℕ → ℕ → ℕ → ℕ} (ps : List ℕ) (b : ℕ) → b < 256 → (t : Tried) → Stands z past (t .world) f blankSheet
-    → played ps b t .abandoned ≡ 0 → Stands z past (played ps b t .world) (marked ps b f) blankSheet
+pub round-stands : {z : Sizes} {past : List ℕ} {f : ℕ → ℕ → ℕ → ℕ} (ps : List ℕ) (b : ℕ) → b < 256 → (t : Tried) → Stands z past (t .world) f noWrites
+    → played ps b t .abandoned ≡ 0 → Stands z past (played ps b t .world) (marked ps b f) noWrites
 round-stands {z} {past} {f} ps b low t st h =
     let d = round-done ps b t h in
     let begun = made Begin t in
-    let done : Stands z past (committed (putAll b ps begun) .world) (λ p l i. laidOver (wroteAll b ps blankSheet p l i) (f p l i)) blankSheet =
+    let done : Stands z past (committed (putAll b ps begun) .world) (λ p l i. laidOver (wroteAll b ps noWrites p l i) (f p l i)) noWrites =
     committed-stands (putAll b ps begun) (λ n. all-stands b low ps begun (made-begin t st) n) (d .number) in
     rw (d .same)
-    (stands-as done (λ p l i. ap (λ (c : Cell). laidOver c (f p l i)) (wrote-all b ps blankSheet p l i) ∙ laid-cond (isListed ps p && eqb l 0 && eqb i 0) b (f p l i)))
+    (stands-as done (λ p l i. ap (λ (c : Cell). laidOver c (f p l i)) (wrote-all b ps noWrites p l i) ∙ laid-cond (isListed ps p && eqb l 0 && eqb i 0) b (f p l i)))

@@ -30,7 +30,7 @@ use Rattle.text.specs.declared.Line.{Line}
 use Rattle.trials.specs.Trials.{formatted, played}
 use Rattle.trial_lines.specs.Lines.{Work, first, numbersOf, sizesOf, withSetting, isRound, withRound, acted, act}
 use Rattle.trial_laws.specs.Pages.{lineShown, after, pagesOf, marked, leftBy, zeros, ShownByRounds, EqualBytes}
-use Rattle.trial_laws.proofs.Book.{Stands, blankSheet}
+use Rattle.trial_laws.proofs.Standing.{Stands, noWrites}
 use Rattle.trial_laws.proofs.Round.{abandoned-some, round-done, round-stands}
 
 -- ---- the setting
@@ -62,16 +62,16 @@ first-taken img setting h =
 
 -- sizes that format takes, on a fresh image
 format-stands : (z : Sizes) (img : List ℕ) → Bytes img → formatted z img .number ≡ 0
-    → Stands z (drop (imageLength z) img) (formatted z img .world) zeros blankSheet
+    → Stands z (drop (imageLength z) img) (formatted z img .world) zeros noWrites
 unfolding formatted formatCall
 format-stands z img bytes e =
     let none = none-apply (formatRows z (length img)) (omega arith, (omega arith, tt)) e in
     record {
-      book = blank;
+      machine = blank;
       reached = reached-first z (not-false (sizesOk z) (none .0)) img bytes (ltb-false (length img) (imageLength z) (none .1 .0));
       work = refl;
       pages = λ p l i. refl;
-      sheet = λ p l i. refl;
+      writes = λ p l i. refl;
     }
 
 -- ---- a round's line
@@ -110,15 +110,15 @@ after-before (line ∷ lines) w h e =
     let k = after-before lines (withRound q w) (n .1) (subst (λ (u : Work). after lines u .tried .abandoned ≡ 0) (n .0) e) in
     round-done (pagesOf line) (w .lines % 256) (w .tried) (round-of q w k .1) .before
 
-line-stands : {z : Sizes} {past : List ℕ} {f : ℕ → ℕ → ℕ → ℕ} (w : Work) (line : List ℕ) → Stands z past (w .tried .world) f blankSheet
-    → withRound (numbersOf line) w .tried .abandoned ≡ 0 → Stands z past (withRound (numbersOf line) w .tried .world) (marked (pagesOf line) (w .lines % 256) f) blankSheet
+line-stands : {z : Sizes} {past : List ℕ} {f : ℕ → ℕ → ℕ → ℕ} (w : Work) (line : List ℕ) → Stands z past (w .tried .world) f noWrites
+    → withRound (numbersOf line) w .tried .abandoned ≡ 0 → Stands z past (withRound (numbersOf line) w .tried .world) (marked (pagesOf line) (w .lines % 256) f) noWrites
 unfolding withRound
 line-stands w line st k =
     let r = round-of (numbersOf line) w k in
     rw (r .0) (round-stands (pagesOf line) (w .lines % 256) (omega arith) (w .tried) st (r .1))
 
-after-stands : {z : Sizes} {past : List ℕ} (lines : List (List ℕ)) (w : Work) (f : ℕ → ℕ → ℕ → ℕ) → Left w lines → Stands z past (w .tried .world) f blankSheet
-    → after lines w .tried .abandoned ≡ 0 → Stands z past (after lines w .tried .world) (leftBy (w .lines) lines f) blankSheet
+after-stands : {z : Sizes} {past : List ℕ} (lines : List (List ℕ)) (w : Work) (f : ℕ → ℕ → ℕ → ℕ) → Left w lines → Stands z past (w .tried .world) f noWrites
+    → after lines w .tried .abandoned ≡ 0 → Stands z past (after lines w .tried .world) (leftBy (w .lines) lines f) noWrites
 unfolding after leftBy withRound
 after-stands [] w f h st e = st
 after-stands {z} {past} (line ∷ lines) w f h st e =
@@ -127,7 +127,7 @@ after-stands {z} {past} (line ∷ lines) w f h st e =
     let g = marked (pagesOf line) (w .lines % 256) f in
     let d = subst (λ (u : Work). after lines u .tried .abandoned ≡ 0) (n .0) e in
     let k = after-before lines (withRound q w) (n .1) d in
-    subst (λ (u : Work). Stands z past (after lines u .tried .world) (leftBy (w .lines + 1) lines g) blankSheet) (sym (n .0))
+    subst (λ (u : Work). Stands z past (after lines u .tried .world) (leftBy (w .lines + 1) lines g) noWrites) (sym (n .0))
     (after-stands lines (withRound q w) g (n .1) (line-stands w line st k) d)
 
 -- ---- what a recall shows
@@ -136,27 +136,27 @@ over-all : (xs : List ℕ) → length xs ≡ 64 → over (replicate 64 0) 0 xs �
 unfolding over
 over-all xs h = rw h (append-nil xs)
 
-module _ {z : Sizes} {past : List ℕ} {v : World} {f : ℕ → ℕ → ℕ → ℕ} (st : Stands z past v f blankSheet) (p l : ℕ) (has : p < z .pages) (low : l < 64) where
+module _ {z : Sizes} {past : List ℕ} {v : World} {f : ℕ → ℕ → ℕ → ℕ} (st : Stands z past v f noWrites) (p l : ℕ) (has : p < z .pages) (low : l < 64) where
   sizes : sizesFrom (word (v .image)) ≡ z
   sizes =
-      let D = between-durable v (st .book) (st .reached .related) in
+      let D = between-durable v (st .machine) (st .reached .related) in
       ap (λ (w : View). w .sizes) (D .shows) ∙ D .sizes-same ∙ st .reached .sizes
 
   recalled : recallRow (v .image) p l (replicate 64 0) ≡ 0
   recalled =
-      let D = between-durable v (st .book) (st .reached .related) in
+      let D = between-durable v (st .machine) (st .reached .related) in
       let same : sizesFrom (word (v .image)) .pages ≡ z .pages = ap (λ (y : Sizes). y .pages) sizes in
       let inside : leb (z .pages) p ≡ false = lt-leb (z .pages) p has in
       let t : ltb 63 l ≡ false = le-ltb 63 l (omega arith) in
-      row-is (v .st) (v .image) (st .book) (between-valid v (st .book) (st .reached .related)) D p l (replicate 64 0)
+      row-is (v .st) (v .image) (st .machine) (between-valid v (st .machine) (st .reached .related)) D p l (replicate 64 0)
       ∙ rw (same, inside, t)
 
   line-shown : lineShown v p l ≡ tab 64 (f p l)
   unfolding lineShown exec
   line-shown =
-      call-sound (recall p l (replicate 64 0)) tt v (st .book) (st .reached .related) .right .1 recalled
-      ∙ over-all (recallLine (st .book) p l) (length-tab 64 (st .book .pages p l))
-      ∙ tab-ext 64 (st .book .pages p l) (f p l) (λ i h. st .pages p l i)
+      call-sound (recall p l (replicate 64 0)) tt v (st .machine) (st .reached .related) .right .1 recalled
+      ∙ over-all (recallLine (st .machine) p l) (length-tab 64 (st .machine .pages p l))
+      ∙ tab-ext 64 (st .machine .pages p l) (f p l) (λ i h. st .pages p l i)
 
 -- ---- the theorems
 

@@ -62,15 +62,15 @@ ran t (suc i) m k b h g =
     let z : suc i - min (suc i) (suc i) ≡ 0 = omega arith in
     rw e (ap (λ (x : ℕ). continues t x (withWork (under t (suc i)) b)) z)
 
--- ---- a world that the calls so far came to, and the reference machine with nothing under way: these bytes are on its pages, these on writer 0's
--- sheet
+-- ---- a world that the calls so far came to, and the reference machine with nothing under way: these bytes are on its pages, these among writer 0's
+-- unfinished writes
 
 pub record Stands (z : Sizes) (past : List ℕ) (v : World) (f : ℕ → ℕ → ℕ → ℕ) (s : ℕ → ℕ → ℕ → Cell) : Type 0 where
-  pub book : Reference
-  pub reached : Reached z past v book
-  pub work : book .work ≡ idle
-  pub pages : (p l i : ℕ) → book .pages p l i ≡ f p l i
-  pub sheet : (p l i : ℕ) → book .writes 0 p l i ≡ s p l i
+  pub machine : Reference
+  pub reached : Reached z past v machine
+  pub work : machine .work ≡ idle
+  pub pages : (p l i : ℕ) → machine .pages p l i ≡ f p l i
+  pub writes : (p l i : ℕ) → machine .writes 0 p l i ≡ s p l i
 
 -- a call and all its stores
 abbrev pub through : Call → World → World
@@ -78,10 +78,10 @@ through c v = exec (run (exec c v .stores)) (exec c v .world) .world
 
 module _ {z : Sizes} {past : List ℕ} {v : World} {f : ℕ → ℕ → ℕ → ℕ} {s : ℕ → ℕ → ℕ → Cell} (st : Stands z past v f s) (c : Call) (lent : Lent c) where
   abbrev asked : Reference
-  asked = turn c (exec c v .number) (exec c v .stores) (st .book)
+  asked = turn c (exec c v .number) (exec c v .stores) (st .machine)
 
   asked-reached : Reached z past (exec c v .world) asked
-  asked-reached = reached-next c lent v (st .book) (st .reached)
+  asked-reached = reached-next c lent v (st .machine) (st .reached)
 
   abbrev finished : Reference
   finished = let e = exec (run (exec c v .stores)) (exec c v .world) in turn (run (exec c v .stores)) (e .number) (e .stores) asked
@@ -89,41 +89,41 @@ module _ {z : Sizes} {past : List ℕ} {v : World} {f : ℕ → ℕ → ℕ → 
   finished-reached : Reached z past (through c v) finished
   finished-reached = reached-next (run (exec c v .stores)) tt (exec c v .world) asked asked-reached
 
-  -- it changes nothing in the book
-  pub stands-same : asked ≡ st .book → Stands z past (through c v) f s
+  -- it changes nothing in the reference machine
+  pub stands-same : asked ≡ st .machine → Stands z past (through c v) f s
   stands-same e =
       let n = exec c v .stores in
       let d = exec (run n) (exec c v .world) in
-      let back : finished ≡ st .book = ap (turn (run n) (d .number) (d .stores)) e ∙ idle-run (st .book) n (d .number) (d .stores) (st .work) in
+      let back : finished ≡ st .machine = ap (turn (run n) (d .number) (d .stores)) e ∙ idle-run (st .machine) n (d .number) (d .stores) (st .work) in
       record {
-        book = st .book;
+        machine = st .machine;
         reached = subst (Reached z past (through c v)) back finished-reached;
         work = st .work;
         pages = st .pages;
-        sheet = st .sheet;
+        writes = st .writes;
       }
 
   -- it does a task
   pub stands-did : (t : Task) → ((n : ℕ) (b : Reference) → taken c n b ≡ starts t n b) → exec c v .number ≡ 0
       → (f′ : ℕ → ℕ → ℕ → ℕ) (s′ : ℕ → ℕ → ℕ → Cell)
-      → ((p l i : ℕ) → does t (withWork idle (st .book)) .pages p l i ≡ f′ p l i)
-      → ((p l i : ℕ) → does t (withWork idle (st .book)) .writes 0 p l i ≡ s′ p l i)
+      → ((p l i : ℕ) → does t (withWork idle (st .machine)) .pages p l i ≡ f′ p l i)
+      → ((p l i : ℕ) → does t (withWork idle (st .machine)) .writes 0 p l i ≡ s′ p l i)
       → Stands z past (through c v) f′ s′
-  stands-did t g h f′ s′ pages sheet =
+  stands-did t g h f′ s′ pages writes =
       let n = exec c v .stores in
       let d = exec (run n) (exec c v .world) in
-      let begun : asked ≡ starts t n (st .book) = ap (λ (m : ℕ). turn c m n (st .book)) h ∙ g n (st .book) in
-      let r : Reached z past (exec c v .world) (starts t n (st .book)) = subst (Reached z past (exec c v .world)) begun asked-reached in
+      let begun : asked ≡ starts t n (st .machine) = ap (λ (m : ℕ). turn c m n (st .machine)) h ∙ g n (st .machine) in
+      let r : Reached z past (exec c v .world) (starts t n (st .machine)) = subst (Reached z past (exec c v .world)) begun asked-reached in
       let goes : (i : ℕ) → n ≡ suc i → d .number ≡ 0 =
-      λ i q. run-taken (exec c v .world) (starts t n (st .book)) t (suc i) n (r .related) (ap (λ (m : ℕ). starts t m (st .book) .work) q) in
-      let back : finished ≡ does t (withWork idle (st .book)) =
-      ap (turn (run n) (d .number) (d .stores)) begun ∙ ran t n (d .number) (d .stores) (st .book) (st .work) goes in
+      λ i q. run-taken (exec c v .world) (starts t n (st .machine)) t (suc i) n (r .related) (ap (λ (m : ℕ). starts t m (st .machine) .work) q) in
+      let back : finished ≡ does t (withWork idle (st .machine)) =
+      ap (turn (run n) (d .number) (d .stores)) begun ∙ ran t n (d .number) (d .stores) (st .machine) (st .work) goes in
       record {
-        book = does t (withWork idle (st .book));
+        machine = does t (withWork idle (st .machine));
         reached = subst (Reached z past (through c v)) back finished-reached;
-        work = does-work t (withWork idle (st .book)) refl;
+        work = does-work t (withWork idle (st .machine)) refl;
         pages = pages;
-        sheet = sheet;
+        writes = writes;
       }
 
 -- ---- the calls of a round
@@ -136,24 +136,24 @@ begin-turn : (w m n : ℕ) (b : Reference) → turn (begin w) m n b ≡ b
 begin-turn w zero n b = refl
 begin-turn w (suc m) n b = refl
 
--- one byte put on the sheet, as the reference machine puts it
+-- one byte put among the unfinished writes, as the reference machine puts it
 abbrev pub wrote : ℕ → ℕ → (ℕ → ℕ → ℕ → Cell) → ℕ → ℕ → ℕ → Cell
 wrote p x s q m i = cond (eqb 0 0 && eqb q p && eqb m 0 && leb 0 i && ltb i (0 + 1)) (byte (getD (x ∷ []) (i - 0) 0)) (s q m i)
 
-abbrev pub blankSheet : ℕ → ℕ → ℕ → Cell
-blankSheet p l i = none
+abbrev pub noWrites : ℕ → ℕ → ℕ → Cell
+noWrites p l i = none
 
 module _ {z : Sizes} {past : List ℕ} {v : World} {f : ℕ → ℕ → ℕ → ℕ} {s : ℕ → ℕ → ℕ → Cell} (st : Stands z past v f s) where
   pub stands-refused : (c : Call) → Lent c → (exec c v .number ≡ 0 → ⊥) → Stands z past (through c v) f s
-  stands-refused c lent h = stands-same st c lent (refused-turn c (exec c v .number) (exec c v .stores) (st .book) h)
+  stands-refused c lent h = stands-same st c lent (refused-turn c (exec c v .number) (exec c v .stores) (st .machine) h)
 
   pub stands-begin : Stands z past (through (begin 0) v) f s
-  stands-begin = stands-same st (begin 0) tt (begin-turn 0 (exec (begin 0) v .number) (exec (begin 0) v .stores) (st .book))
+  stands-begin = stands-same st (begin 0) tt (begin-turn 0 (exec (begin 0) v .number) (exec (begin 0) v .stores) (st .machine))
 
   stands-idle : (c : Call) → Lent c → ((n : ℕ) (b : Reference) → taken c n b ≡ starts nothing n b) → Stands z past (through c v) f s
   stands-idle c lent g =
       caseOn (eqb (exec c v .number) 0)
-      (λ t. stands-did st c lent nothing g (eqb-true (exec c v .number) 0 t) f s (st .pages) (st .sheet))
+      (λ t. stands-did st c lent nothing g (eqb-true (exec c v .number) 0 t) f s (st .pages) (st .writes))
       (λ t. stands-refused c lent (eqb-false (exec c v .number) 0 t))
 
   pub stands-free : Stands z past (through free v) f s
@@ -166,14 +166,14 @@ module _ {z : Sizes} {past : List ℕ} {v : World} {f : ℕ → ℕ → ℕ → 
       → Stands z past (through (write 0 p 0 0 1 (x ∷ [])) v) f (wrote p x s)
   stands-write p x lent h =
       stands-did st (write 0 p 0 0 1 (x ∷ [])) lent (writing 0 p 0 0 1 (x ∷ [])) (λ n b. refl) h f (wrote p x s) (st .pages)
-      (λ q m i. ap (λ (c : Cell). cond (eqb 0 0 && eqb q p && eqb m 0 && leb 0 i && ltb i (0 + 1)) (byte (getD (x ∷ []) (i - 0) 0)) c) (st .sheet q m i))
+      (λ q m i. ap (λ (c : Cell). cond (eqb 0 0 && eqb q p && eqb m 0 && leb 0 i && ltb i (0 + 1)) (byte (getD (x ∷ []) (i - 0) 0)) c) (st .writes q m i))
 
-  pub stands-commit : exec (commit 0) v .number ≡ 0 → Stands z past (through (commit 0) v) (λ p l i. laidOver (s p l i) (f p l i)) blankSheet
+  pub stands-commit : exec (commit 0) v .number ≡ 0 → Stands z past (through (commit 0) v) (λ p l i. laidOver (s p l i) (f p l i)) noWrites
   stands-commit h =
-      stands-did st (commit 0) tt (committing 0) (λ n b. refl) h (λ p l i. laidOver (s p l i) (f p l i)) blankSheet
-      (λ p l i. ap₂ laidOver (st .sheet p l i) (st .pages p l i)) (λ p l i. refl)
+      stands-did st (commit 0) tt (committing 0) (λ n b. refl) h (λ p l i. laidOver (s p l i) (f p l i)) noWrites
+      (λ p l i. ap₂ laidOver (st .writes p l i) (st .pages p l i)) (λ p l i. refl)
 
 -- the same bytes, said otherwise
 pub stands-as : {z : Sizes} {past : List ℕ} {v : World} {f f′ : ℕ → ℕ → ℕ → ℕ} {s : ℕ → ℕ → ℕ → Cell} → Stands z past v f s
     → ((p l i : ℕ) → f p l i ≡ f′ p l i) → Stands z past v f′ s
-stands-as st e = record { book = st .book; reached = st .reached; work = st .work; pages = λ p l i. st .pages p l i ∙ e p l i; sheet = st .sheet }
+stands-as st e = record { machine = st .machine; reached = st .reached; work = st .work; pages = λ p l i. st .pages p l i ∙ e p l i; writes = st .writes }

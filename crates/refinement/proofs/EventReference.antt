@@ -14,7 +14,7 @@ use Rattle.state.specs.declared.State.{State}
 use Rattle.refinement.specs.Reference.{Reference, Cell, none, byte, laidOver, idle, withWork, written, laid, emptied, withMeter, firstMoved, moved}
 use Rattle.refinement.proofs.Invariant.{Quiet}
 use Rattle.refinement.proofs.Keeps.{quiet-pages}
-use Rattle.refinement.proofs.Moving.{firstBytes, ownBytes, firstBook, secondBook, linesBook}
+use Rattle.refinement.proofs.Moving.{firstBytes, ownBytes, firstReference, secondReference, linesReference}
 use Rattle.refinement.proofs.WriteHeld.{writes-kept}
 
 -- what holds of both pairs of answers holds of the pair chosen by one test
@@ -71,30 +71,30 @@ module _ (ms : List ℕ) (k m a : ℕ) (b : Reference) (P : ℕ) (nothing : (p l
   abbrev cell : Reference → ℕ → ℕ → ℕ → ℕ
   cell c p l i = laidOver (c .writes 1 p l i) (c .pages p l i)
 
-  first-laid : (p l i : ℕ) → p < P → l < 64 → i < 64 → cell (firstBook ms k m a b) p l i ≡ firstMoved ms k m a b .pages p l i
+  first-laid : (p l i : ℕ) → p < P → l < 64 → i < 64 → cell (firstReference ms k m a b) p l i ≡ firstMoved ms k m a b .pages p l i
   first-laid p l i lp ll li =
       line-laid p l i (firstMeter k m) (firstBytes ms k m a b) (b .writes 1 p l i) (b .pages p l i)
       ∙ ap (λ (c : Cell). cond (eqb p 0 && eqb l (firstMeter k m) && ltb i 8) (getD (firstBytes ms k m a b) i 0) (laidOver c (b .pages p l i))) (nothing p l i lp ll li)
 
   second-laid : (p l i : ℕ) → p < P → l < 64 → i < 64
-      → cell (secondBook ms k m a b) p l i ≡ cond (eqb p 0 && eqb l (ownMeter k m) && ltb i 8) (getD (ownBytes ms k m a b) i 0) (firstMoved ms k m a b .pages p l i)
+      → cell (secondReference ms k m a b) p l i ≡ cond (eqb p 0 && eqb l (ownMeter k m) && ltb i 8) (getD (ownBytes ms k m a b) i 0) (firstMoved ms k m a b .pages p l i)
   second-laid p l i lp ll li =
-      line-laid p l i (ownMeter k m) (ownBytes ms k m a b) (firstBook ms k m a b .writes 1 p l i) (b .pages p l i)
+      line-laid p l i (ownMeter k m) (ownBytes ms k m a b) (firstReference ms k m a b .writes 1 p l i) (b .pages p l i)
       ∙ ap (λ (x : ℕ). cond (eqb p 0 && eqb l (ownMeter k m) && ltb i 8) (getD (ownBytes ms k m a b) i 0) x) (first-laid p l i lp ll li)
 
-  pub pages-laid : (p l i : ℕ) → p < P → l < 64 → i < 64 → laid 1 (linesBook ms k m a b) .pages p l i ≡ moved ms k m a b .pages p l i
+  pub pages-laid : (p l i : ℕ) → p < P → l < 64 → i < 64 → laid 1 (linesReference ms k m a b) .pages p l i ≡ moved ms k m a b .pages p l i
   pages-laid p l i lp ll li =
-      rows-keep (λ (x y : Reference). cell x p l i ≡ y .pages p l i) (movesCredit k) (secondBook ms k m a b) (firstBook ms k m a b) _ (firstMoved ms k m a b)
+      rows-keep (λ (x y : Reference). cell x p l i ≡ y .pages p l i) (movesCredit k) (secondReference ms k m a b) (firstReference ms k m a b) _ (firstMoved ms k m a b)
       (second-laid p l i lp ll li) (first-laid p l i lp ll li)
 
   -- of other writers nothing changes, and writer 1 has nothing again
-  others-kept : (v p l i : ℕ) → (v ≡ 1 → ⊥) → linesBook ms k m a b .writes v p l i ≡ b .writes v p l i
+  others-kept : (v p l i : ℕ) → (v ≡ 1 → ⊥) → linesReference ms k m a b .writes v p l i ≡ b .writes v p l i
   others-kept v p l i n =
       let one = writes-kept b 1 0 (firstMeter k m) 0 8 (firstBytes ms k m a b) v p l i (λ h. n (h .0)) in
-      let two = writes-kept (firstBook ms k m a b) 1 0 (ownMeter k m) 0 8 (ownBytes ms k m a b) v p l i (λ h. n (h .0)) in
-      row-keeps (λ (x : Reference). x .writes v p l i ≡ b .writes v p l i) (movesCredit k) (secondBook ms k m a b) (firstBook ms k m a b) (two ∙ one) one
+      let two = writes-kept (firstReference ms k m a b) 1 0 (ownMeter k m) 0 8 (ownBytes ms k m a b) v p l i (λ h. n (h .0)) in
+      row-keeps (λ (x : Reference). x .writes v p l i ≡ b .writes v p l i) (movesCredit k) (secondReference ms k m a b) (firstReference ms k m a b) (two ∙ one) one
 
-  pub writes-emptied : (v p l i : ℕ) → p < P → l < 64 → i < 64 → emptied 1 (laid 1 (linesBook ms k m a b)) .writes v p l i ≡ moved ms k m a b .writes v p l i
+  pub writes-emptied : (v p l i : ℕ) → p < P → l < 64 → i < 64 → emptied 1 (laid 1 (linesReference ms k m a b)) .writes v p l i ≡ moved ms k m a b .writes v p l i
   writes-emptied v p l i lp ll li =
       let same : moved ms k m a b .writes v p l i ≡ b .writes v p l i =
       row-keeps (λ (x : Reference). x .writes v p l i ≡ b .writes v p l i) (movesCredit k) _ (firstMoved ms k m a b) refl refl in
@@ -105,10 +105,10 @@ module _ (ms : List ℕ) (k m a : ℕ) (b : Reference) (P : ℕ) (nothing : (p l
 -- the state that the commit leaves, held against the pages with the meters moved
 pub moved-quiet : {past : List ℕ} (st : State) (img : List ℕ) (b : Reference) (ms : List ℕ) (k m a : ℕ)
     → ((p l i : ℕ) → p < st .sizes .pages → l < 64 → i < 64 → b .writes 1 p l i ≡ none)
-    → Quiet past st img (emptied 1 (laid 1 (withWork idle (linesBook ms k m a b)))) → Quiet past st img (moved ms k m a (withWork idle b))
+    → Quiet past st img (emptied 1 (laid 1 (withWork idle (linesReference ms k m a b)))) → Quiet past st img (moved ms k m a (withWork idle b))
 moved-quiet {past = past} st img b ms k m a nothing q =
     let P : ℕ = st .sizes .pages in
-    let c : Reference = emptied 1 (laid 1 (withWork idle (linesBook ms k m a b))) in
+    let c : Reference = emptied 1 (laid 1 (withWork idle (linesReference ms k m a b))) in
     let d : Reference = moved ms k m a (withWork idle b) in
     let r : Quiet past st img (record { pages = moved ms k m a b .pages; writes = c .writes; work = idle }) =
     quiet-pages st img c (moved ms k m a b .pages) (λ p l i lp ll li. pages-laid ms k m a b P nothing p l i lp ll li) q in

@@ -1,4 +1,4 @@
-//! The book of demand 3 beside the model, over random lists of calls with cuts between any two stores.
+//! The reference machine of demand 3 (document 01: the book) beside the model, over random lists of calls with cuts between any two stores.
 
 mod common;
 
@@ -23,15 +23,15 @@ enum Underway {
 
 /// Pages hold what was laid on them; a byte not there is zero.
 #[derive(Default)]
-struct Book {
+struct Reference {
     pages: BTreeMap<Spot, u8>,
-    sheets: [BTreeMap<Spot, u8>; 4],
+    unfinished: [BTreeMap<Spot, u8>; 4],
     underway: Option<(Underway, u64)>,
     /// The completed events, in their order.
     events: Vec<Asked>,
 }
 
-impl Book {
+impl Reference {
     /// A taken call that needs so many stores.
     fn taken(&mut self, call: Underway, needs: u64) {
         self.underway = Some((call, needs));
@@ -48,11 +48,11 @@ impl Book {
         match call {
             Underway::Write { writer, spot: (page, line, offset), data } => {
                 let spots = (offset..).map(|offset| (page, line, offset));
-                self.sheets[writer].extend(spots.zip(data));
+                self.unfinished[writer].extend(spots.zip(data));
             }
             Underway::Commit { writer } => {
-                let sheet = std::mem::take(&mut self.sheets[writer]);
-                self.pages.extend(sheet);
+                let unfinished = std::mem::take(&mut self.unfinished[writer]);
+                self.pages.extend(unfinished);
             }
             Underway::Event(asked, moduli) => self.moved(asked, &moduli),
             Underway::Other => {}
@@ -74,20 +74,20 @@ impl Book {
     }
 
     fn mounted(&mut self) {
-        self.sheets = Default::default();
+        self.unfinished = Default::default();
         self.underway = None;
     }
 
     fn line(&self, writer: Option<u64>, page: u64, line: u64) -> Vec<u8> {
-        let sheet = |spot| writer.and_then(|writer| self.sheets[writer as usize].get(&spot));
-        let byte = |offset| sheet((page, line, offset)).or_else(|| self.pages.get(&(page, line, offset)));
+        let unfinished = |spot| writer.and_then(|writer| self.unfinished[writer as usize].get(&spot));
+        let byte = |offset| unfinished((page, line, offset)).or_else(|| self.pages.get(&(page, line, offset)));
         (0..64).map(|offset| byte(offset).copied().unwrap_or(0)).collect()
     }
 }
 
 struct Both {
     store: Store,
-    book: Book,
+    reference: Reference,
     rng: Rng,
     taken: u64,
     freed: u64,
@@ -115,7 +115,7 @@ impl Both {
         let (store, moduli) = (Store::fresh(p, s, j), fixed_moduli());
         Both {
             store,
-            book: Book::default(),
+            reference: Reference::default(),
             rng,
             taken: 0,
             freed: 0,
@@ -134,7 +134,7 @@ impl Both {
         match answer {
             Ok(needs) => {
                 self.taken += 1;
-                self.book.taken(call, needs);
+                self.reference.taken(call, needs);
             }
             Err(number) => assert!((9..=27).contains(&number) && number != 16, "{number} on such a list"),
         }
@@ -151,21 +151,21 @@ impl Both {
         self.note(Underway::Event(Asked { kind, meter, amount }, lent), answer);
     }
 
-    /// A load changes nothing in the book; it is taken if the text is right and each meter of the pages is below its modulus.
+    /// A load changes nothing in the reference machine; it is taken if the text is right and each meter of the pages is below its modulus.
     fn load(&mut self) {
         let any = [100, 301, 9_999, 10_007, 1_000_000, 100_000_000, 1_000_000_000_000];
         let moduli: Vec<u64> = (0..METERS as u64)
-            .map(|meter| if self.rng.percent(70) { self.book.meter(meter) + self.rng.pick(&any) } else { self.rng.pick(&any) })
+            .map(|meter| if self.rng.percent(70) { self.reference.meter(meter) + self.rng.pick(&any) } else { self.rng.pick(&any) })
             .map(|modulus| modulus.min(1_000_000_000_000))
             .collect();
         let lines = if self.rng.percent(90) { METERS } else { METERS - 1 };
         let text: String = (0..lines).map(|meter| format!("{meter},{}\n", moduli[meter])).collect();
-        let below = (0..METERS).all(|meter| self.book.meter(meter as u64) < moduli[meter]);
+        let below = (0..METERS).all(|meter| self.reference.meter(meter as u64) < moduli[meter]);
         match self.store.load(text.as_bytes()) {
             Ok(loaded) => {
                 assert!(below && loaded == moduli);
-                self.starts = (0..METERS as u64).map(|meter| self.book.meter(meter)).collect();
-                (self.moduli, self.before) = (loaded, self.book.events.len());
+                self.starts = (0..METERS as u64).map(|meter| self.reference.meter(meter)).collect();
+                (self.moduli, self.before) = (loaded, self.reference.events.len());
                 self.loads += 1;
             }
             Err(9) => assert!(self.store.state.pending.is_some()),
@@ -189,7 +189,7 @@ impl Both {
         let offset = self.rng.pick(&[0, 3, 63]);
         let length = self.rng.between(1, 64 - offset) as usize;
         let data: Vec<u8> = if again.is_some() {
-            self.book.line(Some(writer), page, line)[offset as usize..][..length].to_vec()
+            self.reference.line(Some(writer), page, line)[offset as usize..][..length].to_vec()
         } else {
             (0..length).map(|_| self.rng.below(256) as u8).collect()
         };
@@ -206,7 +206,7 @@ impl Both {
             0..=2 => self.store.begin(writer).map_or((), |_| ()),
             3 => {
                 if self.store.abort(writer).is_ok() {
-                    self.book.sheets[writer as usize].clear();
+                    self.reference.unfinished[writer as usize].clear();
                 }
             }
             4..=8 if self.rng.percent(if self.metered { 60 } else { 20 }) => self.event(),
@@ -246,12 +246,12 @@ impl Both {
             }
             14 if self.rng.percent(20) => {
                 self.store.mount().expect("a mount is taken");
-                self.book.mounted();
+                self.reference.mounted();
             }
             _ => {
                 let k = self.rng.pick(&[0, 1, 3, 9, 600, 600, 600]);
                 let made = self.store.run(k).unwrap_or(0);
-                self.book.stored(made);
+                self.reference.stored(made);
             }
         }
     }
@@ -259,7 +259,7 @@ impl Both {
     /// The meters that a mount of the image finds are the totals of the completed events.
     fn adds_up(&self) {
         let total_from = |first: usize, meter| {
-            let own = self.book.events[first..].iter().filter(|asked| asked.meters().last() == Some(&meter));
+            let own = self.reference.events[first..].iter().filter(|asked| asked.meters().last() == Some(&meter));
             own.map(|asked| asked.amount).sum::<u64>()
         };
         let total = |meter| total_from(0, meter);
@@ -276,20 +276,20 @@ impl Both {
         }
     }
 
-    /// Every reader sees the book's bytes, and a cut here would leave the pages.
+    /// Every reader sees the reference's bytes, and a cut here would leave the pages.
     fn agree(&self) {
         for page in 0..self.store.state.sizes.p {
             for line in LINES {
                 let mut target = [9; 64];
                 numbered(recall(page, line, &self.store.image, &mut target)).expect("a recall is taken");
-                assert_eq!(target.to_vec(), self.book.line(None, page, line), "recall of {page}, {line}");
+                assert_eq!(target.to_vec(), self.reference.line(None, page, line), "recall of {page}, {line}");
                 for writer in (0..4).filter(|_| self.store.state.pending.is_none()) {
                     let place = (writer, page, line);
                     numbered(calls::read(&self.store.state, &self.store.image, place, &mut target))
                         .expect("taken");
                     assert_eq!(
                         target.to_vec(),
-                        self.book.line(Some(writer), page, line),
+                        self.reference.line(Some(writer), page, line),
                         "read of {place:?}"
                     );
                 }
@@ -299,7 +299,7 @@ impl Both {
 }
 
 #[test]
-fn the_model_keeps_the_book() {
+fn the_model_agrees_with_the_reference() {
     let (mut taken, mut freed, mut confirmed, mut events, mut idle) = (0, 0, 0, 0, 0);
     for seed in 0..120 {
         let mut both = Both::new(seed, false);
@@ -310,7 +310,7 @@ fn the_model_keeps_the_book() {
         taken += both.taken;
         freed += both.freed;
         confirmed += both.confirmed;
-        events += both.book.events.len();
+        events += both.reference.events.len();
         idle += both.idle;
     }
     assert!(taken > 1_000, "only {taken} operations were taken");
@@ -332,7 +332,7 @@ fn the_meters_add_up() {
             both.adds_up();
         }
         both.agree();
-        events += both.book.events.len();
+        events += both.reference.events.len();
         loads += both.loads;
     }
     assert!(events > 300, "only {events} events were completed");
