@@ -120,6 +120,7 @@ pub fn load(st: State, image: &[u8], text: &[u8]) -> Loaded
         &st.table.last,
         &st.writers.opened,
         &st.writers.held,
+        st.writers.prepared,
         st.pending,
         image.len(),
         false,
