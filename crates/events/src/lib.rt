@@ -55,13 +55,14 @@ fn start_row<'a>(
     last: &'a [usize; 16],
     opened: &'a [bool; 4],
     held: &'a [u64; 64],
+    prepared: usize,
     pending: Pending,
     n: usize,
     kind: usize,
     meter: usize,
     moduli: &[u64],
 ) -> usize
-    ensures { λ r. ⌜ r ≡ refusal (startRows (stateOf z head tail next (now (page .entry)) (now (original .entry)) (now (spare .entry)) (now (bitmap .entry)) (now (last .entry)) (now (opened .entry)) (now (held .entry)) pending) n (now (moduli .entry)) kind meter) ⌝ }
+    ensures { λ r. ⌜ r ≡ refusal (startRows (stateOf z head tail next (now (page .entry)) (now (original .entry)) (now (spare .entry)) (now (bitmap .entry)) (now (last .entry)) (now (opened .entry)) (now (held .entry)) prepared pending) n (now (moduli .entry)) kind meter) ⌝ }
 {
     let row = rows::first_row(
         z,
@@ -75,6 +76,7 @@ fn start_row<'a>(
         last,
         opened,
         held,
+        prepared,
         pending,
         n,
         false,

@@ -15,7 +15,7 @@ use Rattle.events.proofs.start_row.Statement.{statement}
 use Rattle.events.proofs.start_row.Tie as tie
 
 abbrev st : tie.Start → State
-st c = let a = c .args in stateOf (a .z) (a .head) (a .tail) (a .next) (a .page .now) (a .original .now) (a .spare .now) (a .bitmap .now) (a .last .now) (a .opened .now) (a .held .now) (a .pending)
+st c = let a = c .args in stateOf (a .z) (a .head) (a .tail) (a .next) (a .page .now) (a .original .now) (a .spare .now) (a .bitmap .now) (a .last .now) (a .opened .now) (a .held .now) (a .prepared) (a .pending)
 
 abbrev two : tie.Start → List Row
 two c = let a = c .args in (not (eventKnown (a .kind) (a .meter)), 20) ∷ (not (moduliOk (a .moduli .now)), 26) ∷ []
