@@ -120,7 +120,7 @@ pub record Account : Type 0 where
   pub since : List Move
   pub all : List Move
 
--- after a format: the fixed moduli, and no number
+-- after a format: the fixed moduli, each meter at 0, and no event
 abbrev pub opened : Account
 opened = record { moduli = fixedModuli; start = λ m. 0; since = []; all = [] }
 
