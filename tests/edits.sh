@@ -1,6 +1,6 @@
 #!/usr/bin/env bash
 # Wrong programs beside those of rt ci: the prover must refuse each FOLDER/CRATE/WHAT.edit. What target/ holds proved is not proved again.
-#   tests/edits.sh tests/call_edits    two for each call that a user can reach; tried at every merge, once rt ci has proved all
+#   tests/edits.sh tests/call_edits    of the calls that a user can reach; tried at every merge, once rt ci has proved all
 #   tests/edits.sh tests/more_edits    the libraries' others; tried before a release
 set -euo pipefail
 cd "$(dirname "${BASH_SOURCE[0]}")/.."
