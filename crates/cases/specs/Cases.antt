@@ -15,7 +15,7 @@ use Rattle.refinement.specs.Mount.{quietState, formatCall, mountCall}
 use Rattle.refinement.specs.Run.{Call, Result, mount, begin, write, commit, consolidate, checkpoint, run, exec, formattedWorld, after}
 
 abbrev pub small : Sizes
-small = record { pages = 2; slots = 1; places = 2 }
+small = record { pages = 2; slots = 1; places = 2; entries = 0 }
 
 -- byte 165 by writer w to page p, line 0
 abbrev pub put165 : ℕ → ℕ → Call
@@ -94,7 +94,7 @@ cases =
     -- T1 length 12,479: 4
     case (formats small 12479 ∷ mounts (take 12479 (fresh .image)) ∷ formats small 12480 ∷ mounts (fresh .image) ∷ []) (4 ∷ 4 ∷ 0 ∷ 0 ∷ [])
     -- T2 J = 0: 3
-    ∷ case (formats (record { pages = 2; slots = 1; places = 0 }) 12480 ∷ mounts (store (fresh .image) 2 0) ∷ []) (3 ∷ 3 ∷ [])
+    ∷ case (formats (record { pages = 2; slots = 1; places = 0; entries = 0 }) 12480 ∷ mounts (store (fresh .image) 2 0) ∷ []) (3 ∷ 3 ∷ [])
     -- T3 8 stores at bytes 8,384 to 8,447: words 1,048 to 1,055
     ∷ case (gives toWrite (put165 0 0) (1048 ∷ 1049 ∷ [])) (0 ∷ 8 ∷ 1048 ∷ 1049 ∷ 1050 ∷ 1051 ∷ 1052 ∷ 1053 ∷ 1054 ∷ 1055 ∷ 165 ∷ 0 ∷ [])
     -- T4 5 stores; record 0, 0, 8589934592, 1; head 1

@@ -65,6 +65,7 @@ fn sizes(p: usize, s: usize, j: usize) {
             pages: p,
             slots: s,
             places: j,
+            entries: 0,
         }) as u64,
     );
     out::end();
@@ -88,16 +89,19 @@ pub fn run() {
         pages: 2,
         slots: 1,
         places: 2,
+        entries: 0,
     });
     image(Sizes {
         pages: 1024,
         slots: 16,
         places: 256,
+        entries: 0,
     });
     image(Sizes {
         pages: 1,
         slots: 1,
         places: 1,
+        entries: 0,
     });
     bounds();
 }

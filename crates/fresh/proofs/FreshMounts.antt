@@ -1,7 +1,7 @@
 -- A formatted image mounts, and the mount finds the fresh slots, with head and tail 0.
 use Prim.Native.Nat.{ℕ, zero, suc, _+_, _≤_, _<_}
-use mathlib.Core.Path.{_≡_, refl, sym, ap, _∙_, subst}
-use mathlib.Core.Bool.{true, false}
+use mathlib.Core.Path.{_≡_, refl, sym, ap, ap₂, _∙_, subst}
+use mathlib.Core.Bool.{true, false, cond}
 use mathlib.Core.List.{List, [], _∷_}
 use mathlib.Core.Logic.{_⊎_, inl, inr}
 use native.Mathlib.Omega.{arith}
@@ -17,14 +17,16 @@ use Rattle.bounded.proofs.Below.{all-made, first-holds}
 use Rattle.bounded.proofs.Tab.{tab-ext}
 use Rattle.bounded.proofs.Pigeonhole.{count-append}
 use Rattle.layout.specs.declared.Sizes.{Sizes}
-use Rattle.layout.specs.Layout.{Legal, sizesOk, frames, layoutWord, headWord, tailWord, slotWord, imageLength}
+use Rattle.layout.specs.Layout.{Legal, sizesOk, layoutOf, frames, layoutWord, headWord, tailWord, countWord, entriesWord, slotWord, imageLength}
 use Rattle.words.specs.Words.{word}
 use Rattle.layout.proofs.LayoutLaws.{legal}
 use Rattle.journal.specs.declared.Slot.{Slot}
 use Rattle.journal.specs.Slots.{noPage, slotFrom, freeSlot, shaped}
 use Rattle.journal.specs.Records.{liveCount}
 use Rattle.replay.specs.Table.{slotIn, emptyTable, tableFrom, slotsShaped, pageApart, pagesApart, slotOf, homeOf}
-use Rattle.mount.specs.Mount.{sizesFrom, mountOf}
+use Rattle.entries.specs.Entries.{noKeys}
+use Rattle.entries.proofs.EntryLaws.{no-keys, none-right, right-entries}
+use Rattle.mount.specs.Mount.{wideWord, sizesFrom, countFrom, mountOf}
 use Rattle.fresh.specs.Fresh.{formatted, freshTable}
 use Rattle.journal.proofs.Ring.{live-none, positions-none}
 use Rattle.journal.proofs.SlotWords.{slot-back, free-shaped}
@@ -65,7 +67,7 @@ module _ (x a : ℕ) where
 -- ---- the view of a fresh image
 
 abbrev pub freshView : Sizes → View
-freshView z = record { sizes = z; layout = 1; head = 0; tail = 0; records = []; table = freshTable z; homes = tab (z .pages) (λ p. p) }
+freshView z = record { sizes = z; layout = layoutOf z; head = 0; tail = 0; records = []; table = freshTable z; homes = tab (z .pages) (λ p. p); count = 0; keys = noKeys }
 
 -- slot s is free with spare P + s
 pub fresh-slot : (z : Sizes) (s : ℕ) → Legal z → s < z .slots → slotIn (freshTable z) s ≡ freeSlot (z .pages + s)
@@ -84,6 +86,16 @@ no-slot z p g l =
     absurd (omega arith))
     (λ t. t)
 
+-- the header's last two words, as its layout has them read
+wide-entries : (z : Sizes) (l n : ℕ) → l ≡ layoutOf z → n ≡ z .entries → cond (eqb l 2) n 0 ≡ z .entries
+wide-entries z l n e h =
+    caseOn (eqb (z .entries) 0)
+    (λ t. rw (e, t) (sym (eqb-true (z .entries) 0 t)))
+    (λ t. rw (e, t) h)
+
+wide-none : (l n : ℕ) → n ≡ 0 → cond (eqb l 2) n 0 ≡ 0
+wide-none l n e = caseOn (eqb l 2) (λ t. rw t e) (λ t. rw t)
+
 module _ (z : Sizes) (g : Legal z) (b : List ℕ) (fits : imageLength z ≤ length b) where
   fresh-table : tableFrom (word (formatted z b)) z ≡ freshTable z
   unfolding tableFrom freshTable
@@ -94,11 +106,11 @@ module _ (z : Sizes) (g : Legal z) (b : List ℕ) (fits : imageLength z ≤ leng
   fresh-home : (p : ℕ) → p < z .pages → homeOf (word (formatted z b)) z (freshTable z) p ≡ p
   fresh-home p l = rw (no-slot z p g l) (formatted-page z g b fits p l)
 
-  fresh-with : viewWith (word (formatted z b)) z 1 0 0 ≡ freshView z
+  fresh-with : viewWith (word (formatted z b)) z (layoutOf z) 0 0 0 ≡ freshView z
   fresh-with =
-      none-live (word (formatted z b)) z 1 0 (freshTable z) fresh-table
-      ∙ ap (λ (h : List ℕ). record { sizes = z; layout = 1; head = 0; tail = 0; records = []; table = freshTable z; homes = h })
-      (tab-ext (z .pages) (homeOf (word (formatted z b)) z (freshTable z)) (λ p. p) fresh-home)
+      none-live (word (formatted z b)) z (layoutOf z) 0 0 (freshTable z) fresh-table
+      ∙ ap₂ (λ (h k : List ℕ). record { sizes = z; layout = layoutOf z; head = 0; tail = 0; records = []; table = freshTable z; homes = h; count = 0; keys = k })
+      (tab-ext (z .pages) (homeOf (word (formatted z b)) z (freshTable z)) (λ p. p) fresh-home) (no-keys (word (formatted z b)) z)
 
   pub fresh-shows : Shows (formatted z b) (freshView z)
   fresh-shows =
@@ -106,9 +118,12 @@ module _ (z : Sizes) (g : Legal z) (b : List ℕ) (fits : imageLength z ≤ leng
       let e₀ : r 0 ≡ z .pages = formatted-header z g b fits 0 (omega arith) in
       let e₁ : r 1 ≡ z .slots = formatted-header z g b fits 1 (omega arith) in
       let e₂ : r 2 ≡ z .places = formatted-header z g b fits 2 (omega arith) in
-      header-view r (sizesFrom r) z (r layoutWord) 1 (r headWord) 0 (r tailWord) 0
-      (λ i. record { pages = e₀ i; slots = e₁ i; places = e₂ i })
-      (formatted-header z g b fits 3 (omega arith)) (formatted-header z g b fits 4 (omega arith)) (formatted-header z g b fits 5 (omega arith))
+      let e₃ : r layoutWord ≡ layoutOf z = formatted-header z g b fits 3 (omega arith) in
+      let e₇ : wideWord r entriesWord ≡ z .entries = wide-entries z (r layoutWord) (r entriesWord) e₃ (formatted-header z g b fits 7 (omega arith)) in
+      header-view r (sizesFrom r) z (r layoutWord) (layoutOf z) (r headWord) 0 (r tailWord) 0 (countFrom r) 0
+      (λ i. record { pages = e₀ i; slots = e₁ i; places = e₂ i; entries = e₇ i })
+      e₃ (formatted-header z g b fits 4 (omega arith)) (formatted-header z g b fits 5 (omega arith))
+      (wide-none (r layoutWord) (r countWord) (formatted-header z g b fits 6 (omega arith)))
       ∙ fresh-with
 
 -- ---- no row applies
@@ -155,10 +170,11 @@ module _ (z : Sizes) (g : Legal z) where
         shapes = fresh-shapes;
         apart = fresh-apart;
         names = fresh-names;
+        entries = right-entries z noKeys 0 (none-right z noKeys);
       }
 
 pub fresh-mounts : (z : Sizes) (b : List ℕ) → sizesOk z ≡ true → imageLength z ≤ length b
-    → mountOf (formatted z b) ≡ record { row = 0; sizes = z; head = 0; tail = 0; table = freshTable z }
+    → mountOf (formatted z b) ≡ record { row = 0; sizes = z; head = 0; tail = 0; table = freshTable z; count = 0; keys = noKeys }
 fresh-mounts z b e fits =
     let g : Legal z = legal z e in
     taken-mount (formatted z b) (freshView z) (fresh-shows z g b fits)

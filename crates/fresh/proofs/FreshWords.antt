@@ -4,7 +4,7 @@ use mathlib.Core.Path.{_≡_, sym, ap, ap₂, _∙_}
 use mathlib.Core.List.{List, [], _∷_, _++_}
 use native.Mathlib.Omega.{arith}
 use native.Mathlib.Nat.{zero-add}
-use lib.Dec.{ltb}
+use lib.Dec.{ltb, eqb}
 use lib.ListN.{length, drop, getD, replicate, length-append, length-replicate, List·getD-append, List·getD-eq-default}
 use lib.Seq.{getD-append-add}
 use borrow.Author.Tests.{ltb-true, ltb-false}
@@ -78,11 +78,12 @@ module _ (z : Sizes) (legal : Legal z) where
   low-header zero = omega arith
   low-header (suc zero) = omega arith
   low-header (suc (suc zero)) = omega arith
-  low-header (suc (suc (suc i))) = low-rest i
-    where
-      low-rest : Low (1 ∷ 0 ∷ 0 ∷ 0 ∷ 0 ∷ [])
-      low-rest zero = omega arith
-      low-rest (suc i) = rw (one-value 4 i 0) (omega arith)
+  low-header (suc (suc (suc zero))) = caseOn (eqb (z .entries) 0) (λ t. rw t (omega arith)) (λ t. rw t (omega arith))
+  low-header (suc (suc (suc (suc zero)))) = omega arith
+  low-header (suc (suc (suc (suc (suc zero))))) = omega arith
+  low-header (suc (suc (suc (suc (suc (suc zero)))))) = omega arith
+  low-header (suc (suc (suc (suc (suc (suc (suc zero))))))) = omega arith
+  low-header (suc (suc (suc (suc (suc (suc (suc (suc i)))))))) = omega arith
 
   free-word-lt : (i : ℕ) → i < 3 * z .slots → freshSlot z i < 2 ^ 64
   free-word-lt i l =

@@ -12,7 +12,7 @@ use Rattle.bounded.specs.Tab.{tab}
 use Rattle.bounded.proofs.Tab.{length-tab}
 use Rattle.bounded.proofs.Tests.{row-yes, row-no}
 use Rattle.layout.specs.declared.Sizes.{Sizes}
-use Rattle.layout.specs.Layout.{Legal, slotWord, imageWords, imageLength}
+use Rattle.layout.specs.Layout.{Legal, layoutOf, slotWord, imageWords, imageLength}
 use Rattle.words.specs.Words.{bytesOf, over, putWord, store, flat, putWords}
 use Rattle.words.proofs.Parts.{over-nil, over-over}
 use Rattle.words.proofs.WordLaws.{length-put}
@@ -52,10 +52,10 @@ words-over (v ∷ vs) l a h =
 
 -- ---- a fresh image: header, page table, slot table and zeros, one after the other, are its words
 
-pub header-puts : (z : Sizes) (l : List ℕ) {m₀ m₁ m₂ m₃ m : List ℕ} → m₀ ≡ store l 0 (z .pages) → m₁ ≡ store m₀ 1 (z .slots) → m₂ ≡ store m₁ 2 (z .places) → m₃ ≡ store m₂ 3 1
-    → m ≡ putWords m₃ 32 (replicate 4 0) → m ≡ putWords l 0 (freshHeader z)
+pub header-puts : (z : Sizes) (l : List ℕ) {m₀ m₁ m₂ m₃ m₄ m : List ℕ} → m₀ ≡ store l 0 (z .pages) → m₁ ≡ store m₀ 1 (z .slots) → m₂ ≡ store m₁ 2 (z .places) → m₃ ≡ store m₂ 3 (layoutOf z)
+    → m₄ ≡ putWords m₃ 32 (replicate 3 0) → m ≡ store m₄ 7 (z .entries) → m ≡ putWords l 0 (freshHeader z)
 unfolding putWords
-header-puts z l e₀ e₁ e₂ e₃ e = rw (e, e₃, e₂, e₁, e₀)
+header-puts z l e₀ e₁ e₂ e₃ e₄ e = rw (e, e₄, e₃, e₂, e₁, e₀)
 
 module _ (z : Sizes) (l : List ℕ) (legal : Legal z) (fits : imageLength z ≤ length l) where
   fresh-words : putWords

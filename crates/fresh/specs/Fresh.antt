@@ -8,15 +8,15 @@ use Rattle.bounded.specs.Below.{upTo}
 use Rattle.bounded.specs.Tab.{tab}
 use Rattle.bounded.specs.Rows.{Row, refusal}
 use Rattle.layout.specs.declared.Sizes.{Sizes}
-use Rattle.layout.specs.Layout.{sizesOk, slotWord, imageWords, imageLength}
+use Rattle.layout.specs.Layout.{sizesOk, layoutOf, slotWord, imageWords, imageLength}
 use Rattle.words.specs.Words.{over, flat}
 use Rattle.replay.specs.declared.Table.{Table}
 use Rattle.journal.specs.Slots.{freeSlot, wordOfSlot}
 use Rattle.replay.specs.Table.{withSlot, emptyTable}
 
--- head and tail 0, layout 1
+-- head and tail 0, no entry counted
 abbrev pub freshHeader : Sizes → List ℕ
-freshHeader z = z .pages ∷ z .slots ∷ z .places ∷ 1 ∷ 0 ∷ 0 ∷ 0 ∷ 0 ∷ []
+freshHeader z = z .pages ∷ z .slots ∷ z .places ∷ layoutOf z ∷ 0 ∷ 0 ∷ 0 ∷ z .entries ∷ []
 
 -- page i in frame i
 abbrev pub freshPages : Sizes → List ℕ

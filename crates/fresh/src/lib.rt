@@ -9,7 +9,7 @@ ghost use Rattle.fresh.specs.Fresh.{freshHeader, freshPages, freshSlot, 
 use layout::Sizes;
 use replay::Table;
 
-// Writes the header: head and tail 0, layout 1.
+// Writes the header: head and tail 0, no entry counted.
 fn put_header(image: &mut [u8], z: Sizes)
     requires { ⌜ Legal z × (imageLength z ≤ length (now image)) ⌝ }
     ensures { λ _. ⌜ now (image .exit) ≡ putWords (now (image .entry)) 0 (freshHeader z) ⌝ }
@@ -17,8 +17,9 @@ fn put_header(image: &mut [u8], z: Sizes)
     image_words::store_word(image, 0, z.pages as u64);
     image_words::store_word(image, 1, z.slots as u64);
     image_words::store_word(image, 2, z.places as u64);
-    image_words::store_word(image, 3, 1);
-    runs::fill_words(image, 32, 4, 0);
+    image_words::store_word(image, 3, layout::layout_of(z));
+    runs::fill_words(image, 32, 3, 0);
+    image_words::store_word(image, 7, z.entries as u64);
 }
 
 // Writes the page table: page i in frame i.

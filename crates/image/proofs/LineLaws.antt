@@ -46,23 +46,29 @@ module _ (img : List ℕ) (z : Sizes) (f : ℕ) (in-frames : f < frames z) (whol
 pub length-line : (img : List ℕ) (z : Sizes) (f l : ℕ) → f < frames z → l < 64 → imageLength z ≤ length img → length (lineBytes img z f l) ≡ 64
 length-line img z f l p q h = length-part img (8 * lineWord z f l) 64 (omega arith)
 
+-- the 64 bytes from word a on
+pub eight-words : (img : List ℕ) (a : ℕ) → Bytes img → 8 * a + 64 ≤ length img → part img (8 * a) 64 ≡ flat (tab 8 (λ k. word img (a + k)))
+eight-words img a b h =
+    sym (flat-words img b 8 (8 * a) (omega arith))
+    ∙ ap flat
+    (words-tab img (8 * a) 8
+    ∙ tab-ext 8 (λ k. wordAt img (8 * a + 8 * k)) (λ k. word img (a + k))
+    (λ k _. let e : 8 * a + 8 * k ≡ 8 * (a + k) = omega arith in ap (wordAt img) e))
+
+pub eight-ext : (x y : List ℕ) (a c : ℕ) → Bytes x → Bytes y → 8 * a + 64 ≤ length x → 8 * c + 64 ≤ length y
+    → ((k : ℕ) → k < 8 → word x (a + k) ≡ word y (c + k)) → part x (8 * a) 64 ≡ part y (8 * c) 64
+eight-ext x y a c bx by hx hy e =
+    eight-words x a bx hx ∙ ap flat (tab-ext 8 (λ k. word x (a + k)) (λ k. word y (c + k)) e) ∙ sym (eight-words y c by hy)
+
 pub line-words : (img : List ℕ) (z : Sizes) (f l : ℕ) → Bytes img → f < frames z → l < 64 → imageLength z ≤ length img
     → lineBytes img z f l ≡ flat (tab 8 (λ k. word img (lineWord z f l + k)))
-line-words img z f l b p q h =
-    sym (flat-words img b 8 (8 * lineWord z f l) (omega arith))
-    ∙ ap flat
-    (words-tab img (8 * lineWord z f l) 8
-    ∙ tab-ext 8 (λ k. wordAt img (8 * lineWord z f l + 8 * k)) (λ k. word img (lineWord z f l + k))
-    (λ k _. let e : 8 * lineWord z f l + 8 * k ≡ 8 * (lineWord z f l + k) = omega arith in ap (wordAt img) e))
+line-words img z f l b p q h = eight-words img (lineWord z f l) b (omega arith)
 
 -- lines whose eight words agree, of one image or of two, are the same
 pub line-ext : (x y : List ℕ) (z : Sizes) (f l g m : ℕ) → Bytes x → Bytes y → f < frames z → l < 64 → g < frames z → m < 64
     → imageLength z ≤ length x → imageLength z ≤ length y
     → ((k : ℕ) → k < 8 → word x (lineWord z f l + k) ≡ word y (lineWord z g m + k)) → lineBytes x z f l ≡ lineBytes y z g m
-line-ext x y z f l g m bx by p q r s hx hy e =
-    line-words x z f l bx p q hx
-    ∙ ap flat (tab-ext 8 (λ k. word x (lineWord z f l + k)) (λ k. word y (lineWord z g m + k)) e)
-    ∙ sym (line-words y z g m by r s hy)
+line-ext x y z f l g m bx by p q r s hx hy e = eight-ext x y (lineWord z f l) (lineWord z g m) bx by (omega arith) (omega arith) e
 
 -- the bytes of a line's words are the line
 pub flat-line : (line : List ℕ) → Bytes line → length line ≡ 64 → flat (lineWords line) ≡ line

@@ -15,7 +15,7 @@ use Rattle.workbench.specs.declared.Turn.{Turn}
 -- ---- format, mount
 
 abbrev pub sizesIn : Line → Sizes
-sizesIn line = record { pages = arg line 0; slots = arg line 1; places = arg line 2 }
+sizesIn line = record { pages = arg line 0; slots = arg line 1; places = arg line 2; entries = 0 }
 
 abbrev pub formatTurn : Bench → List ℕ → Line → Turn
 formatTurn b img line = formed (eqb (line .count) 3) b (replacing b (formatCall (sizesIn line) img))

@@ -18,6 +18,7 @@ pub fn format(bench: Bench, image: &mut [u8], line: Line) -> Turn
             pages: line.numbers[0] as usize,
             slots: line.numbers[1] as usize,
             places: line.numbers[2] as usize,
+            entries: 0,
         };
         let done = mounting::format(image, sizes);
         return calls::replacing(bench, done);

@@ -10,13 +10,13 @@ use lib.Dec.{leb}
 use borrow.Author.Tests.{leb-true, le-leb}
 use Rattle.bounded.proofs.Tests.{every-held, held-every}
 use Rattle.layout.specs.declared.Sizes.{Sizes}
-use Rattle.layout.specs.Layout.{sizesOk, Legal, frames, pageWord, slotWord, placeOf, recordWord, paddingWord, frameWord, lineWord, imageWords, imageLength}
+use Rattle.layout.specs.Layout.{sizesOk, Legal, frames, pageWord, slotWord, placeOf, recordWord, paddingWord, frameWord, lineWord, entryWord, imageWords, imageLength}
 
 -- ---- legal sizes
 
 -- the tests of `sizesOk`, one by one
 abbrev tests : Sizes → List Bool
-tests z = leb 1 (z .pages) ∷ leb (z .pages) 1024 ∷ leb 1 (z .slots) ∷ leb (z .slots) 16 ∷ leb (z .slots) (z .places) ∷ leb (z .places) 256 ∷ []
+tests z = leb 1 (z .pages) ∷ leb (z .pages) 1024 ∷ leb 1 (z .slots) ∷ leb (z .slots) 16 ∷ leb (z .slots) (z .places) ∷ leb (z .places) 256 ∷ leb (z .entries) 64 ∷ []
 
 pub legal : (z : Sizes) → sizesOk z ≡ true → Legal z
 legal z e =
@@ -46,14 +46,18 @@ record-end z h q = omega (arith, place-lt z h q)
 pub frame-start : (z : Sizes) → (paddingWord z ≤ frameWord z) × (frameWord z < paddingWord z + 8) × (frameWord z % 8 ≡ 0)
 frame-start z = omega arith
 
-pub line-end : (z : Sizes) (f l : ℕ) → f < frames z → l < 64 → lineWord z f l + 8 ≤ imageWords z
+-- the frames end where the entries start
+pub line-end : (z : Sizes) (f l : ℕ) → f < frames z → l < 64 → lineWord z f l + 8 ≤ entryWord z 0
 line-end z f l h k = omega arith
 
+pub entry-end : (z : Sizes) (e : ℕ) → e < z .entries → entryWord z e + 9 ≤ imageWords z
+entry-end z e h = omega arith
+
 -- the largest image: no sum of places in it wraps
-pub image-words : (z : Sizes) → Legal z → imageWords z ≤ 534584
+pub image-words : (z : Sizes) → Legal z → imageWords z ≤ 535160
 image-words z h = omega arith
 
-pub image-length : (z : Sizes) → Legal z → imageLength z ≤ 4276672
+pub image-length : (z : Sizes) → Legal z → imageLength z ≤ 4281280
 image-length z h = omega arith
 
 -- ---- the same word is the same word of the same thing
@@ -73,3 +77,8 @@ line-apart z f l k g m n a b c d e =
     let p : f ≡ g = omega arith in
     let q : l ≡ m = omega arith in
     (p, q, omega arith)
+
+pub entry-apart : (z : Sizes) (e k d n : ℕ) → k < 9 → n < 9 → entryWord z e + k ≡ entryWord z d + n → (e ≡ d) × (k ≡ n)
+entry-apart z e k d n a b h =
+    let p : e ≡ d = omega arith in
+    (p, omega arith)

@@ -1,13 +1,14 @@
 // Where each word of an image lies (document 01, "The image"), in words from its start.
 ghost use mathlib.Core.Path.{_≡_};
 ghost use Prim.Native.Nat.{_+_, _%_, _<_, _≤_};
-ghost use Rattle.layout.specs.Layout.{sizesOk, Legal, frames, pageWord, slotWord, placeOf, recordWord, paddingWord, frameWord, lineWord, imageLength};
+ghost use Rattle.layout.specs.Layout.{sizesOk, Legal, frames, layoutOf, pageWord, slotWord, placeOf, recordWord, paddingWord, frameWord, lineWord, entryWord, imageLength};
 
-// Sizes of a store (document 01: P, S and J).
+// Sizes of a store (document 01: P, S and J; document 02, L14: L).
 pub struct Sizes {
     pub pages: usize,
     pub slots: usize,
     pub places: usize,
+    pub entries: usize,
 }
 
 // Whether the sizes are in their ranges (row 3).
@@ -20,6 +21,14 @@ pub fn sizes_ok(z: Sizes) -> bool
         & (z.slots <= 16)
         & (z.slots <= z.places)
         & (z.places <= 256)
+        & (z.entries <= 64)
+}
+
+// The layout's number.
+pub fn layout_of(z: Sizes) -> u64
+    ensures { λ r. ⌜ r ≡ layoutOf z ⌝ }
+{
+    if z.entries == 0 { 1 } else { 2 }
 }
 
 // The number of frames.
@@ -86,10 +95,18 @@ pub fn line_word(z: Sizes, f: usize, l: usize) -> usize
     frame_word(z) + 512 * f + 8 * l
 }
 
+// The first of the nine words of entry e, or the image's end.
+pub fn entry_word(z: Sizes, e: usize) -> usize
+    requires { ⌜ Legal z × (e ≤ z .entries) ⌝ }
+    ensures { λ r. ⌜ r ≡ entryWord z e ⌝ }
+{
+    frame_word(z) + 512 * frame_count(z) + 9 * e
+}
+
 // The image's length in bytes.
 pub fn image_length(z: Sizes) -> usize
     requires { ⌜ Legal z ⌝ }
     ensures { λ r. ⌜ r ≡ imageLength z ⌝ }
 {
-    8 * (frame_word(z) + 512 * frame_count(z))
+    8 * entry_word(z, z.entries)
 }

@@ -115,6 +115,7 @@ pub fn fresh(image: &mut [u8; 16640]) -> Game {
             pages: 2,
             slots: 2,
             places: 4,
+            entries: 0,
         },
     );
     let state = done.state;

@@ -13,6 +13,7 @@ use Rattle.bounded.proofs.Tab.{length-tab, getD-tab, tab-ext, tab-append}
 use Rattle.layout.specs.declared.Sizes.{Sizes}
 use Rattle.layout.specs.Layout.{Legal, frames, headWord, recordWord}
 use Rattle.words.specs.Words.{word, store}
+use Rattle.entries.specs.Entries.{keysFrom}
 use Rattle.journal.specs.declared.Record.{Record}
 use Rattle.journal.specs.Records.{position, liveCount, recordFrom, wordOfRecord, liveRecord, recordsOk}
 use Rattle.replay.specs.Table.{tableFrom, replay, slotsShaped, pagesApart, homeOf}
@@ -35,6 +36,8 @@ appended r v n new =
       records = v .records ++ tab n new;
       table = replay (v .sizes) (v .head) n new (v .table);
       homes = tab (v .sizes .pages) (homeOf r (v .sizes) (replay (v .sizes) (v .head) n new (v .table)));
+      count = v .count;
+      keys = v .keys;
     }
 
 -- the new records' words are at the n positions from head on
@@ -49,7 +52,7 @@ pub record Appendable (v : View) (n : ℕ) (new : ℕ → Record) : Type 0 where
   pub right : recordsOk (v .sizes) (v .head) n new ≡ true
 
 -- the same words under the head n further on
-module _ (r : ℕ → ℕ) (z : Sizes) (layout head tail n : ℕ) (new : ℕ → Record) (ok : Appendable (viewWith r z layout head tail) n new) where
+module _ (r : ℕ → ℕ) (z : Sizes) (layout head tail count n : ℕ) (new : ℕ → Record) (ok : Appendable (viewWith r z layout head tail count) n new) where
   new-record : Landed r z head n new → (j : ℕ) → j < n → liveRecord r z tail (liveCount z head tail + j) ≡ new j
   unfolding liveRecord
   new-record landed j l =
@@ -58,7 +61,7 @@ module _ (r : ℕ → ℕ) (z : Sizes) (layout head tail n : ℕ) (new : ℕ →
       ap (λ (q : ℕ). recordFrom r (recordWord z q)) (sym (pos-after z (ok .legal) head tail (ok .positions) j))
       ∙ record-back r (recordWord z (position z head j)) (new j) (omega (arith, f, ok .legal .places-high)) o (λ k m. landed j k l m)
 
-  append-with : Landed r z head n new → viewWith r z layout (position z head n) tail ≡ appended r (viewWith r z layout head tail) n new
+  append-with : Landed r z head n new → viewWith r z layout (position z head n) tail count ≡ appended r (viewWith r z layout head tail count) n new
   append-with landed =
       let m : ℕ = liveCount z head tail in
       let e : ℕ → Record = liveRecord r z tail in
@@ -70,7 +73,7 @@ module _ (r : ℕ → ℕ) (z : Sizes) (layout head tail n : ℕ) (new : ℕ →
       ∙ replay-more z tail m n e (tableFrom r z)
       ∙ ap (λ (q : ℕ). replay z q n (λ j. e (m + j)) (tableWith r z head tail)) (head-of z (ok .legal) head tail (ok .positions .head-low) (ok .positions .tail-low))
       ∙ replay-ext z head n (λ j. e (m + j)) new (tableWith r z head tail) (new-record landed) in
-      λ i. record { sizes = z; layout = layout; head = position z head n; tail = tail; records = e₁ i; table = e₂ i; homes = tab (z .pages) (homeOf r z (e₂ i)) }
+      λ i. record { sizes = z; layout = layout; head = position z head n; tail = tail; records = e₁ i; table = e₂ i; homes = tab (z .pages) (homeOf r z (e₂ i)); count = count; keys = keysFrom r z count }
 
 module _ (img : List ℕ) (v : View) (shows : Shows img v) (n : ℕ) (new : ℕ → Record) (ok : Appendable v n new) where
   -- after the store to head
@@ -78,7 +81,7 @@ module _ (img : List ℕ) (v : View) (shows : Shows img v) (n : ℕ) (new : ℕ 
       → Shows (store img headWord (position (v .sizes) (v .head) n)) (appended (word img) v n new)
   append-view fits landed =
       store-head img v shows (position (v .sizes) (v .head) n) (omega (arith, pos-lt (v .sizes) (ok .legal) (v .head) n, ok .legal .places-high)) fits
-      ∙ append-with (word img) (v .sizes) (v .layout) (v .head) (v .tail) n new (record { legal = ok .legal; positions = ok .positions; room = ok .room; right = ok .right }) landed
+      ∙ append-with (word img) (v .sizes) (v .layout) (v .head) (v .tail) (v .count) n new (record { legal = ok .legal; positions = ok .positions; room = ok .room; right = ok .right }) landed
       ∙ ap (λ (u : View). appended (word img) u n new) (sym (shown img v shows))
 
   pub append-live : live (appended (word img) v n new) ≡ live v + n
@@ -118,4 +121,5 @@ module _ (img : List ℕ) (v : View) (shows : Shows img v) (n : ℕ) (new : ℕ 
         shapes = shapes;
         apart = apart;
         names = names;
+        entries = h .entries;
       }

@@ -1,7 +1,7 @@
 -- A checkpoint: once each slot with a live record has that record's words in the slot table, the store of head to tail
 -- leaves no live record, and the slots and homes as they were.
 use Prim.Native.Nat.{ℕ, _+_, _^_, _≤_, _<_}
-use mathlib.Core.Path.{_≡_, refl, sym, ap, _∙_, subst}
+use mathlib.Core.Path.{_≡_, refl, sym, ap, ap₂, _∙_, subst}
 use mathlib.Core.Bool.{true}
 use mathlib.Core.List.{List, []}
 use native.Mathlib.Omega.{arith}
@@ -35,7 +35,7 @@ unrecorded t = slotsOfArrays (t .page) (t .original) (t .spare) (t .bitmap)
 
 abbrev pub emptied : View → View
 emptied v =
-    record { sizes = v .sizes; layout = v .layout; head = v .head; tail = v .head; records = []; table = unrecorded (v .table); homes = v .homes }
+    record { sizes = v .sizes; layout = v .layout; head = v .head; tail = v .head; records = []; table = unrecorded (v .table); homes = v .homes; count = v .count; keys = v .keys }
 
 -- the slots with a live record are in the slot table
 abbrev pub Copied : (ℕ → ℕ) → View → Type 0
@@ -97,8 +97,8 @@ module _ (img : List ℕ) (v : View) (shows : Shows img v) (legal : Legal (v .si
     pub emptied-view : 48 ≤ length img → v .head < 2 ^ 64 → Shows (store img tailWord (v .head)) (emptied v)
     emptied-view fits low =
         store-tail img v shows (v .head) low fits
-        ∙ none-live (word img) (v .sizes) (v .layout) (v .head) (unrecorded (v .table)) table-emptied
-        ∙ ap (λ (h : List ℕ). record { sizes = v .sizes; layout = v .layout; head = v .head; tail = v .head; records = []; table = unrecorded (v .table); homes = h }) homes-kept
+        ∙ none-live (word img) (v .sizes) (v .layout) (v .head) (v .count) (unrecorded (v .table)) table-emptied
+        ∙ ap₂ (λ (h k : List ℕ). record { sizes = v .sizes; layout = v .layout; head = v .head; tail = v .head; records = []; table = unrecorded (v .table); homes = h; count = v .count; keys = k }) homes-kept (sym (ap (λ (u : View). u .keys) (shown img v shows)))
 
 -- mount takes the emptied image too
 pub emptied-taken : (n : ℕ) (v : View) → Taken n v → Taken n (emptied v)
@@ -114,4 +114,5 @@ emptied-taken n v h =
       shapes = h .shapes;
       apart = h .apart;
       names = h .names;
+      entries = h .entries;
     }

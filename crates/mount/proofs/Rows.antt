@@ -19,7 +19,8 @@ use Rattle.replay.specs.declared.Table.{Table}
 use Rattle.mount.specs.declared.Mounted.{Mounted}
 use Rattle.journal.specs.Records.{position, liveCount, positionsOk, liveRecord, recordRight, recordOk, recordsOk}
 use Rattle.replay.specs.Table.{tableFrom, replay}
-use Rattle.mount.specs.Mount.{sizesFrom, liveFrom, tableAfter, mountRows, turnedBack, found, mountRead, mountOf}
+use Rattle.entries.specs.Entries.{keysFrom, entriesOk}
+use Rattle.mount.specs.Mount.{sizesFrom, liveFrom, tableAfter, countFrom, keysAfter, mountRows, turnedBack, found, mountRead, mountOf}
 
 -- ---- any table of refusals
 
@@ -35,8 +36,8 @@ numbered-at (r ∷ rs) zero l n = n .0
 numbered-at (r ∷ rs) (suc k) l n = numbered-at rs k (le-of-suc-le-suc l) (n .1)
 
 -- row 0, and what is found
-abbrev taken : Sizes → ℕ → ℕ → Table → Mounted
-taken z head tail t = record { row = 0; sizes = z; head = head; tail = tail; table = t }
+abbrev taken : Sizes → ℕ → ℕ → Table → ℕ → List ℕ → Mounted
+taken z head tail t count keys = record { row = 0; sizes = z; head = head; tail = tail; table = t; count = count; keys = keys }
 
 -- ---- the header as it was read, and what is worked out from it
 
@@ -62,9 +63,19 @@ module _ {r : ℕ → ℕ} {z : Sizes} {head tail : ℕ} (h : Header r z head ta
       ap (λ (k : ℕ). replay z tail k (liveRecord r z tail) (tableFrom r z)) e
       ∙ read (λ y a b. replay y b (liveCount y a b) (liveRecord r y b) (tableFrom r y))
 
-  pub found-read : (t : Table) → t ≡ tableAfter r → record { row = 0; sizes = z; head = head; tail = tail; table = t } ≡ found r
-  found-read t e =
-      ap (λ (u : Table). taken z head tail u) e ∙ read (λ y a b. taken y a b (tableAfter r))
+  -- the keys of the entries that are counted
+  pub keys-read : (n : ℕ) → n ≡ countFrom r → keysFrom r z n ≡ keysAfter r
+  keys-read n e = ap₂ (keysFrom r) (h .sizes-is) e
+
+  pub entries-read : (n : ℕ) (keys : List ℕ) → n ≡ countFrom r → keys ≡ keysFrom r z n → entriesOk z keys n ≡ entriesOk (sizesFrom r) (keysAfter r) (countFrom r)
+  entries-read n keys e k =
+      ap (λ (y : Sizes). entriesOk y keys n) (h .sizes-is) ∙ ap₂ (entriesOk (sizesFrom r)) (k ∙ keys-read n e) e
+
+  pub found-read : (t : Table) (n : ℕ) (keys : List ℕ) → t ≡ tableAfter r → n ≡ countFrom r → keys ≡ keysFrom r z n → taken z head tail t n keys ≡ found r
+  found-read t n keys e m k =
+      ap (λ (u : Table). taken z head tail u n keys) e
+      ∙ ap₂ (taken z head tail (tableAfter r)) m (k ∙ keys-read n m)
+      ∙ read (λ y a b. taken y a b (tableAfter r) (countFrom r) (keysAfter r))
 
 -- ---- mount
 

@@ -17,7 +17,8 @@ use Rattle.bounded.proofs.Rows.{row-none, none-apply}
 use Rattle.bounded.proofs.Tab.{getD-tab}
 use Rattle.bounded.proofs.Pigeonhole.{once-true, true-once}
 use Rattle.layout.specs.declared.Sizes.{Sizes}
-use Rattle.layout.specs.Layout.{Legal, sizesOk, frames, imageLength, layoutWord, headWord, tailWord}
+use Rattle.layout.specs.Layout.{Legal, sizesOk, layoutOf, frames, imageLength, layoutWord, headWord, tailWord}
+use Rattle.entries.specs.Entries.{entriesOk}
 use Rattle.words.specs.Words.{word}
 use Rattle.layout.proofs.LayoutLaws.{legal, legal-ok}
 use Rattle.journal.specs.declared.Record.{Record}
@@ -25,7 +26,7 @@ use Rattle.mount.specs.declared.Mounted.{Mounted}
 use Rattle.journal.specs.Slots.{shaped}
 use Rattle.journal.specs.Records.{position, liveCount, positionsOk, liveRecord, recordOk, recordsOk}
 use Rattle.replay.specs.Table.{slotIn, slotsShaped, pagesApart, frameNames}
-use Rattle.mount.specs.Mount.{sizesFrom, liveFrom, turnedBack, mountRead, mountOf}
+use Rattle.mount.specs.Mount.{sizesFrom, liveFrom, countFrom, turnedBack, mountRead, mountOf}
 use Rattle.journal.proofs.Ring.{Positions, positions, positions-ok}
 use Rattle.mount.proofs.View.{View, live, viewWith, viewOf, Shows, shown, Agree, same-view}
 
@@ -45,16 +46,16 @@ namesIn v = tab (v .sizes .slots) (λ s. slotIn (v .table) s .spare) ++ v .homes
 abbrev viewRows : ℕ → View → List Row
 viewRows n v =
     (ltb n 64, 1)
-    ∷ (not (eqb (v .layout) 1), 2)
-    ∷ (not (sizesOk (v .sizes)), 3)
+    ∷ (not (eqb (v .layout) 1 || eqb (v .layout) 2), 2)
+    ∷ (not (sizesOk (v .sizes) && eqb (v .layout) (layoutOf (v .sizes))), 3)
     ∷ (ltb n (imageLength (v .sizes)), 4)
     ∷ (not (positionsOk (v .sizes) (v .head) (v .tail)), 5)
-    ∷ (not (recordsOk (v .sizes) (v .tail) (live v) (recordIn v)), 6)
+    ∷ (not (recordsOk (v .sizes) (v .tail) (live v) (recordIn v) && entriesOk (v .sizes) (v .keys) (v .count)), 6)
     ∷ (not (slotsShaped (v .sizes) (v .table) && (pagesApart (v .sizes) (v .table .page) && eachOnce (frames (v .sizes)) (namesIn v))), 7)
     ∷ []
 
 abbrev pub foundIn : View → Mounted
-foundIn v = record { row = 0; sizes = v .sizes; head = v .head; tail = v .tail; table = v .table }
+foundIn v = record { row = 0; sizes = v .sizes; head = v .head; tail = v .tail; table = v .table; count = v .count; keys = v .keys }
 
 unfoldable pub verdict : ℕ → View → Mounted
 verdict n v = let row = refusal (viewRows n v) in cond (eqb row 0) (foundIn v) (turnedBack row)
@@ -71,18 +72,18 @@ unfolding recordsOk
 records-ext z tail n e f h =
     all-ext (recordOk z tail e) (recordOk z tail f) n (λ i l. record-ok-ext z tail e f i (h i l) (h (i - 1) (omega arith)))
 
-record-of : (r : ℕ → ℕ) (z : Sizes) (layout head tail i : ℕ) → i < liveCount z head tail → recordIn (viewWith r z layout head tail) i ≡ liveRecord r z tail i
-record-of r z layout head tail i l = getD-tab (liveCount z head tail) (liveRecord r z tail) i noRecord l
+record-of : (r : ℕ → ℕ) (z : Sizes) (layout head tail count i : ℕ) → i < liveCount z head tail → recordIn (viewWith r z layout head tail count) i ≡ liveRecord r z tail i
+record-of r z layout head tail count i l = getD-tab (liveCount z head tail) (liveRecord r z tail) i noRecord l
 
 pub record-at : (img : List ℕ) (v : View) → Shows img v → (i : ℕ) → i < live v → recordIn v i ≡ liveRecord (word img) (v .sizes) (v .tail) i
 record-at img v shows i l =
-    ap (λ (u : View). recordIn u i) (shown img v shows) ∙ record-of (word img) (v .sizes) (v .layout) (v .head) (v .tail) i l
+    ap (λ (u : View). recordIn u i) (shown img v shows) ∙ record-of (word img) (v .sizes) (v .layout) (v .head) (v .tail) (v .count) i l
 
 pub through-view : (n : ℕ) (r : ℕ → ℕ) → mountRead n r ≡ verdict n (viewOf r)
 unfolding mountRead verdict frameNames
 through-view n r =
     let e : recordsOk (sizesFrom r) (r tailWord) (liveFrom r) (liveRecord r (sizesFrom r) (r tailWord)) ≡ recordsOk (sizesFrom r) (r tailWord) (liveFrom r) (recordIn (viewOf r)) =
-    records-ext (sizesFrom r) (r tailWord) (liveFrom r) (liveRecord r (sizesFrom r) (r tailWord)) (recordIn (viewOf r)) (λ i l. sym (record-of r (sizesFrom r) (r layoutWord) (r headWord) (r tailWord) i l)) in
+    records-ext (sizesFrom r) (r tailWord) (liveFrom r) (liveRecord r (sizesFrom r) (r tailWord)) (recordIn (viewOf r)) (λ i l. sym (record-of r (sizesFrom r) (r layoutWord) (r headWord) (r tailWord) (countFrom r) i l)) in
     rw e
 
 pub mount-view : (img : List ℕ) (v : View) → Shows img v → mountOf img ≡ verdict (length img) v
@@ -101,13 +102,14 @@ same-mount img img′ l g = equal-views img img′ (viewOf (word img′)) l (sam
 -- no row applies
 pub record Taken (n : ℕ) (v : View) : Type 0 where
   pub legal : Legal (v .sizes)
-  pub layout : v .layout ≡ 1
+  pub layout : v .layout ≡ layoutOf (v .sizes)
   pub fits : imageLength (v .sizes) ≤ n
   pub positions : Positions (v .sizes) (v .head) (v .tail)
   pub records : recordsOk (v .sizes) (v .tail) (live v) (recordIn v) ≡ true
   pub shapes : slotsShaped (v .sizes) (v .table) ≡ true
   pub apart : pagesApart (v .sizes) (v .table .page) ≡ true
   pub names : Once (frames (v .sizes)) (namesIn v)
+  pub entries : entriesOk (v .sizes) (v .keys) (v .count) ≡ true
 
 no-row : (n : ℕ) (v : View) → verdict n v .row ≡ 0 → refusal (viewRows n v) ≡ 0
 unfolding verdict
@@ -125,21 +127,31 @@ taken n v e =
     let z : Sizes = v .sizes in
     let names : Bool = eachOnce (frames z) (namesIn v) in
     let row₇ : slotsShaped z (v .table) && (pagesApart z (v .table .page) && names) ≡ true = not-false _ (h .1 .1 .1 .1 .1 .1 .0) in
+    let row₃ : sizesOk z && eqb (v .layout) (layoutOf z) ≡ true = not-false _ (h .1 .1 .0) in
+    let row₆ : recordsOk z (v .tail) (live v) (recordIn v) && entriesOk z (v .keys) (v .count) ≡ true = not-false _ (h .1 .1 .1 .1 .1 .0) in
     let rest : pagesApart z (v .table .page) && names ≡ true = and-right (slotsShaped z (v .table)) (pagesApart z (v .table .page) && names) row₇ in
     record {
-      legal = legal z (not-false (sizesOk z) (h .1 .1 .0));
-      layout = eqb-true (v .layout) 1 (not-false (eqb (v .layout) 1) (h .1 .0));
+      legal = legal z (and-left (sizesOk z) (eqb (v .layout) (layoutOf z)) row₃);
+      layout = eqb-true (v .layout) (layoutOf z) (and-right (sizesOk z) (eqb (v .layout) (layoutOf z)) row₃);
       fits = ltb-false n (imageLength z) (h .1 .1 .1 .0);
       positions = positions z (v .head) (v .tail) (not-false (positionsOk z (v .head) (v .tail)) (h .1 .1 .1 .1 .0));
-      records = not-false (recordsOk z (v .tail) (live v) (recordIn v)) (h .1 .1 .1 .1 .1 .0);
+      records = and-left (recordsOk z (v .tail) (live v) (recordIn v)) (entriesOk z (v .keys) (v .count)) row₆;
       shapes = and-left (slotsShaped z (v .table)) (pagesApart z (v .table .page) && names) row₇;
       apart = and-left (pagesApart z (v .table .page)) names rest;
       names = once-true (frames z) (namesIn v) (and-right (pagesApart z (v .table .page)) names rest);
+      entries = and-right (recordsOk z (v .tail) (live v) (recordIn v)) (entriesOk z (v .keys) (v .count)) row₆;
     }
 
 -- ranges that rows 1 and 4 ask for are one
 image-long : (z : Sizes) → 64 ≤ imageLength z
 image-long z = omega arith
+
+-- layouts are 1 and 2
+layout-known : (z : Sizes) (n : ℕ) → n ≡ layoutOf z → eqb n 1 || eqb n 2 ≡ true
+layout-known z n e =
+    caseOn (eqb (z .entries) 0)
+    (λ t. rw (e, t))
+    (λ t. rw (e, t))
 
 pub taken-found : (n : ℕ) (v : View) → Taken n v → verdict n v ≡ foundIn v
 unfolding verdict
@@ -147,19 +159,21 @@ taken-found n v h =
     let z : Sizes = v .sizes in
     let row₇ : slotsShaped z (v .table) && (pagesApart z (v .table .page) && eachOnce (frames z) (namesIn v)) ≡ true =
     rw (h .shapes, h .apart) (true-once (frames z) (namesIn v) (h .names)) in
+    let row₃ : sizesOk z && eqb (v .layout) (layoutOf z) ≡ true = rw (legal-ok z (h .legal)) (eq-eqb (v .layout) (layoutOf z) (h .layout)) in
+    let row₆ : recordsOk z (v .tail) (live v) (recordIn v) && entriesOk z (v .keys) (v .count) ≡ true = rw (h .records) (h .entries) in
     let e : 0 ≡ refusal (viewRows n v) =
     row-none (viewRows n v) (
       le-ltb n 64 (omega (arith, image-long z, h .fits)),
       (
-        ap not (eq-eqb (v .layout) 1 (h .layout)),
+        ap not (layout-known z (v .layout) (h .layout)),
         (
-          ap not (legal-ok z (h .legal)),
+          ap not row₃,
           (
             le-ltb n (imageLength z) (h .fits),
             (
               ap not (positions-ok z (v .head) (v .tail) (h .positions)),
               (
-                ap not (h .records),
+                ap not row₆,
                 (ap not row₇, tt),
               ),
             ),

@@ -1,19 +1,33 @@
 // What a mount finds on any bytes.
 ghost use mathlib.Core.Path.{_≡_};
-ghost use Prim.Native.Nat.{_≤_};
+ghost use Prim.Native.Nat.{_<_, _≤_};
 ghost use lib.ListN.{length};
 ghost use Rattle.words.specs.Words.{word};
-ghost use Rattle.mount.specs.Mount.{sizesFrom, turnedBack, mountOf};
+ghost use Rattle.mount.specs.Mount.{wideWord, sizesFrom, turnedBack, mountOf};
 use layout::Sizes;
 use replay::Table;
 
-// What a mount finds: row 0 and the header with the slots, or the row that turns the image back and nothing else.
+// What a mount finds: row 0 and the header with the slots and the keys of the entries that are counted, or the row that turns the image back and
+// nothing else.
 pub struct Mounted {
     pub row: usize,
     pub sizes: Sizes,
     pub head: usize,
     pub tail: usize,
     pub table: Table,
+    pub count: usize,
+    pub keys: [u64; 64],
+}
+
+// One of the header's last two words, which are read under layout 2 alone.
+fn wide_word(image: &[u8], i: usize) -> usize
+    requires { ⌜ (64 ≤ length (now image)) × (i < 8) ⌝ }
+    ensures { λ r. ⌜ r ≡ wideWord (word (now (image .entry))) i ⌝ }
+{
+    if image_words::read_word(image, 3) == 2 {
+        return image_words::read_word(image, i) as usize;
+    }
+    0
 }
 
 // The sizes in an image's header.
@@ -24,10 +38,12 @@ fn sizes_from(image: &[u8]) -> Sizes
     let pages = image_words::read_word(image, 0);
     let slots = image_words::read_word(image, 1);
     let places = image_words::read_word(image, 2);
+    let entries = wide_word(image, 7);
     Sizes {
         pages: pages as usize,
         slots: slots as usize,
         places: places as usize,
+        entries,
     }
 }
 
@@ -41,10 +57,13 @@ fn turned_back(row: usize) -> Mounted
             pages: 0,
             slots: 0,
             places: 0,
+            entries: 0,
         },
         head: 0,
         tail: 0,
         table: replay::empty_table(),
+        count: 0,
+        keys: [0; 64],
     }
 }
 
@@ -55,11 +74,12 @@ pub fn judge(image: &[u8]) -> Mounted
     if image.len() < 64 {
         return turned_back(1);
     }
-    if image_words::read_word(image, 3) != 1 {
+    let form = image_words::read_word(image, 3);
+    if !((form == 1) | (form == 2)) {
         return turned_back(2);
     }
     let z = sizes_from(image);
-    if !layout::sizes_ok(z) {
+    if !(layout::sizes_ok(z) & (form == layout::layout_of(z))) {
         return turned_back(3);
     }
     if image.len() < layout::image_length(z) {
@@ -71,7 +91,9 @@ pub fn judge(image: &[u8]) -> Mounted
         return turned_back(5);
     }
     let n = journal::records::live_count(z, head, tail);
-    if !journal::records::records_ok(image, z, tail, n) {
+    let count = wide_word(image, 6);
+    let keys = entries::read_keys(image, z, count);
+    if !(journal::records::records_ok(image, z, tail, n) & entries::entries_ok(z, &keys, count)) {
         return turned_back(6);
     }
     let found = replay::replayed(image, z, tail, n);
@@ -84,5 +106,7 @@ pub fn judge(image: &[u8]) -> Mounted
         head,
         tail,
         table: found,
+        count,
+        keys,
     }
 }

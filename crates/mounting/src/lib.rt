@@ -39,6 +39,7 @@ fn no_state() -> State
         pages: 0,
         slots: 0,
         places: 0,
+        entries: 0,
     };
     quiet_state(z, 0, 0, replay::empty_table())
 }

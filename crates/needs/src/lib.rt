@@ -3,7 +3,7 @@ ghost use mathlib.Core.Path.{_≡_};
 ghost use Prim.Native.Nat.{_≤_};
 ghost use lib.ListN.{length};
 ghost use Rattle.layout.specs.Layout.{Legal};
-ghost use Rattle.operations.specs.Operations.{Asked, commitNeeds, prepareNeeds, confirmNeeds, copyCount, consolidateNeeds, recordedSlots, checkpointNeeds, needsOf};
+ghost use Rattle.operations.specs.Operations.{Asked, commitNeeds, prepareNeeds, confirmNeeds, copyNeeds, copyCount, consolidateNeeds, recordedSlots, checkpointNeeds, needsOf};
 use layout::Sizes;
 use state::Op;
 
@@ -27,6 +27,14 @@ pub fn confirm_needs(n: usize) -> usize
     ensures { λ r. ⌜ r ≡ confirmNeeds n ⌝ }
 {
     if n == 0 { 0 } else { 1 }
+}
+
+// Those of a wide commit of n entries.
+pub fn copy_needs(n: usize) -> usize
+    requires { ⌜ n ≤ 64 ⌝ }
+    ensures { λ r. ⌜ r ≡ copyNeeds n ⌝ }
+{
+    if n == 0 { 0 } else { 8 * n + 2 }
 }
 
 // How many lines a consolidation copies: those in the spare where they are at most 32, else the others.
@@ -78,10 +86,11 @@ pub fn op_needs<'a>(
     bitmap: &'a [u64; 16],
     last: &'a [usize; 16],
     held: &'a [u64; 64],
+    count: usize,
     op: Op,
 ) -> usize
-    requires { ⌜ Legal z × Asked z (now page) op ⌝ }
-    ensures { λ r. ⌜ r ≡ needsOf z head tail (now (page .entry)) (now (bitmap .entry)) (now (last .entry)) (now (held .entry)) op ⌝ }
+    requires { ⌜ Legal z × (count ≤ 64) × Asked z (now page) op ⌝ }
+    ensures { λ r. ⌜ r ≡ needsOf z head tail (now (page .entry)) (now (bitmap .entry)) (now (last .entry)) (now (held .entry)) count op ⌝ }
 {
     match op {
         Op::Idle => 0,
@@ -105,5 +114,12 @@ pub fn op_needs<'a>(
         } => meters::event_needs(kind),
         Op::Prepare { writer } => prepare_needs(state::held::held_count(z, held, writer)),
         Op::Confirm { writer } => confirm_needs(state::held::held_count(z, held, writer)),
+        Op::Log {
+            page: _,
+            line: _,
+            offset: _,
+            length: _,
+        } => 9,
+        Op::Copy => copy_needs(count),
     }
 }

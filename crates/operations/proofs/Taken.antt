@@ -13,9 +13,10 @@ use Rattle.layout.specs.declared.Sizes.{Sizes}
 use Rattle.meters.specs.Meters.{eventKnown, firstMeter, ownMeter}
 use Rattle.state.specs.declared.State.{State}
 use Rattle.state.specs.declared.Op.{Op}
-use Rattle.state.specs.declared.Op.the-variants.{Idle, Write, Commit, Consolidate, Checkpoint, Event, Prepare, Confirm}
+use Rattle.state.specs.declared.Op.the-variants.{Idle, Write, Commit, Consolidate, Checkpoint, Event, Prepare, Confirm, Log, Copy}
 use Rattle.state.specs.Held.{isOpen, somePrepared, someHold, heldSlots}
-use Rattle.operations.specs.Operations.{live, slotFor, slotted, writeArgsBad, lineTaken, noneFree, frameBad, writeRows, commitRows, confirmRows, consolidateRows, eventNextRows, opRows, Asked}
+use Rattle.state.specs.Wide.{someWide, noEntryLeft}
+use Rattle.operations.specs.Operations.{live, slotFor, slotted, writeArgsBad, lineTaken, noneFree, frameBad, writeRows, commitRows, prepareRows, logRows, confirmRows, consolidateRows, eventNextRows, opRows, Asked}
 
 -- row 11 of a write
 pub record ArgsGood (z : Sizes) (w p l o n : ℕ) : Type 0 where
@@ -106,7 +107,42 @@ consolidate-taken st p e =
       fits = ltb-false (st .sizes .places) (live st + 1) (h .1 .1 .1 .1 .0);
     }
 
+-- a prepare where there is no wide transaction
+pub prepare-taken : (st : State) (w : ℕ) → refusal (prepareRows st w) ≡ 0 → CommitTaken st w
+prepare-taken st w e =
+    let h = none-apply (prepareRows st w) (omega arith) e in
+    record {
+      writer-low = omega (arith, ltb-false 3 w (h .0));
+      opened = not-false (isOpen (st .writers .opened) w) (h .1 .1 .0);
+      fits = ltb-false (st .sizes .places) (live st + length (heldSlots (st .sizes) (st .writers .held) w)) (h .1 .1 .1 .1 .0);
+    }
+
+pub prepare-alone : (st : State) (w : ℕ) → refusal (prepareRows st w) ≡ 0 → (someWide (st .wide .writer) ≡ false) × (somePrepared (st .writers .prepared) ≡ false)
+prepare-alone st w e = let h = none-apply (prepareRows st w) (omega arith) e in (h .1 .0, h .1 .1 .1 .0)
+
+-- a wide write
+pub record LogTaken (st : State) (p l o n f : ℕ) : Type 0 where
+  pub args : ArgsGood (st .sizes) (st .wide .writer) p l o n
+  pub opened : isOpen (st .writers .opened) (st .wide .writer) ≡ true
+  pub room : noEntryLeft (st .sizes) (st .wide) p l ≡ false
+  pub frame-good : frameBad (st .sizes) (st .table .page) (st .table .original) (st .table .spare) (slotFor st p) f ≡ false
+
+pub log-taken : (st : State) (p l o n f : ℕ) → refusal (logRows st p l o n f) ≡ 0 → LogTaken st p l o n f
+log-taken st p l o n f e =
+    let h = none-apply (logRows st p l o n f) (omega arith) e in
+    record {
+      args = args-good (st .sizes) (st .wide .writer) p l o n (h .0);
+      opened = not-false (isOpen (st .writers .opened) (st .wide .writer)) (h .1 .0);
+      room = h .1 .1 .0;
+      frame-good = h .1 .1 .1 .0;
+    }
+
+-- a wide commit that is pending
+pub copy-taken : (st : State) (f : ℕ) → refusal (opRows st Copy f) ≡ 0 → somePrepared (st .writers .prepared) ≡ false
+copy-taken st f e = none-apply (opRows st Copy f) (omega arith) e .0
+
 pub record EventTaken (st : State) (k m f : ℕ) : Type 0 where
+  pub none-wide : someWide (st .wide .writer) ≡ false
   pub known : eventKnown k m ≡ true
   pub closed : isOpen (st .writers .opened) 1 ≡ false
   pub none-prepared : somePrepared (st .writers .prepared) ≡ false
@@ -122,14 +158,15 @@ event-taken st k m a f e =
     let first = lineTaken (st .sizes) (st .writers .held) 1 (slotFor st 0) (firstMeter k m) in
     let own = lineTaken (st .sizes) (st .writers .held) 1 (slotFor st 0) (ownMeter k m) in
     record {
-      known = not-false (eventKnown k m) (h .0);
-      closed = h .1 .0;
-      none-prepared = h .1 .1 .0;
-      first-free = or-left first own (h .1 .1 .1 .0);
-      own-free = or-right first own (h .1 .1 .1 .0);
-      some-free = h .1 .1 .1 .1 .0;
-      frame-good = h .1 .1 .1 .1 .1 .0;
-      fits = ltb-false (st .sizes .places) (live st + 1) (h .1 .1 .1 .1 .1 .1 .0);
+      none-wide = h .0;
+      known = not-false (eventKnown k m) (h .1 .0);
+      closed = h .1 .1 .0;
+      none-prepared = h .1 .1 .1 .0;
+      first-free = or-left first own (h .1 .1 .1 .1 .0);
+      own-free = or-right first own (h .1 .1 .1 .1 .0);
+      some-free = h .1 .1 .1 .1 .1 .0;
+      frame-good = h .1 .1 .1 .1 .1 .1 .0;
+      fits = ltb-false (st .sizes .places) (live st + 1) (h .1 .1 .1 .1 .1 .1 .1 .0);
     }
 
 -- what the count of an operation's stores leans on
@@ -140,8 +177,10 @@ op-asked st (Commit w) f e = commit-taken st w e .writer-low
 op-asked st (Consolidate p) f e = ltb-true (slotFor st p) (st .sizes .slots) (consolidate-taken st p e .has-slot)
 op-asked st Checkpoint f e = tt
 op-asked st (Event k m a) f e = tt
-op-asked st (Prepare w) f e = commit-taken st w e .writer-low
+op-asked st (Prepare w) f e = prepare-taken st w e .writer-low
 op-asked st (Confirm w) f e = confirm-taken st w e .writer-low
+op-asked st (Log p l o n) f e = tt
+op-asked st Copy f e = tt
 
 -- r is the slot that the code found
 pub slot-low : (st : State) (p r : ℕ) → slotted st p ≡ true → r ≡ slotFor st p → r < st .sizes .slots

@@ -15,9 +15,11 @@ use Rattle.masks.specs.Lines.{countLines}
 use Rattle.meters.specs.Meters.{eventKnown, firstMeter, ownMeter, eventNeeds}
 use Rattle.state.specs.declared.State.{State}
 use Rattle.state.specs.declared.Op.{Op}
-use Rattle.state.specs.declared.Op.the-variants.{Idle, Write, Commit, Consolidate, Checkpoint, Event, Prepare, Confirm}
+use Rattle.state.specs.declared.Wide.{Wide}
+use Rattle.state.specs.declared.Op.the-variants.{Idle, Write, Commit, Consolidate, Checkpoint, Event, Prepare, Confirm, Log, Copy}
 use Rattle.state.specs.Slots.{slotOfPage, freeAfter, frameOfSlot}
 use Rattle.state.specs.Held.{isOpen, somePrepared, othersHold, someHold, heldSlots}
+use Rattle.state.specs.Wide.{someWide, noEntryLeft}
 
 -- no operation
 abbrev pub isIdle : Op → Bool
@@ -29,6 +31,8 @@ isIdle Checkpoint = false
 isIdle (Event k m a) = false
 isIdle (Prepare w) = false
 isIdle (Confirm w) = false
+isIdle (Log p l o n) = false
+isIdle Copy = false
 
 abbrev pub live : State → ℕ
 live st = liveCount (st .sizes) (st .head) (st .tail)
@@ -48,7 +52,8 @@ pub record Ranged (st : State) : Type 0 where
   pub live-high : live st ≤ st .sizes .places
   pub next-low : st .next < st .sizes .slots
 
--- ---- the rows from 11 on; s is the slot of the page, S where it has none; prepared is the writer who is prepared, above 3 where none is
+-- ---- the rows from 11 on; s is the slot of the page, S where it has none; prepared is the writer who is prepared, above 3 where none is; d is the wide
+-- transaction
 
 -- 11, without the data
 abbrev pub writeArgsBad : Sizes → ℕ → ℕ → ℕ → ℕ → ℕ → Bool
@@ -86,7 +91,17 @@ writeRowsOf z next page original spare opened held prepared w p s l o n f =
     ∷ (frameBad z page original spare s f, 16)
     ∷ []
 
--- of a commit, and of a prepare, which checks as it does
+-- a wide write's, by the wide writer (document 02, L14). 30: a new line with all entries used. It takes no slot, so there is no 15; by row 8 every other
+-- writer is closed and it is not prepared, so that 14 and 23 cannot apply
+abbrev pub logRowsOf : Sizes → List ℕ → List ℕ → List ℕ → List Bool → Wide → ℕ → ℕ → ℕ → ℕ → ℕ → ℕ → List Row
+logRowsOf z page original spare opened d p s l o n f =
+    (writeArgsBad z (d .writer) p l o n, 11)
+    ∷ (not (isOpen opened (d .writer)), 13)
+    ∷ (noEntryLeft z d p l, 30)
+    ∷ (frameBad z page original spare s f, 16)
+    ∷ []
+
+-- of a commit
 abbrev pub commitRowsOf : Sizes → ℕ → ℕ → List Bool → List ℕ → ℕ → ℕ → List Row
 commitRowsOf z head tail opened held prepared w =
     (ltb 3 w, 11)
@@ -94,6 +109,20 @@ commitRowsOf z head tail opened held prepared w =
     ∷ (somePrepared prepared, 23)
     ∷ (journalFullOf z head tail (length (heldSlots z held w)), 19)
     ∷ []
+
+-- of a prepare, which checks as a commit does. 29: a wide transaction is open
+abbrev pub prepareRowsOf : Sizes → ℕ → ℕ → List Bool → List ℕ → ℕ → ℕ → ℕ → List Row
+prepareRowsOf z head tail opened held prepared wide w =
+    (ltb 3 w, 11)
+    ∷ (someWide wide, 29)
+    ∷ (not (isOpen opened w), 13)
+    ∷ (somePrepared prepared, 23)
+    ∷ (journalFullOf z head tail (length (heldSlots z held w)), 19)
+    ∷ []
+
+-- of a wide commit that is pending: row 8 leaves out 11 and 13, as one that a mount returned has no writer; it appends no record, so that 19 cannot apply
+abbrev pub copyRowsOf : ℕ → List Row
+copyRowsOf prepared = (somePrepared prepared, 23) ∷ []
 
 -- of a confirm, and of a withdraw. 24: the writer is not prepared
 abbrev pub confirmRowsOf : ℕ → ℕ → List Row
@@ -120,22 +149,27 @@ eventNextRowsOf z next page original spare opened held prepared k m s f =
     ∷ (frameBad z page original spare s f, 16)
     ∷ []
 
-abbrev pub eventRowsOf : Sizes → ℕ → ℕ → ℕ → List ℕ → List ℕ → List ℕ → List Bool → List ℕ → ℕ → ℕ → ℕ → ℕ → ℕ → List Row
-eventRowsOf z head tail next page original spare opened held prepared k m s f =
-    (not (eventKnown k m), 20) ∷ (eventNextRowsOf z next page original spare opened held prepared k m s f ++ ((journalFullOf z head tail 1, 19) ∷ []))
+abbrev pub eventRowsOf : Sizes → ℕ → ℕ → ℕ → List ℕ → List ℕ → List ℕ → List Bool → List ℕ → ℕ → ℕ → ℕ → ℕ → ℕ → ℕ → List Row
+eventRowsOf z head tail next page original spare opened held prepared wide k m s f =
+    (someWide wide, 29)
+    ∷ (not (eventKnown k m), 20)
+    ∷ (eventNextRowsOf z next page original spare opened held prepared k m s f ++ ((journalFullOf z head tail 1, 19) ∷ []))
 
 -- the rows of an operation, of a write or an event with the page's frame f
-abbrev pub opRowsOf : Sizes → ℕ → ℕ → ℕ → List ℕ → List ℕ → List ℕ → List Bool → List ℕ → ℕ → Op → ℕ → List Row
-opRowsOf z head tail next page original spare opened held prepared Idle f = []
-opRowsOf z head tail next page original spare opened held prepared (Write w p l o n) f =
+abbrev pub opRowsOf : Sizes → ℕ → ℕ → ℕ → List ℕ → List ℕ → List ℕ → List Bool → List ℕ → ℕ → Wide → Op → ℕ → List Row
+opRowsOf z head tail next page original spare opened held prepared d Idle f = []
+opRowsOf z head tail next page original spare opened held prepared d (Write w p l o n) f =
     writeRowsOf z next page original spare opened held prepared w p (slotOfPage z page p) l o n f
-opRowsOf z head tail next page original spare opened held prepared (Commit w) f = commitRowsOf z head tail opened held prepared w
-opRowsOf z head tail next page original spare opened held prepared (Consolidate p) f = consolidateRowsOf z head tail page held prepared p
-opRowsOf z head tail next page original spare opened held prepared Checkpoint f = []
-opRowsOf z head tail next page original spare opened held prepared (Event k m a) f =
-    eventRowsOf z head tail next page original spare opened held prepared k m (slotOfPage z page 0) f
-opRowsOf z head tail next page original spare opened held prepared (Prepare w) f = commitRowsOf z head tail opened held prepared w
-opRowsOf z head tail next page original spare opened held prepared (Confirm w) f = confirmRowsOf prepared w
+opRowsOf z head tail next page original spare opened held prepared d (Commit w) f = commitRowsOf z head tail opened held prepared w
+opRowsOf z head tail next page original spare opened held prepared d (Consolidate p) f = consolidateRowsOf z head tail page held prepared p
+opRowsOf z head tail next page original spare opened held prepared d Checkpoint f = []
+opRowsOf z head tail next page original spare opened held prepared d (Event k m a) f =
+    eventRowsOf z head tail next page original spare opened held prepared (d .writer) k m (slotOfPage z page 0) f
+opRowsOf z head tail next page original spare opened held prepared d (Prepare w) f = prepareRowsOf z head tail opened held prepared (d .writer) w
+opRowsOf z head tail next page original spare opened held prepared d (Confirm w) f = confirmRowsOf prepared w
+opRowsOf z head tail next page original spare opened held prepared d (Log p l o n) f =
+    logRowsOf z page original spare opened d p (slotOfPage z page p) l o n f
+opRowsOf z head tail next page original spare opened held prepared d Copy f = copyRowsOf prepared
 
 -- the same of a state
 abbrev pub writeRows : State → ℕ → ℕ → ℕ → ℕ → ℕ → ℕ → List Row
@@ -144,6 +178,13 @@ writeRows st w p l o n f =
 
 abbrev pub commitRows : State → ℕ → List Row
 commitRows st w = commitRowsOf (st .sizes) (st .head) (st .tail) (st .writers .opened) (st .writers .held) (st .writers .prepared) w
+
+abbrev pub prepareRows : State → ℕ → List Row
+prepareRows st w = prepareRowsOf (st .sizes) (st .head) (st .tail) (st .writers .opened) (st .writers .held) (st .writers .prepared) (st .wide .writer) w
+
+abbrev pub logRows : State → ℕ → ℕ → ℕ → ℕ → ℕ → List Row
+logRows st p l o n f =
+    logRowsOf (st .sizes) (st .table .page) (st .table .original) (st .table .spare) (st .writers .opened) (st .wide) p (slotFor st p) l o n f
 
 abbrev pub confirmRows : State → ℕ → List Row
 confirmRows st w = confirmRowsOf (st .writers .prepared) w
@@ -157,7 +198,7 @@ eventNextRows st k m f =
 
 abbrev pub opRows : State → Op → ℕ → List Row
 opRows st op f =
-    opRowsOf (st .sizes) (st .head) (st .tail) (st .next) (st .table .page) (st .table .original) (st .table .spare) (st .writers .opened) (st .writers .held) (st .writers .prepared) op f
+    opRowsOf (st .sizes) (st .head) (st .tail) (st .next) (st .table .page) (st .table .original) (st .table .spare) (st .writers .opened) (st .writers .held) (st .writers .prepared) (st .wide) op f
 
 -- ---- stores needed
 
@@ -171,6 +212,10 @@ prepareNeeds n = 4 * n
 
 abbrev pub confirmNeeds : ℕ → ℕ
 confirmNeeds n = cond (eqb n 0) 0 1
+
+-- n entries need 8 n + 2: n, their lines, and 0; no entry, none needed
+abbrev pub copyNeeds : ℕ → ℕ
+copyNeeds n = cond (eqb n 0) 0 (8 * n + 2)
 
 -- c lines copied: the k in the spare where k ≤ 32, else the 64 − k others; 8 c + 6
 unfoldable pub copyCount : ℕ → ℕ
@@ -186,19 +231,21 @@ recordedSlots z last = those (z .slots) (λ s. not (eqb (getD last s 0) noPositi
 abbrev pub checkpointNeeds : ℕ → ℕ → ℕ → ℕ
 checkpointNeeds head tail m = cond (eqb head tail) 0 (3 * m + 1)
 
--- the same of an operation, by the parts of a state that it reads
-abbrev pub needsOf : Sizes → ℕ → ℕ → List ℕ → List ℕ → List ℕ → List ℕ → Op → ℕ
-needsOf z head tail page bitmap last held Idle = 0
-needsOf z head tail page bitmap last held (Write w p l o n) = 8
-needsOf z head tail page bitmap last held (Commit w) = commitNeeds (length (heldSlots z held w))
-needsOf z head tail page bitmap last held (Consolidate p) = consolidateNeeds (getD bitmap (slotOfPage z page p) 0)
-needsOf z head tail page bitmap last held Checkpoint = checkpointNeeds head tail (length (recordedSlots z last))
-needsOf z head tail page bitmap last held (Event k m a) = eventNeeds k
-needsOf z head tail page bitmap last held (Prepare w) = prepareNeeds (length (heldSlots z held w))
-needsOf z head tail page bitmap last held (Confirm w) = confirmNeeds (length (heldSlots z held w))
+-- the same of an operation, by the parts of a state that it reads; a wide transaction uses so many entries
+abbrev pub needsOf : Sizes → ℕ → ℕ → List ℕ → List ℕ → List ℕ → List ℕ → ℕ → Op → ℕ
+needsOf z head tail page bitmap last held entries Idle = 0
+needsOf z head tail page bitmap last held entries (Write w p l o n) = 8
+needsOf z head tail page bitmap last held entries (Commit w) = commitNeeds (length (heldSlots z held w))
+needsOf z head tail page bitmap last held entries (Consolidate p) = consolidateNeeds (getD bitmap (slotOfPage z page p) 0)
+needsOf z head tail page bitmap last held entries Checkpoint = checkpointNeeds head tail (length (recordedSlots z last))
+needsOf z head tail page bitmap last held entries (Event k m a) = eventNeeds k
+needsOf z head tail page bitmap last held entries (Prepare w) = prepareNeeds (length (heldSlots z held w))
+needsOf z head tail page bitmap last held entries (Confirm w) = confirmNeeds (length (heldSlots z held w))
+needsOf z head tail page bitmap last held entries (Log p l o n) = 9
+needsOf z head tail page bitmap last held entries Copy = copyNeeds entries
 
 unfoldable pub needs : State → Op → ℕ
-needs st op = needsOf (st .sizes) (st .head) (st .tail) (st .table .page) (st .table .bitmap) (st .table .last) (st .writers .held) op
+needs st op = needsOf (st .sizes) (st .head) (st .tail) (st .table .page) (st .table .bitmap) (st .table .last) (st .writers .held) (st .wide .count) op
 
 -- what the count leans on, and the rows make sure of: a writer below 4, a page with a slot
 abbrev pub Asked : Sizes → List ℕ → Op → Type 0
@@ -210,3 +257,5 @@ Asked z page Checkpoint = Unit {0}
 Asked z page (Event k m a) = Unit {0}
 Asked z page (Prepare w) = w < 4
 Asked z page (Confirm w) = w < 4
+Asked z page (Log p l o n) = Unit {0}
+Asked z page Copy = Unit {0}

@@ -7,7 +7,8 @@ ghost use Rattle.layout.specs.Layout.{Legal};
 ghost use Rattle.journal.specs.Records.{liveCount};
 ghost use Rattle.meters.specs.Meters.{eventKnown};
 ghost use Rattle.state.specs.Slots.{slotOfPage};
-ghost use Rattle.operations.specs.Operations.{isIdle, writeArgsBad, lineTaken, noneFree, frameBad, journalFullOf, writeRowsOf, commitRowsOf, confirmRowsOf, consolidateRowsOf, eventNextRowsOf, eventRowsOf, opRowsOf};
+ghost use Rattle.state.specs.Wide.{wideOf, noEntryLeft};
+ghost use Rattle.operations.specs.Operations.{isIdle, writeArgsBad, lineTaken, noneFree, frameBad, journalFullOf, writeRowsOf, commitRowsOf, logRowsOf, prepareRowsOf, copyRowsOf, confirmRowsOf, consolidateRowsOf, eventNextRowsOf, eventRowsOf, opRowsOf};
 use layout::Sizes;
 use state::Op;
 
@@ -34,6 +35,13 @@ pub fn is_idle(op: Op) -> bool
         } => false,
         Op::Prepare { writer: _ } => false,
         Op::Confirm { writer: _ } => false,
+        Op::Log {
+            page: _,
+            line: _,
+            offset: _,
+            length: _,
+        } => false,
+        Op::Copy => false,
     }
 }
 
@@ -142,7 +150,51 @@ pub fn write_row<'a>(
     0
 }
 
-// The first row from 11 on that turns a commit or a prepare back.
+// Row 30: line l of page p has no entry, and all are used.
+fn no_entry_left(z: Sizes, keys: &[u64; 64], count: usize, p: usize, l: usize) -> bool
+    requires { ⌜ (count ≤ 64) × (p < 1024) × (l < 64) ⌝ }
+    ensures { λ r. ⌜ r ≡ noEntryLeft z (wideOf 0 count (now (keys .entry))) p l ⌝ }
+{
+    let e = entries::find_entry(keys, count, (64 * p + l) as u64);
+    !(e < count) & (z.entries <= count)
+}
+
+// The first row from 11 on that turns a wide write to page p back, with the page's slot s, S where it has none, and its frame.
+pub fn log_row<'a>(
+    z: Sizes,
+    page: &'a [usize; 16],
+    original: &'a [usize; 16],
+    spare: &'a [usize; 16],
+    opened: &'a [bool; 4],
+    wide: usize,
+    count: usize,
+    keys: &'a [u64; 64],
+    p: usize,
+    s: usize,
+    line: usize,
+    offset: usize,
+    length: usize,
+    frame: usize,
+) -> usize
+    requires { ⌜ Legal z × (count ≤ 64) ⌝ }
+    ensures { λ r. ⌜ r ≡ refusal (logRowsOf z (now (page .entry)) (now (original .entry)) (now (spare .entry)) (now (opened .entry)) (wideOf wide count (now (keys .entry))) p s line offset length frame) ⌝ }
+{
+    if write_args_bad(z, wide, p, line, offset, length) {
+        return 11;
+    }
+    if !state::held::is_open(opened, wide) {
+        return 13;
+    }
+    if no_entry_left(z, keys, count, p, line) {
+        return 30;
+    }
+    if frame_bad(z, page, original, spare, s, frame) {
+        return 16;
+    }
+    0
+}
+
+// The first row from 11 on that turns a commit back.
 pub fn commit_row<'a>(
     z: Sizes,
     head: usize,
@@ -169,6 +221,33 @@ pub fn commit_row<'a>(
         return 19;
     }
     0
+}
+
+// The first row from 11 on that turns a prepare back.
+pub fn prepare_row<'a>(
+    z: Sizes,
+    head: usize,
+    tail: usize,
+    opened: &'a [bool; 4],
+    held: &'a [u64; 64],
+    prepared: usize,
+    wide: usize,
+    writer: usize,
+) -> usize
+    requires { ⌜ Legal z × (head < 2 * z .places) × (tail < 2 * z .places) × (liveCount z head tail ≤ z .places) ⌝ }
+    ensures { λ r. ⌜ r ≡ refusal (prepareRowsOf z head tail (now (opened .entry)) (now (held .entry)) prepared wide writer) ⌝ }
+{
+    if (writer <= 3) & (wide < 4) {
+        return 29;
+    }
+    commit_row(z, head, tail, opened, held, prepared, writer)
+}
+
+// The first row from 11 on that turns a pending wide commit back.
+fn copy_row(prepared: usize) -> usize
+    ensures { λ r. ⌜ r ≡ refusal (copyRowsOf prepared) ⌝ }
+{
+    if prepared < 4 { 23 } else { 0 }
 }
 
 // The first row from 11 on that turns a confirm or a withdraw back.
@@ -273,13 +352,17 @@ fn event_row<'a>(
     opened: &'a [bool; 4],
     held: &'a [u64; 64],
     prepared: usize,
+    wide: usize,
     kind: usize,
     meter: usize,
     frame: usize,
 ) -> usize
     requires { ⌜ Legal z × (head < 2 * z .places) × (tail < 2 * z .places) × (liveCount z head tail ≤ z .places) × (next < z .slots) ⌝ }
-    ensures { λ r. ⌜ r ≡ refusal (eventRowsOf z head tail next (now (page .entry)) (now (original .entry)) (now (spare .entry)) (now (opened .entry)) (now (held .entry)) prepared kind meter (slotOfPage z (now (page .entry)) 0) frame) ⌝ }
+    ensures { λ r. ⌜ r ≡ refusal (eventRowsOf z head tail next (now (page .entry)) (now (original .entry)) (now (spare .entry)) (now (opened .entry)) (now (held .entry)) prepared wide kind meter (slotOfPage z (now (page .entry)) 0) frame) ⌝ }
 {
+    if wide < 4 {
+        return 29;
+    }
     if !meters::is_known(kind, meter) {
         return 20;
     }
@@ -319,11 +402,14 @@ pub fn op_row<'a>(
     opened: &'a [bool; 4],
     held: &'a [u64; 64],
     prepared: usize,
+    wide: usize,
+    count: usize,
+    keys: &'a [u64; 64],
     op: Op,
     frame: usize,
 ) -> usize
-    requires { ⌜ Legal z × (head < 2 * z .places) × (tail < 2 * z .places) × (liveCount z head tail ≤ z .places) × (next < z .slots) ⌝ }
-    ensures { λ r. ⌜ r ≡ refusal (opRowsOf z head tail next (now (page .entry)) (now (original .entry)) (now (spare .entry)) (now (opened .entry)) (now (held .entry)) prepared op frame) ⌝ }
+    requires { ⌜ Legal z × (head < 2 * z .places) × (tail < 2 * z .places) × (liveCount z head tail ≤ z .places) × (next < z .slots) × (count ≤ 64) ⌝ }
+    ensures { λ r. ⌜ r ≡ refusal (opRowsOf z head tail next (now (page .entry)) (now (original .entry)) (now (spare .entry)) (now (opened .entry)) (now (held .entry)) prepared (wideOf wide count (now (keys .entry))) op frame) ⌝ }
 {
     match op {
         Op::Idle => 0,
@@ -371,11 +457,37 @@ pub fn op_row<'a>(
             opened,
             held,
             prepared,
+            wide,
             kind,
             meter,
             frame,
         ),
-        Op::Prepare { writer } => commit_row(z, head, tail, opened, held, prepared, writer),
+        Op::Prepare { writer } => prepare_row(z, head, tail, opened, held, prepared, wide, writer),
         Op::Confirm { writer } => confirm_row(prepared, writer),
+        Op::Log {
+            page: p,
+            line,
+            offset,
+            length,
+        } => {
+            let s = state::slots::slot_of(z, page, p);
+            log_row(
+                z,
+                page,
+                original,
+                spare,
+                opened,
+                wide,
+                count,
+                keys,
+                p,
+                s,
+                line,
+                offset,
+                length,
+                frame,
+            )
+        }
+        Op::Copy => copy_row(prepared),
     }
 }

@@ -97,6 +97,7 @@ pub fn show_met() {
         pages: 2,
         slots: 1,
         places: 2,
+        entries: 0,
     };
     let mut st = mounting::format(&mut image, z).state;
     for k in 0..41 {

@@ -1,9 +1,10 @@
 -- Abort closes a writer: its held lines and its unfinished writes are gone together, and the committed copies stay.
+use Rattle.state.specs.Wide.{noWide}
 use Prim.Native.Nat.{ℕ, _<_}
-use mathlib.Core.Bool.{true, not, false}
+use mathlib.Core.Bool.{true, not, false, Bool, cond}
 use mathlib.Core.List.{List}
 use mathlib.Core.Logic.{inl}
-use mathlib.Core.Path.{_≡_, refl, sym, ap, _∙_}
+use mathlib.Core.Path.{_≡_, refl, sym, ap, _∙_, subst}
 use native.Mathlib.Omega.{arith}
 use lib.Dec.{eqb}
 use borrow.Author.Tests.{eqb-true, eqb-false, ltb-true}
@@ -19,11 +20,11 @@ use Rattle.refinement.specs.Commit.{closedWriter}
 use Rattle.refinement.specs.Stores.{World}
 use Rattle.refinement.proofs.Closed.{closed-opened-length, closed-held-length, closed-holds, others-hold}
 use Rattle.refinement.proofs.StateValid.{valid}
-use Rattle.refinement.specs.Calls.{abortRows, abortOf, withWriters}
-use Rattle.refinement.proofs.Begun.{abort-taken, abort-valid}
+use Rattle.refinement.specs.Calls.{abortRows, abortOf, withWriters, withWide, worldOf}
+use Rattle.refinement.proofs.Begun.{aborting, abort-taken, abort-valid}
 use Rattle.refinement.specs.Run.{abort, exec}
 use Rattle.refinement.specs.Reference.{Reference, emptied}
-use Rattle.refinement.proofs.Invariant.{holds, Writing, Never, Quiet, Related}
+use Rattle.refinement.proofs.Invariant.{holds, Writing, Never, Quiet, Related, Narrow, not-wide}
 use Rattle.refinement.proofs.Sound.{Sound, answered-kept, is-quiet}
 use Rattle.refinement.proofs.Keeps.{durable-kept}
 use Rattle.refinement.proofs.Records.{stored-same}
@@ -81,15 +82,26 @@ aborted st img b w e other q =
       durable = durable-kept st img b (emptied w b) (st .next) (closedWriter (st .sizes) (st .writers) w) (st .pending) (λ p l h k. refl) (q .durable);
       writers = aborted-writers st img b w (valid st (q .valid) .legal) other (q .writers);
       work = q .work;
+      narrow = record { state = q .narrow .state; book = caseOn (eqb (b .wide) w) (λ t. rw t) (λ t. rw t (q .narrow .book)) };
     }
+
+-- no wide transaction is dropped
+none-dropped : (st : State) (b : Reference) (w : ℕ) → Narrow st b → w < 4 → aborting st w ≡ closed st w
+none-dropped st b w n l = ap (λ (x : Bool). withWide (closed st w) (cond x noWide (st .wide))) (not-wide st b w n l)
 
 pub abort-sound : {past : List ℕ} (w : ℕ) (v : World) (b : Reference) → Related past v b → Sound past (abort w) v b
 unfolding exec abortOf
 abort-sound w v b h =
     let st = v .st in
     let a =
-    answered-kept (abort w) v b (refusal (abortRows st w)) 0 (closed st w) h
+    answered-kept (abort w) v b (refusal (abortRows st w)) 0 (aborting st w) h
     (λ e.
     let q = is-quiet st (v .image) b h (ap not (abort-taken st w e .quiet)) in
-    record { sizes = refl; related = inl (aborted st (v .image) b w (abort-valid st w e) (abort-taken st w e .unprepared) q) }) in
+    let same = none-dropped st b w (q .narrow) (abort-taken st w e .writer-low) in
+    record {
+      sizes = refl;
+      related =
+          subst (λ (s : State). Related _ (worldOf s (v .image)) (emptied w b)) (sym same)
+          (inl (aborted st (v .image) b w (ap stateOk (sym same) ∙ abort-valid st w e) (abort-taken st w e .unprepared) q));
+    }) in
     record { right = tt; sizes = a .sizes; related = a .related }

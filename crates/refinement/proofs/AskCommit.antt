@@ -65,6 +65,7 @@ unprepared-quiet st img b q =
       durable = durable-kept st img b b (st .next) (withPrepared (st .writers) noWriter) (st .pending) (λ p l h k. refl) (q .durable);
       writers = record { four = ws .four; sixty-four = ws .sixty-four; held-low = ws .held-low; own-copy = ws .own-copy; no-writes = ws .no-writes; ready = λ l. absurd (omega arith) };
       work = q .work;
+      narrow = record { state = q .narrow .state; book = q .narrow .book };
     }
 
 module _ {past : List ℕ} (st : State) (img : List ℕ) (b : Reference) (w : ℕ) (T : CommitTaken st w) (q : Quiet past st img b) (empty : length (commitSlots st w) ≡ 0) where
@@ -88,7 +89,7 @@ module _ {past : List ℕ} (st : State) (img : List ℕ) (b : Reference) (w : �
       let e₁ = same-head in
       let e₂ = same-table in
       let e₃ = q .pending in
-      sym (λ i. record { sizes = st .sizes; head = e₁ i; tail = st .tail; next = st .next; table = e₂ i; writers = withPrepared (closedWriter (st .sizes) (st .writers) w) noWriter; pending = sym e₃ i })
+      sym (λ i. record { sizes = st .sizes; head = e₁ i; tail = st .tail; next = st .next; table = e₂ i; writers = withPrepared (closedWriter (st .sizes) (st .writers) w) noWriter; wide = st .wide; pending = sym e₃ i })
 
   -- and so are the pages
   pub empty-commit : Quiet past (completed st (Commit w)) img (emptied w (laid w b))

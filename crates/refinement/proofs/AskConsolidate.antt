@@ -35,7 +35,7 @@ consolidation-after c v b row p t h rows =
     (λ e z. absurd (omega (arith, z, some-needed st p)))
     (λ e z.
     let q = is-quiet st img b h (rows e .0) in
-    record { sizes = refl; related = inr (asked-busy st img b (Consolidate p) (replicate 8 0) 0 nothing q z (rows e .1) (all-left st (Consolidate p) (replicate 8 0) 0 nothing)) })
+    record { sizes = refl; related = inr (asked-busy st img b (Consolidate p) (replicate 8 0) 0 nothing q refl z (rows e .1) (all-left st (Consolidate p) (replicate 8 0) 0 nothing)) })
 
 pub consolidate-sound : {past : List ℕ} (p : ℕ) (v : World) (b : Reference) → Related past v b → Sound past (consolidate p) v b
 unfolding exec consolidateOf

@@ -75,6 +75,7 @@ module _ {past : List ℕ} (st : State) (img : List ℕ) (b : Reference) (ms : L
       record {
         known = ok-rows .known;
         closed = ok-rows .closed;
+        none-wide = ok-rows .none-wide;
         none-prepared = ok-rows .none-prepared;
         first-free = ok-rows .first-free;
         own-free = ok-rows .own-free;
@@ -84,7 +85,7 @@ module _ {past : List ℕ} (st : State) (img : List ℕ) (b : Reference) (ms : L
       }
 
   asked-valid : stateOk asked ≡ true
-  asked-valid = lines-valid st line second f (Event k m a) (Q .valid) (event-op-row st img ms k m a row) (omega (arith, event-some k, event-needs st k m a))
+  asked-valid = lines-valid st line second f (Event k m a) (Q .valid) refl (event-op-row st img ms k m a row) (omega (arith, event-some k, event-needs st k m a))
 
   ready : Ready (withOpen asked 1) k m f
   ready = event-begun asked k m a asked-valid (Q .durable .behind .sixteen) (Q .writers .sixty-four) (Q .writers .four) asked-rows
@@ -139,6 +140,7 @@ module _ {past : List ℕ} (st : State) (img : List ℕ) (b : Reference) (ms : L
         durable = durable-kept st img b b (st .next) _ _ (λ p l h i. refl) (Q .durable);
         writers = record { four = length-set (st .writers .opened) 1 true ∙ ws .four; sixty-four = ws .sixty-four; held-low = ws .held-low; own-copy = ws .own-copy; no-writes = ws .no-writes; ready = ws .ready };
         work = Q .work;
+        narrow = record { state = Q .narrow .state; book = Q .narrow .book };
       }
 
   same-frame : f ≡ pageFrame (firstAsked asked k m) img 0

@@ -4,7 +4,7 @@ use Prim.Native.Nat.{ℕ, _*_, _<_}
 use mathlib.Core.Bool.{true}
 use mathlib.Core.List.{List}
 use mathlib.Core.Logic.{inl, inr}
-use mathlib.Core.Path.{_≡_, refl, sym}
+use mathlib.Core.Path.{_≡_, refl, sym, ap}
 use native.Mathlib.Omega.{arith}
 use lib.Dec.{eqb}
 use lib.ListN.{length, replicate}
@@ -14,6 +14,8 @@ use Rattle.bounded.proofs.Rows.{none-apply, row-none}
 use Rattle.bounded.proofs.Tests.{caseOn}
 use Rattle.state.specs.declared.State.{State}
 use Rattle.state.specs.declared.Op.the-variants.{Prepare, Confirm}
+use Rattle.state.specs.declared.Wide.{Wide}
+use Rattle.state.specs.Wide.{someWide}
 use Rattle.operations.specs.Operations.{needs, confirmRows}
 use Rattle.validity.specs.Validity.{stateOk}
 use Rattle.operations.proofs.Taken.{CommitTaken, commit-taken, confirm-taken}
@@ -27,21 +29,22 @@ use Rattle.refinement.proofs.AskCommit.{op-row, empty-commit, unprepare
 use Rattle.refinement.proofs.Asked.{all-left, asked-busy, asked-after}
 use Rattle.refinement.proofs.Begun.{unprepared}
 use Rattle.refinement.proofs.CommitValid.{prepare-valid, confirm-can}
-use Rattle.refinement.proofs.Invariant.{Durable, Writing, Never, Quiet, Related}
+use Rattle.refinement.proofs.Invariant.{Durable, Writing, Narrow, Never, Quiet, Related}
 use Rattle.refinement.proofs.Keeps.{durable-kept}
 use Rattle.refinement.proofs.Records.{Stored}
 use Rattle.refinement.proofs.Sound.{Sound, answered-kept, is-quiet}
 
 -- a writer prepared: its records are in the image, and nothing else has changed
 pub now-prepared : {past : List ℕ} (st : State) (img : List ℕ) (b : Reference) (w : ℕ) → stateOk st ≡ true → CommitTaken st w → Durable past st img b → Writing st img b Never
-    → Stored st img w → b .work ≡ idle → Quiet past (prepareDone st w) img b
-now-prepared st img b w ok T D W stored work =
+    → Stored st img w → b .work ≡ idle → Narrow st b → Quiet past (prepareDone st w) img b
+now-prepared st img b w ok T D W stored work N =
     record {
-      valid = prepare-valid st w ok T;
+      valid = prepare-valid st w ok T (ap (λ (d : Wide). someWide (d .writer)) (N .state));
       pending = refl;
       durable = durable-kept st img b b (st .next) (withPrepared (st .writers) w) _ (λ p l h k. refl) D;
       writers = record { four = W .four; sixty-four = W .sixty-four; held-low = W .held-low; own-copy = W .own-copy; no-writes = W .no-writes; ready = λ l. stored };
       work = work;
+      narrow = record { state = N .state; book = N .book };
     }
 
 -- no store is needed: no line is held
@@ -60,13 +63,13 @@ unfolding exec prepareOf
 prepare-sound w v b h =
     let st = v .st in
     let img = v .image in
-    let rows = none-apply (commitCallRows st img w) (omega arith) in
+    let rows = none-apply (prepareCallRows st img w) (omega arith) in
     let a =
-    asked-after (prepare w) v b (refusal (commitCallRows st img w)) (Prepare w) (replicate 8 0) 0 nothing (λ k. refl) h
+    asked-after (prepare w) v b (refusal (prepareCallRows st img w)) (Prepare w) (replicate 8 0) 0 nothing (λ k. refl) h
     (λ e z.
     let q = is-quiet st img b h (rows e .1 .1 .0) in
     let T = commit-taken st w (op-row st img w e) in
-    record { sizes = refl; related = inl (now-prepared st img b w (q .valid) T (q .durable) (q .writers) (λ i l. absurd (omega (arith, l, none-prepared st w z))) (q .work)) })
+    record { sizes = refl; related = inl (now-prepared st img b w (q .valid) T (q .durable) (q .writers) (λ i l. absurd (omega (arith, l, none-prepared st w z))) (q .work) (q .narrow)) })
     (λ e z.
     let q = is-quiet st img b h (rows e .1 .1 .0) in
     record { sizes = refl; related = inr (asked-busy st img b (Prepare w) (replicate 8 0) 0 nothing q z (op-row st img w e) (all-left st (Prepare w) (replicate 8 0) 0 nothing)) }) in

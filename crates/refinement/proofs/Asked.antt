@@ -1,6 +1,6 @@
 -- An operation asked for: pending with no store made, where it needs any.
 use Prim.Native.Nat.{ℕ, zero, suc, _-_, _<_}
-use mathlib.Core.Bool.{cond}
+use mathlib.Core.Bool.{cond, true}
 use mathlib.Core.List.{List}
 use mathlib.Core.Path.{_≡_, refl, ap}
 use native.Mathlib.Omega.{arith}
@@ -9,6 +9,7 @@ use Rattle.bounded.specs.Rows.{refusal}
 use Rattle.state.specs.declared.State.{State}
 use Rattle.state.specs.declared.Op.{Op}
 use Rattle.operations.specs.Operations.{needs, opRows}
+use Rattle.validity.specs.Validity.{opFits}
 use Rattle.refinement.specs.Stores.{World, completed}
 use Rattle.refinement.proofs.StateValid.{valid}
 use Rattle.refinement.specs.Calls.{withPending, worldOf, asked}
@@ -24,13 +25,13 @@ pub all-left : (st : State) (op : Op) (line : List ℕ) (frame : ℕ) (t : Task)
 all-left st op line frame t = let e : needs st op ≡ needs (withPending st op line frame) op - 0 = omega (arith, needs-asked st line frame op op) in ap (under t) e
 
 pub asked-busy : {past : List ℕ} (st : State) (img : List ℕ) (b : Reference) (op : Op) (line : List ℕ) (frame : ℕ) (t : Task)
-    → Quiet past st img b → 0 < needs st op → refusal (opRows st op frame) ≡ 0
+    → Quiet past st img b → opFits (st .wide .writer) op ≡ true → 0 < needs st op → refusal (opRows st op frame) ≡ 0
     → Doing (withPending st op line frame) img (withWork (under t (needs st op)) b) op
     → Busy past (withPending st op line frame) img (withWork (under t (needs st op)) b)
-asked-busy st img b op line frame t q l r doing =
+asked-busy st img b op line frame t q fits l r doing =
     let ws = q .writers in
     record {
-      valid = pending-valid st line frame op (q .valid) r l;
+      valid = pending-valid st line frame op (q .valid) fits r l;
       durable = durable-kept st img b (withWork (under t (needs st op)) b) (st .next) (st .writers) _ (λ p l h k. refl) (q .durable);
       writers =
           record {
@@ -43,6 +44,7 @@ asked-busy st img b op line frame t q l r doing =
           };
       landed = λ j m. absurd (omega arith);
       doing = doing;
+      narrow = record { state = q .narrow .state; book = q .narrow .book };
     }
 
 -- ---- what is answered: refused, complete where no store is needed, or pending

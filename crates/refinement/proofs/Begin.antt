@@ -27,6 +27,7 @@ begun st img b w row q =
       durable = durable-kept st img b b (st .next) _ (st .pending) (λ p l h k. refl) (q .durable);
       writers = record { four = length-set (st .writers .opened) w true ∙ ws .four; sixty-four = ws .sixty-four; held-low = ws .held-low; own-copy = ws .own-copy; no-writes = ws .no-writes; ready = ws .ready };
       work = q .work;
+      narrow = record { state = q .narrow .state; book = q .narrow .book };
     }
 
 pub begin-sound : {past : List ℕ} (w : ℕ) (v : World) (b : Reference) → Related past v b → Sound past (begin w) v b

@@ -7,37 +7,46 @@ use native.Mathlib.Omega.{arith}
 use lib.Dec.{eqb}
 use lib.ListN.{set, length-set}
 use lib.Seq.{getD-set-other}
-use borrow.Author.Tests.{eqb-true, eqb-false, not-false, ltb-false}
+use borrow.Author.Tests.{eqb-true, eqb-false, not-false, ltb-false, lt-ltb}
 use Rattle.bounded.specs.Rows.{refusal}
 use Rattle.bounded.proofs.Rows.{none-apply}
-use Rattle.bounded.proofs.Tests.{caseOn, contradicts}
+use Rattle.bounded.proofs.Tests.{caseOn, contradicts, row-keeps}
+use Rattle.layout.specs.declared.Sizes.{Sizes}
+use Rattle.entries.specs.Entries.{noKeys}
+use Rattle.entries.proofs.EntryLaws.{Right, none-right}
 use Rattle.state.specs.declared.State.{State}
 use Rattle.state.specs.declared.Writers.{Writers}
+use Rattle.state.specs.declared.Wide.{Wide}
 use Rattle.state.specs.Held.{isOpen, noWriter}
+use Rattle.state.specs.Wide.{someWide, isWide, noWide, dropped}
 use Rattle.operations.specs.Operations.{isIdle}
 use Rattle.validity.specs.Validity.{stateOk}
 use Rattle.refinement.specs.Commit.{closedWriter}
 use Rattle.refinement.specs.Settled.{withPrepared}
-use Rattle.refinement.proofs.StateValid.{HeldFine, PreparedFine, valid, valid-ok}
+use Rattle.refinement.proofs.StateValid.{HeldFine, PreparedFine, WideFine, narrow, valid, valid-ok}
 use Rattle.refinement.proofs.Pending.{idle-ok}
 use Rattle.refinement.proofs.Closed.{closed-fine, closed-prepared}
 use Rattle.refinement.proofs.Sized.{Sized, closed-sized}
-use Rattle.refinement.specs.Calls.{withWriters, beginRows, abortRows}
+use Rattle.refinement.specs.Calls.{withWriters, withWide, beginRows, abortRows}
 use Rattle.replay.specs.Table.{slotIn}
 
 -- other writers, nothing pending
 writers-valid : (st : State) (ws : Writers) → stateOk st ≡ true → isIdle (st .pending .op) ≡ true → HeldFine (st .sizes) (slotIn (st .table)) (ws .opened) (ws .held)
-    → (ws .prepared < 4 → PreparedFine (st .sizes) (st .head) (st .tail) (ws .opened) (ws .held) (ws .prepared)) → stateOk (withWriters st ws) ≡ true
-writers-valid st ws e i h p =
+    → (ws .prepared < 4 → PreparedFine (st .sizes) (st .head) (st .tail) (ws .opened) (ws .held) (ws .prepared))
+    → (d : Wide) → Right (st .sizes) (d .keys) (d .count) → (d .writer < 4 → WideFine (st .sizes) (ws .opened) (ws .held) (ws .prepared) (d .writer))
+    → stateOk (withWide (withWriters st ws) d) ≡ true
+writers-valid st ws e i h p d r k =
     let v = valid st e in
-    valid-ok (withWriters st ws)
-    (record { legal = v .legal; positions = v .positions; slots = v .slots; held = h; next-low = v .next-low; lasts = v .lasts; prepared = p; pending = idle-ok (withWriters st ws) i })
+    let new = withWide (withWriters st ws) d in
+    valid-ok new
+    (record { legal = v .legal; positions = v .positions; slots = v .slots; held = h; next-low = v .next-low; lasts = v .lasts; prepared = p; entries = r; wide = k; pending = idle-ok new i })
 
 -- what the rows say
 pub record BeginTaken (st : State) (w : ℕ) : Type 0 where
   pub is-valid : stateOk st ≡ true
   pub quiet : isIdle (st .pending .op) ≡ true
   pub writer-low : w < 4
+  pub none-wide : someWide (st .wide .writer) ≡ false
   pub closed : isOpen (st .writers .opened) w ≡ false
 
 pub begin-taken : (st : State) (w : ℕ) → refusal (beginRows st w) ≡ 0 → BeginTaken st w
@@ -47,7 +56,8 @@ begin-taken st w r =
       is-valid = not-false (stateOk st) (h .0);
       quiet = not-false (isIdle (st .pending .op)) (h .1 .0);
       writer-low = omega (arith, ltb-false 3 w (h .1 .1 .0));
-      closed = h .1 .1 .1 .0;
+      none-wide = h .1 .1 .1 .0;
+      closed = h .1 .1 .1 .1 .0;
     }
 
 pub record AbortTaken (st : State) (w : ℕ) : Type 0 where
@@ -95,21 +105,34 @@ begin-valid st w r =
     let h = begin-taken st w r in
     writers-valid st (opening st w) (h .is-valid) (h .quiet) (opened-fine st w (h .is-valid) (h .closed))
     (λ l. let p = valid st (h .is-valid) .prepared l in record { opens = stays-open (st .writers .opened) w (st .writers .prepared) (h .closed) (p .opens); fits = p .fits })
+    (st .wide) (valid st (h .is-valid) .entries) (λ l. contradicts (lt-ltb (st .wide .writer) 4 l) (h .none-wide))
 
-pub abort-valid : (st : State) (w : ℕ) → refusal (abortRows st w) ≡ 0 → stateOk (withWriters st (closedWriter (st .sizes) (st .writers) w)) ≡ true
+-- the state after an abort
+abbrev pub aborting : State → ℕ → State
+aborting st w = withWide (withWriters st (closedWriter (st .sizes) (st .writers) w)) (dropped (st .wide) w)
+
+pub abort-valid : (st : State) (w : ℕ) → refusal (abortRows st w) ≡ 0 → stateOk (aborting st w) ≡ true
 unfolding closedWriter
 abort-valid st w r =
     let h = abort-taken st w r in
     let v = valid st (h .is-valid) in
     writers-valid st (closedWriter (st .sizes) (st .writers) w) (h .is-valid) (h .quiet) (closed-fine (st .sizes) (v .legal) (st .writers) w (slotIn (st .table)) (v .held))
     (λ l. closed-prepared (st .sizes) (v .legal) (st .writers) w (st .head) (st .tail) (h .unprepared) (v .prepared l))
+    (dropped (st .wide) w)
+    (row-keeps (λ (d : Wide). Right (st .sizes) (d .keys) (d .count)) (isWide (st .wide) w) noWide (st .wide) (none-right (st .sizes) noKeys) (v .entries))
+    (caseOn (isWide (st .wide) w)
+    (λ t. rw t (λ l. absurd (omega arith)))
+    (λ t. rw t (λ l. absurd (narrow st w v (h .writer-low) (h .opened) t l))))
 
 -- a withdraw leaves no writer prepared
 abbrev pub unprepared : State → State
 unprepared st = withWriters st (withPrepared (st .writers) noWriter)
 
 pub unprepared-valid : (st : State) → stateOk st ≡ true → isIdle (st .pending .op) ≡ true → stateOk (unprepared st) ≡ true
-unprepared-valid st e i = writers-valid st (withPrepared (st .writers) noWriter) e i (valid st e .held) (λ l. absurd (omega arith))
+unprepared-valid st e i =
+    let v = valid st e in
+    writers-valid st (withPrepared (st .writers) noWriter) e i (v .held) (λ l. absurd (omega arith)) (st .wide) (v .entries)
+    (λ l. let f = v .wide l in record { opens = f .opens; closed = f .closed; unprepared = λ q. omega arith; unheld = f .unheld })
 
 -- and the lengths and ranges of its arrays
 pub begin-sized : (st : State) (w : ℕ) → Sized st → Sized (withWriters st (opening st w))
@@ -119,5 +142,5 @@ begin-sized st w h =
 pub unprepared-sized : (st : State) → Sized st → Sized (unprepared st)
 unprepared-sized st h = record { table = h .table; writers = record { four = h .writers .four; sixty-four = h .writers .sixty-four; held-low = h .writers .held-low } }
 
-pub abort-sized : (st : State) (w : ℕ) → Sized st → Sized (withWriters st (closedWriter (st .sizes) (st .writers) w))
+pub abort-sized : (st : State) (w : ℕ) → Sized st → Sized (aborting st w)
 abort-sized st w h = record { table = h .table; writers = closed-sized (st .sizes) (st .writers) w (h .writers) }

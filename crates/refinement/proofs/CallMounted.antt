@@ -1,7 +1,19 @@
 -- The state that a taken mount or format returns is valid: rows 5 to 7 give its slots and positions, and no writer is
 -- open.
+use lib.Dec.{eqb}
+use borrow.Author.Tests.{eqb-false, ne-eqb}
+use Rattle.bounded.proofs.Tests.{caseOn, row-keeps}
+use Rattle.refinement.specs.Settled.{noPending}
+use Rattle.operations.specs.Operations.{needs}
+use Rattle.state.specs.Wide.{wideOf, noWide}
+use Rattle.state.specs.declared.Op.the-variants.{Copy}
+use Rattle.state.specs.declared.Pending.{Pending}
+use Rattle.state.specs.declared.Wide.{Wide}
+use Rattle.state.specs.declared.State.{State}
+use Rattle.entries.proofs.EntryLaws.{none-right, Right, entries-right}
+use Rattle.entries.specs.Entries.{noKeys}
 use Prim.Native.Nat.{ℕ, _+_, _*_, _<_, _≤_}
-use mathlib.Core.Bool.{true}
+use mathlib.Core.Bool.{true, cond}
 use mathlib.Core.List.{List, _++_}
 use mathlib.Core.Path.{_≡_, refl, sym, ap, _∙_, subst}
 use native.Mathlib.Omega.{arith}
@@ -27,16 +39,16 @@ use Rattle.mount.proofs.Verdict.{Taken, namesIn, foundIn, mount-taken, taken-mo
 use Rattle.mount.proofs.LastRecords.{last-live, lasts-apart}
 use Rattle.fresh.proofs.FreshWords.{length-formatted}
 use Rattle.fresh.proofs.FreshMounts.{freshView, fresh-shows, fresh-taken}
-use Rattle.state.specs.Held.{heldAt}
-use Rattle.validity.specs.Validity.{stateOk}
+use Rattle.state.specs.Held.{heldAt, noWriter}
+use Rattle.validity.specs.Validity.{stateOk, pendingOk}
 use Rattle.masks.specs.Lines.{disjoint}
 use Rattle.masks.proofs.Disjoint.{none-disjoint}
 use Rattle.refinement.proofs.StateValid.{lastAt, LastsFine, HeldFine, valid-ok}
-use Rattle.refinement.proofs.Pending.{idle-ok}
+use Rattle.refinement.proofs.Pending.{idle-ok, pends-ok}
 use Rattle.refinement.proofs.Appended.{last-at}
 use Rattle.refinement.proofs.NamesOnce.{names-fine}
 use Rattle.refinement.proofs.Sized.{Low, set-low, replay-low, SizedWriters, Sized}
-use Rattle.refinement.specs.Mount.{allClosed, quietState, mountedState, freshState}
+use Rattle.refinement.specs.Mount.{allClosed, quietState, mountedState, freshState, copying, copyingState}
 
 -- ---- nobody holds anything
 
@@ -101,13 +113,16 @@ module _ (img : List ℕ) (v : View) (shows : Shows img v) where
           apart = λ s k l m d n e. d (lasts-apart img v shows g p s k l m (λ q. n (at s l ∙ q)) (sym (at s l) ∙ e ∙ at k m));
         }
 
-    pub mount-valid : stateOk (quietState (v .sizes) (v .head) (v .tail) (v .table)) ≡ true
-    mount-valid =
+    -- a state with what is found, no writer open, and a wide transaction without a writer
+    abbrev finding : Wide → Pending → State
+    finding d q = record { sizes = v .sizes; head = v .head; tail = v .tail; next = 0; table = v .table; writers = allClosed; wide = d; pending = q }
+
+    finding-valid : (d : Wide) (q : Pending) → Right (v .sizes) (d .keys) (d .count) → 4 ≤ d .writer → pendingOk (finding d q) ≡ true → stateOk (finding d q) ≡ true
+    finding-valid d q r none p =
         let z = v .sizes in
-        let st = quietState z (v .head) (v .tail) (v .table) in
         let once : Once (frames z) (frameNames (word img) z (v .table)) = subst (Once (frames z)) view-names (taken .names) in
         let g = taken .legal in
-        valid-ok st
+        valid-ok (finding d q)
         (record {
           legal = g;
           positions = taken .positions;
@@ -116,8 +131,22 @@ module _ (img : List ℕ) (v : View) (shows : Shows img v) where
           next-low = omega arith;
           lasts = view-lasts;
           prepared = λ l. absurd (omega arith);
-          pending = idle-ok st refl;
+          entries = r;
+          wide = λ l. absurd (omega arith);
+          pending = p;
         })
+
+    pub mount-valid : stateOk (quietState (v .sizes) (v .head) (v .tail) (v .table)) ≡ true
+    mount-valid = finding-valid noWide noPending (none-right (v .sizes) noKeys) (omega arith) (idle-ok (finding noWide noPending) refl)
+
+    -- with the copying of the entries that are counted pending
+    pub copying-valid : (v .count ≡ 0 → ⊥) → stateOk (copyingState (v .sizes) (v .head) (v .tail) (v .table) (v .count) (v .keys)) ≡ true
+    unfolding needs
+    copying-valid some =
+        let d = wideOf noWriter (v .count) (v .keys) in
+        let low : 1 < needs (finding d copying) Copy = rw (ne-eqb (v .count) 0 some) (omega arith) in
+        finding-valid d copying (entries-right (v .sizes) (v .keys) (v .count) (taken .entries)) (omega arith)
+        (pends-ok (finding d copying) Copy refl (record { fits = refl; made-low = low; taken = refl }))
 
     pub mount-sized : Bytes img → Sized (quietState (v .sizes) (v .head) (v .tail) (v .table))
     mount-sized b =
@@ -133,10 +162,21 @@ module _ (img : List ℕ) (e : mountOf img .row ≡ 0) where
   found = ap mountedState (taken-mount img (viewOf (word img)) refl (mount-taken img (viewOf (word img)) refl e))
 
   pub mounted-valid : stateOk (mountedState (mountOf img)) ≡ true
-  mounted-valid = ap stateOk found ∙ mount-valid img (viewOf (word img)) refl (mount-taken img (viewOf (word img)) refl e)
+  mounted-valid =
+      let v = viewOf (word img) in
+      let t = mount-taken img v refl e in
+      ap stateOk found
+      ∙ caseOn (eqb (v .count) 0)
+      (λ q. rw q (mount-valid img v refl t))
+      (λ q. rw q (copying-valid img v refl t (eqb-false (v .count) 0 q)))
 
   pub mounted-sized : Bytes img → Sized (mountedState (mountOf img))
-  mounted-sized b = subst Sized (sym found) (mount-sized img (viewOf (word img)) refl (mount-taken img (viewOf (word img)) refl e) b)
+  mounted-sized b =
+      let v = viewOf (word img) in
+      let h = mount-sized img v refl (mount-taken img v refl e) b in
+      subst Sized (sym found)
+      (row-keeps Sized (eqb (v .count) 0) (quietState (v .sizes) (v .head) (v .tail) (v .table)) (copyingState (v .sizes) (v .head) (v .tail) (v .table) (v .count) (v .keys))
+      h (record { table = h .table; writers = h .writers }))
 
 module _ (z : Sizes) (e : sizesOk z ≡ true) where
   abbrev room : List ℕ

@@ -9,7 +9,7 @@ use Rattle.words.proofs.WordLaws.{bytes-store}
 use Rattle.state.specs.declared.State.{State}
 use Rattle.refinement.specs.Stores.{World, storeAt, storeValue, stepped, steppedBy, left}
 use Rattle.refinement.specs.Calls.{stepRow, worldOf, stepBytes, runBytes}
-use Rattle.refinement.specs.Run.{Call, mount, checkpoint, free, step, begin, abort, commit, prepare, confirm, withdraw, consolidate, run, write, read, recall, exec, after, event, load}
+use Rattle.refinement.specs.Run.{Call, mount, checkpoint, free, step, begin, beginWide, abort, commit, prepare, confirm, withdraw, consolidate, run, write, read, recall, exec, after, event, load}
 use Rattle.refinement.proofs.Called.{Good, call-good}
 
 step-image : (v : World) → Bytes (v .image) → Bytes (stepped v .image)
@@ -17,7 +17,7 @@ unfolding stepped
 step-image v b =
     let op = v .st .pending .op in
     let m = v .st .pending .made in
-    bytes-store (v .image) (storeAt (v .st) op m) (storeValue (v .st) (v .image) op m) b
+    bytes-store (v .image) (storeAt (v .st) (v .image) op m) (storeValue (v .st) (v .image) op m) b
 
 steps-image : (n : ℕ) (v : World) → Bytes (v .image) → Bytes (steppedBy n v .image)
 unfolding steppedBy
@@ -40,6 +40,7 @@ call-bytes checkpoint v b = b
 call-bytes free v b = b
 call-bytes step v b = step-bytes (v .st) (v .image) b
 call-bytes (begin w) v b = b
+call-bytes (beginWide w) v b = b
 call-bytes (abort w) v b = b
 call-bytes (commit w) v b = b
 call-bytes (prepare w) v b = b

@@ -30,12 +30,12 @@ use Rattle.refinement.proofs.Steps.{run-valid, run-sized, step-valid, s
 use Rattle.refinement.specs.Outcome.{answered}
 use Rattle.refinement.specs.Calls.{quietRows, withWriters, beginRows, abortRows, beginOf, abortOf, asked, withPending, finishedLine, changesNothing, writeCallRows, commitCallRows, confirmCallRows, consolidateCallRows, freeCallRows, checkpointCallRows, writeOf, commitOf, prepareOf, confirmOf, withdrawOf, consolidateOf, freeOf, checkpointOf, stepRow, stepRows, worldOf, runOf, stepOf, eventLine, eventSecond, eventCallRows, eventOf}
 use Rattle.refinement.specs.Mount.{mountedState, mountCall, noState, freshState, formatCall}
-use Rattle.refinement.specs.Run.{Call, mount, checkpoint, free, step, begin, abort, commit, prepare, confirm, withdraw, consolidate, run, write, read, recall, exec, event, load}
+use Rattle.refinement.specs.Run.{Call, mount, checkpoint, free, step, begin, beginWide, abort, commit, prepare, confirm, withdraw, consolidate, run, write, read, recall, exec, event, load}
 use Rattle.meters.specs.Meters.{eventNeeds}
 use Rattle.refinement.specs.Settled.{withLines}
 use Rattle.refinement.proofs.EventRows.{event-some, event-needs, event-op-row}
 use Rattle.refinement.proofs.LinesAsked.{lines-valid}
-use Rattle.refinement.proofs.Begun.{opening, begin-valid, begin-sized, abort-valid, abort-sized, unprepared, unprepared-valid, unprepared-sized}
+use Rattle.refinement.proofs.Begun.{opening, begin-valid, begin-sized, aborting, abort-valid, abort-sized, unprepared, unprepared-valid, unprepared-sized}
 use Rattle.refinement.proofs.CallAsked.{askedState, pending-valid, pending-sized, asked-valid, asked-sized}
 use Rattle.refinement.proofs.CallMounted.{mounted-valid, mounted-sized, fresh-valid, fresh-sized}
 
@@ -78,7 +78,7 @@ module _ (st : State) (img : List ℕ) (g : Good st) where
   abort-good : (w : ℕ) → Good (abortOf st w .state)
   unfolding abortOf
   abort-good w =
-      answered-good (refusal (abortRows st w)) st 0 (withWriters st (closedWriter (st .sizes) (st .writers) w)) g
+      answered-good (refusal (abortRows st w)) st 0 (aborting st w) g
       (λ e. record { is-valid = abort-valid st w e; sized = abort-sized st w (g .sized) })
 
   write-good : (w p l o n : ℕ) (bytes : List ℕ) → Good (writeOf st img w p l o n bytes .state)

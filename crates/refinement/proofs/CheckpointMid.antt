@@ -4,7 +4,7 @@ use Prim.Native.Nat.{ℕ, _+_, _*_, _/_, _%_, _<_, _≤_}
 use mathlib.Core.Bool.{Bool, true, not}
 use mathlib.Core.List.{List}
 use mathlib.Core.Logic.{inl, inr}
-use mathlib.Core.Path.{_≡_, sym, ap, _∙_, subst}
+use mathlib.Core.Path.{_≡_, sym, ap, _∙_, subst, refl}
 use native.Mathlib.Omega.{arith}
 use lib.Dec.{eqb}
 use lib.ListN.{length, getD}
@@ -121,6 +121,7 @@ module _ (past : List ℕ) (st : State) (img : List ℕ) (b : Reference) (D : Du
       subst (λ (y : Sizes). Dead (D .view) (slotWord y (checkpointSlot st m) + m % 3)) (D .sizes-same)
       (dead-slot (D .view) (checkpointSlot st m) (m % 3) (rw (D .sizes-same) (s .low)) (omega arith) none) in
       record {
+        in-place = refl;
         inside = inside;
         low = rw (value-slot st g full img m l) (word-lt img (recordWord z (lastIn (st .table) (checkpointSlot st m)) + 1 + m % 3) (D .bytes));
         apart = λ j h e. let w : m ≡ j = same-store st g full m j l (omega arith) e in omega arith;

@@ -33,5 +33,7 @@ checkpoint-valid st e full =
       next-low = v .next-low;
       lasts = record { low = λ s l n. absurd (n (none s l)); live = λ s l n. absurd (n (none s l)); apart = λ s k l m d n. absurd (n (none s l)) };
       prepared = λ l. record { opens = v .prepared l .opens; fits = omega (arith, live-none z (st .head), held-le z (st .writers .held) (st .writers .prepared) _ refl, v .legal .places-low) };
+      entries = v .entries;
+      wide = v .wide;
       pending = idle-ok (completed st Checkpoint) refl;
     })

@@ -36,7 +36,7 @@ use Rattle.state.specs.declared.Op.the-variants.{Commit, Prepare}
 use Rattle.state.specs.Held.{somePrepared, heldAt, heldSlots}
 use Rattle.operations.specs.Operations.{needs, commitRows}
 use Rattle.validity.specs.Validity.{stateOk}
-use Rattle.operations.proofs.Taken.{CommitTaken, commit-taken, commit-alone}
+use Rattle.operations.proofs.Taken.{CommitTaken, commit-taken, commit-alone, prepare-taken, prepare-alone}
 use Rattle.refinement.specs.Commit.{commitSlots, commitRecord, commitAt, commitValue, commitRecordOf, commitAtOf, commitValueOf}
 use Rattle.refinement.specs.Stores.{stepped}
 use Rattle.refinement.proofs.CommitValid.{SameNames, owning-renamed, commit-slot}
@@ -52,14 +52,14 @@ use Rattle.refinement.proofs.Stepping.{Aside, Mid, aside-before, step-m
 module _ (past : List ℕ) (st : State) (img : List ℕ) (b : Reference) (D : Durable past st img b) where
   abbrev pub ownView : View
   ownView =
-      record { sizes = st .sizes; layout = D .view .layout; head = st .head; tail = st .tail; records = D .view .records; table = D .view .table; homes = D .view .homes }
+      record { sizes = st .sizes; layout = D .view .layout; head = st .head; tail = st .tail; records = D .view .records; table = D .view .table; homes = D .view .homes; count = D .view .count; keys = D .view .keys }
 
   pub own-same : D .view ≡ ownView
   own-same =
       let e₀ = D .sizes-same in
       let e₁ = D .head-same in
       let e₂ = D .tail-same in
-      λ i. record { sizes = e₀ i; layout = D .view .layout; head = e₁ i; tail = e₂ i; records = D .view .records; table = D .view .table; homes = D .view .homes }
+      λ i. record { sizes = e₀ i; layout = D .view .layout; head = e₁ i; tail = e₂ i; records = D .view .records; table = D .view .table; homes = D .view .homes; count = D .view .count; keys = D .view .keys }
 
   pub own-shows : Shows img ownView
   own-shows = D .shows ∙ own-same
@@ -160,6 +160,7 @@ module _ (past : List ℕ) (st : State) (img : List ℕ) (b : Reference) (ok : s
       let at : commitAt st w m ≡ recordWord z (position z (st .head) (m / 4)) + m % 4 = at-record st w m l in
       let end = record-end z g (position z (st .head) (m / 4)) in
       record {
+        in-place = refl;
         inside = omega (arith, at, end);
         low = subst (λ (x : ℕ). x < 2 ^ 64) (sym (value-record st w m l)) (commit-word st w ok T (bitmap-low past st img b D) low (m / 4) (m % 4) (omega arith));
         apart =
@@ -181,6 +182,7 @@ module _ (past : List ℕ) (st : State) (img : List ℕ) (b : Reference) (ok : s
   records-prepared m l =
       let M = records-mid m l in
       record {
+        in-place = refl;
         inside = M .inside;
         low = M .low;
         apart = M .apart;
@@ -209,7 +211,8 @@ module _ (past : List ℕ) (st : State) (img : List ℕ) (b : Reference) (B : Bu
   pub prepare-mid : st .pending .op ≡ Prepare w → (m : ℕ) → m < 4 * count st w → Mid past st img b (B .durable) (Prepare w) m
   prepare-mid e =
       let row = pends st (Prepare w) (B .valid) e refl .taken in
-      records-prepared past st img b (B .valid) (B .durable) w (T row) (commit-alone st w row) (low row)
+      let taken = prepare-taken st w row in
+      records-prepared past st img b (B .valid) (B .durable) w taken (prepare-alone st w row .1) (λ s k. B .writers .held-low w s (taken .writer-low) k)
 
   pub commit-doing : st .pending .op ≡ Commit w → b .work ≡ under (committing w) (needs st (Commit w) - st .pending .made)
   commit-doing e = subst (Doing st img b) e (B .doing)

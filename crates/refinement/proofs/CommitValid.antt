@@ -1,15 +1,16 @@
 -- A commit keeps the state valid: only bitmaps of owning slots change, the new records' positions are live, and the
 -- closed writer holds nothing.
 use Prim.Native.Nat.{ℕ, _<_}
-use mathlib.Core.Bool.{Bool, true, not}
+use mathlib.Core.Bool.{Bool, true, not, false}
 use mathlib.Core.Logic.{⊎-elim}
 use mathlib.Core.Path.{_≡_, refl, sym, ap, _∙_, subst}
 use native.Mathlib.Omega.{arith}
 use lib.Dec.{eqb}
 use lib.ListN.{length, getD}
-use borrow.Author.Tests.{eqb-false, not-true}
+use borrow.Author.Tests.{eqb-true, eqb-false, not-true, lt-ltb}
 use Rattle.bounded.specs.Rows.{refusal}
 use Rattle.bounded.proofs.Those.{chosen, length-those}
+use Rattle.bounded.proofs.Tests.{caseOn, contradicts}
 use Rattle.layout.specs.declared.Sizes.{Sizes}
 use Rattle.journal.specs.declared.Slot.{Slot}
 use Rattle.journal.specs.Slots.{shaped}
@@ -21,12 +22,13 @@ use Rattle.replay.proofs.Latest.{Latest, latest, replay-latest, replay-kept}
 use Rattle.state.specs.declared.State.{State}
 use Rattle.state.specs.declared.Op.the-variants.{Commit, Prepare}
 use Rattle.state.specs.Held.{heldAt, heldSlots}
+use Rattle.state.specs.Wide.{someWide, isWide}
 use Rattle.operations.specs.Operations.{commitRows}
 use Rattle.validity.specs.Validity.{stateOk}
 use Rattle.operations.proofs.Taken.{CommitTaken, ConfirmTaken, commit-taken}
 use Rattle.refinement.specs.Stores.{completed}
 use Rattle.refinement.specs.Commit.{commitSlots, committedSlot, commitRecord, commitTable, commitRecordOf}
-use Rattle.refinement.proofs.StateValid.{Apart, HeldFine, valid, valid-ok}
+use Rattle.refinement.proofs.StateValid.{Apart, HeldFine, narrow, valid, valid-ok}
 use Rattle.refinement.proofs.Pending.{idle-ok}
 use Rattle.refinement.proofs.Appended.{lasts-more}
 use Rattle.refinement.proofs.Closed.{closed-fine}
@@ -111,8 +113,8 @@ module _ (st : State) (w : ℕ) where
         })
         (latest n (commitRecord st w) s)
 
-    pub committed-valid : CommitTaken st w → stateOk (completed st (Commit w)) ≡ true
-    committed-valid h =
+    pub committed-valid : CommitTaken st w → isWide (st .wide) w ≡ false → stateOk (completed st (Commit w)) ≡ true
+    committed-valid h other =
         let v = valid st e in
         let z = st .sizes in
         let n = length (commitSlots st w) in
@@ -135,12 +137,14 @@ module _ (st : State) (w : ℕ) where
           next-low = v .next-low;
           lasts = lasts-more z (v .legal) (st .head) (st .tail) (v .positions) n (h .fits) (commitRecord st w) (st .table) full (v .lasts);
           prepared = λ l. absurd (omega arith);
+          entries = v .entries;
+          wide = λ l. absurd (narrow st w v (h .writer-low) (h .opened) other l);
           pending = idle-ok (completed st (Commit w)) refl;
         })
 
 -- a prepare leaves a writer prepared that may be
-pub prepare-valid : (st : State) (w : ℕ) → stateOk st ≡ true → CommitTaken st w → stateOk (completed st (Prepare w)) ≡ true
-prepare-valid st w e h =
+pub prepare-valid : (st : State) (w : ℕ) → stateOk st ≡ true → CommitTaken st w → someWide (st .wide .writer) ≡ false → stateOk (completed st (Prepare w)) ≡ true
+prepare-valid st w e h none =
     let v = valid st e in
     valid-ok (completed st (Prepare w))
     (record {
@@ -151,6 +155,8 @@ prepare-valid st w e h =
       next-low = v .next-low;
       lasts = v .lasts;
       prepared = λ l. record { opens = h .opened; fits = h .fits };
+      entries = v .entries;
+      wide = λ l. contradicts (lt-ltb (st .wide .writer) 4 l) none;
       pending = idle-ok (completed st (Prepare w)) refl;
     })
 
@@ -162,5 +168,14 @@ confirm-can st w e h =
     let p = valid st e .prepared l in
     record { writer-low = l; opened = p .opens; fits = p .fits })
 
-pub commit-valid : (st : State) (w : ℕ) → stateOk st ≡ true → Sixteen (st .table) → refusal (commitRows st w) ≡ 0 → stateOk (completed st (Commit w)) ≡ true
-commit-valid st w e full r = committed-valid st w e full (commit-taken st w r)
+-- the wide writer is not prepared
+pub confirm-narrow : (st : State) (w : ℕ) → stateOk st ≡ true → ConfirmTaken st w → isWide (st .wide) w ≡ false
+confirm-narrow st w e h =
+    caseOn (isWide (st .wide) w)
+    (λ t.
+    let q : st .wide .writer ≡ w = eqb-true (st .wide .writer) w t in
+    absurd (valid st e .wide (omega (arith, q, h .writer-low)) .unprepared (h .prepared ∙ sym q)))
+    (λ t. t)
+
+pub commit-valid : (st : State) (w : ℕ) → stateOk st ≡ true → Sixteen (st .table) → isWide (st .wide) w ≡ false → refusal (commitRows st w) ≡ 0 → stateOk (completed st (Commit w)) ≡ true
+commit-valid st w e full other r = committed-valid st w e full (commit-taken st w r) other

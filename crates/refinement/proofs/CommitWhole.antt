@@ -15,7 +15,7 @@ use Rattle.refinement.specs.Stores.{World}
 use Rattle.refinement.specs.Calls.{commitCallRows, commitOf, confirmCallRows, confirmOf, stepRows, runOf}
 use Rattle.refinement.specs.Run.{Call, commit, confirm, run, exec}
 use Rattle.refinement.specs.Beside.{Finds, Whole, WholeOrAbsent, CommitWhole}
-use Rattle.refinement.specs.Reference.{Reference, Work, idle, under, committing, withWork, does, starts, continues, advances, taken, turn, readLine, recallLine}
+use Rattle.refinement.specs.Reference.{Reference, Work, idle, under, copying, committing, withWork, does, starts, continues, advances, taken, turn, readLine, recallLine}
 use Rattle.refinement.specs.Statement.{Lent}
 use Rattle.operations.specs.Operations.{isIdle}
 use Rattle.refinement.proofs.Copies.{durable-fits}
@@ -29,6 +29,7 @@ use Rattle.refinement.proofs.Between.{Between, between-valid, between-d
 storesLeft : Work → ℕ
 storesLeft idle = 0
 storesLeft (under t k) = k
+storesLeft (copying w k) = k
 
 -- it is taken where something is
 run-taken : {past : List ℕ} (k : ℕ) (u : World) (c : Reference) → Between past u c → 0 < storesLeft (c .work) → exec (run k) u .number ≡ 0

@@ -1,29 +1,33 @@
 -- An operation that no row turns back keeps the state valid when it is complete.
 use mathlib.Core.Bool.{true}
 use mathlib.Core.Path.{_≡_}
+use borrow.Author.Tests.{not-true}
 use lib.ListN.{length}
 use Rattle.bounded.specs.Rows.{refusal}
 use Rattle.replay.proofs.Tables.{Sixteen}
 use Rattle.state.specs.declared.State.{State}
 use Rattle.state.specs.declared.Op.{Op}
-use Rattle.state.specs.declared.Op.the-variants.{Idle, Write, Commit, Consolidate, Checkpoint, Event, Prepare, Confirm}
+use Rattle.state.specs.declared.Op.the-variants.{Idle, Write, Commit, Consolidate, Checkpoint, Event, Prepare, Confirm, Log, Copy}
 use Rattle.operations.specs.Operations.{opRows}
-use Rattle.validity.specs.Validity.{stateOk}
-use Rattle.operations.proofs.Taken.{write-taken, commit-taken, confirm-taken}
+use Rattle.validity.specs.Validity.{opFits, stateOk}
+use Rattle.operations.proofs.Taken.{write-taken, prepare-taken, prepare-alone, confirm-taken}
 use Rattle.refinement.specs.Stores.{completed}
+use Rattle.refinement.proofs.WideValid.{logged-valid, copied-valid}
 use Rattle.refinement.proofs.WriteValid.{written-valid}
-use Rattle.refinement.proofs.CommitValid.{commit-valid, committed-valid, prepare-valid, confirm-can}
+use Rattle.refinement.proofs.CommitValid.{commit-valid, committed-valid, prepare-valid, confirm-can, confirm-narrow}
 use Rattle.refinement.proofs.ConsolidateValid.{consolidate-valid}
 use Rattle.refinement.proofs.EventReady.{event-valid}
 use Rattle.refinement.proofs.CheckpointValid.{checkpoint-valid}
 
-pub completed-valid : (st : State) (op : Op) → stateOk st ≡ true → Sixteen (st .table) → length (st .writers .held) ≡ 64 → length (st .writers .opened) ≡ 4 → refusal (opRows st op (st .pending .frame)) ≡ 0 → stateOk (completed st op) ≡ true
-completed-valid st Idle e full lines four r = e
-completed-valid st (Write w p l o n) e full lines four r =
-    written-valid st w p l o n e full (write-taken st w p l o n (st .pending .frame) r) lines
-completed-valid st (Commit w) e full lines four r = commit-valid st w e full r
-completed-valid st (Consolidate p) e full lines four r = consolidate-valid st p e full r
-completed-valid st Checkpoint e full lines four r = checkpoint-valid st e full
-completed-valid st (Event k m a) e full lines four r = event-valid st k m a e full lines four r
-completed-valid st (Prepare w) e full lines four r = prepare-valid st w e (commit-taken st w r)
-completed-valid st (Confirm w) e full lines four r = committed-valid st w e full (confirm-can st w e (confirm-taken st w r))
+pub completed-valid : (st : State) (op : Op) → stateOk st ≡ true → Sixteen (st .table) → length (st .writers .held) ≡ 64 → length (st .writers .opened) ≡ 4 → length (st .wide .keys) ≡ 64 → opFits (st .wide .writer) op ≡ true → refusal (opRows st op (st .pending .frame)) ≡ 0 → stateOk (completed st op) ≡ true
+completed-valid st Idle e full lines four keys fits r = e
+completed-valid st (Write w p l o n) e full lines four keys fits r =
+    written-valid st w p l o n e full (write-taken st w p l o n (st .pending .frame) r) (not-true _ fits) lines
+completed-valid st (Commit w) e full lines four keys fits r = commit-valid st w e full (not-true _ fits) r
+completed-valid st (Consolidate p) e full lines four keys fits r = consolidate-valid st p e full r
+completed-valid st Checkpoint e full lines four keys fits r = checkpoint-valid st e full
+completed-valid st (Event k m a) e full lines four keys fits r = event-valid st k m a e full lines four r
+completed-valid st (Prepare w) e full lines four keys fits r = prepare-valid st w e (prepare-taken st w r) (prepare-alone st w r .0)
+completed-valid st (Confirm w) e full lines four keys fits r = committed-valid st w e full (confirm-can st w e (confirm-taken st w r)) (confirm-narrow st w e (confirm-taken st w r))
+completed-valid st (Log p l o n) e full lines four keys fits r = logged-valid st p l o n e keys r
+completed-valid st Copy e full lines four keys fits r = copied-valid st e r

@@ -272,6 +272,7 @@ module _ (past : List ℕ) (st : State) (img : List ℕ) (b : Reference) (valid 
             sizes-same = D .sizes-same;
             head-same = ap₂ (λ (y : Sizes) (h : ℕ). position y h 1) (D .sizes-same) (D .head-same);
             tail-same = D .tail-same;
+            count-same = D .count-same;
             behind = rw (D .sizes-same, D .head-same) (record { sixteen = freed-sixteen S; last-same = last-behind; slot-same = slot-behind });
             committed = copy-after;
           }

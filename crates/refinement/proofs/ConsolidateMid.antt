@@ -10,7 +10,7 @@ use native.Mathlib.Omega.{arith}
 use borrow.Author.Tests.{ltb-true}
 use Rattle.bounded.proofs.Tests.{and-left, and-right, contradicts}
 use Rattle.layout.specs.declared.Sizes.{Sizes}
-use Rattle.layout.specs.Layout.{pageWord, recordWord, lineWord}
+use Rattle.layout.specs.Layout.{frames, pageWord, recordWord, lineWord}
 use Rattle.words.specs.Words.{word}
 use Rattle.layout.proofs.LayoutLaws.{line-apart, place-lt}
 use Rattle.journal.specs.declared.Slot.{Slot}
@@ -33,7 +33,7 @@ use Rattle.refinement.specs.Consolidate.{copyTo, copyStoreCount, consoli
 use Rattle.refinement.specs.Recall.{frameOf}
 use Rattle.refinement.specs.Reference.{Reference}
 use Rattle.refinement.proofs.Invariant.{TakenOnly, Durable, holds}
-use Rattle.refinement.proofs.Copies.{copy-apart, others-apart}
+use Rattle.refinement.proofs.Copies.{copy-apart, others-apart, other-low}
 use Rattle.refinement.proofs.PageSlots.{slotted-of}
 use Rattle.refinement.proofs.ConsolidateStores.{lineOf, copied-line, Part, line, page, freeing, value-page}
 use Rattle.refinement.proofs.ConsolidateSlot.{Freed, at-line′, at-page′, at-freeing′, in-image, words-differ, value-kept, value-low}
@@ -53,6 +53,10 @@ module _ (past : List ℕ) (st : State) (img : List ℕ) (b : Reference) (valid 
   abbrev harmless : ℕ → Type 0
   harmless i = (consolidateValue st img p i ≡ word img (consolidateAt st p i)) ⊎ Aside past st img b D (Consolidate p) (consolidateAt st p i)
 
+  -- the frame that lines go to is one of the page's
+  to-low : (m : ℕ) → otherFrame t m ≡ copyTo t → copyTo t < frames (st .sizes)
+  to-low m e = subst (λ (f : ℕ). f < frames (st .sizes)) e (other-low st img valid D p m (F .page-low) (F .slot-low))
+
   -- a word of a copied line
   line-aside : (j k : ℕ) → j < copyCount (t .bitmap) → k < 8 → Aside past st img b D (Consolidate p) (lineWord (st .sizes) (copyTo t) (lineOf t j) + k)
   line-aside j k h l =
@@ -60,7 +64,7 @@ module _ (past : List ℕ) (st : State) (img : List ℕ) (b : Reference) (valid 
       let c = copied-line t j h in
       let m : ℕ = lineOf t j in
       record {
-        dead = subst (λ (y : Sizes). Dead (D .view) (lineWord y (copyTo t) m + k)) (D .sizes-same) (dead-line (D .view) (D .mounts .legal) (copyTo t) m k);
+        dead = subst (λ (y : Sizes). Dead (D .view) (lineWord y (copyTo t) m + k)) (D .sizes-same) (dead-line (D .view) (D .mounts .legal) (copyTo t) m k (rw (D .sizes-same) (to-low m (c .to))) (c .low) l);
         uncommitted =
             λ q n i lq ln li e.
             let w = line-apart z (frameOf (word img) z (st .table) q n) n i (copyTo t) m k ln (c .low) li l e in
@@ -111,6 +115,7 @@ module _ (past : List ℕ) (st : State) (img : List ℕ) (b : Reference) (valid 
       let q : Part t m = part m (omega arith) in
       let inside = in-image st p F m q in
       record {
+        in-place = refl;
         inside = inside;
         low = value-low st p F img m (D .bytes) q;
         apart = λ j l e. let w : m ≡ j = words-differ st p F m j q (part j (omega arith)) e in omega arith;

@@ -118,6 +118,8 @@ module _ (st : State) (p : ℕ) (e : stateOk st ≡ true) (full : Sixteen (st .t
         next-low = v .next-low;
         lasts = lasts-more z (v .legal) (st .head) (st .tail) (v .positions) 1 (h .fits) (freeingRecord st p) (st .table) full (v .lasts);
         prepared = λ l. absurd (omega (arith, l, ltb-false (st .writers .prepared) 4 (h .none-prepared)));
+        entries = v .entries;
+        wide = v .wide;
         pending = idle-ok (completed st (Consolidate p)) refl;
       })
 

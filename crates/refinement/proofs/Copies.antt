@@ -150,6 +150,9 @@ module _ {past : List ℕ} (st : State) (img : List ℕ) {b : Reference} (valid 
   pub other-low : (p l : ℕ) → p < st .sizes .pages → slotFor st p < st .sizes .slots → otherFrame (slotIn (st .table) (slotFor st p)) l < frames (st .sizes)
   other-low p l h m = in-range p _ h (other-in p l m)
 
+  pub committed-low : (p l : ℕ) → p < st .sizes .pages → frameOf (word img) (st .sizes) (st .table) p l < frames (st .sizes)
+  committed-low p l h = in-range p _ h (committed-in p l)
+
   pub slot-spare-low : (s : ℕ) → s < st .sizes .slots → slotIn (st .table) s .spare < frames (st .sizes)
   slot-spare-low = spare-low (word img) (st .sizes) (st .table) names-once
 
@@ -158,6 +161,11 @@ module _ {past : List ℕ} (st : State) (img : List ℕ) {b : Reference} (valid 
   pub others-apart : (p l q m : ℕ) → p < st .sizes .pages → q < st .sizes .pages → slotFor st p < st .sizes .slots → slotFor st q < st .sizes .slots → (p ≡ q → ⊥)
       → otherFrame (slotIn (st .table) (slotFor st p)) l ≡ otherFrame (slotIn (st .table) (slotFor st q)) m → ⊥
   others-apart p l q m h k s u n e = n (same-owner p q _ _ h k (other-in p l s) (other-in q m u) e)
+
+  -- two committed copies in one frame are of one page
+  pub committed-apart : (p l q m : ℕ) → p < st .sizes .pages → q < st .sizes .pages
+      → frameOf (word img) (st .sizes) (st .table) p l ≡ frameOf (word img) (st .sizes) (st .table) q m → p ≡ q
+  committed-apart p l q m h k e = same-owner p q _ _ h k (committed-in p l) (committed-in q m) e
 
   -- the two copies of one line, of one page or of two
   pub copy-apart : (p l q : ℕ) → p < st .sizes .pages → q < st .sizes .pages → slotFor st p < st .sizes .slots

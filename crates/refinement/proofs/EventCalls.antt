@@ -22,7 +22,7 @@ use Rattle.refinement.specs.Frames.{pageFrame}
 use Rattle.refinement.specs.Stores.{World, stepped, steppedBy, left}
 use Rattle.refinement.specs.Outcome.{answered}
 use Rattle.refinement.specs.Calls.{worldOf, beginRows, abortRows, writeCallRows, commitCallRows, confirmCallRows, consolidateCallRows, freeCallRows, checkpointCallRows, readRows, beginOf, abortOf, writeOf, commitOf, prepareOf, confirmOf, withdrawOf, consolidateOf, freeOf, checkpointOf, eventOf, eventLine, eventSecond, eventCallRows, loadRows, loadOf, readRow, readBytes, stepRow, stepRows, stepOf, stepBytes, runOf, runBytes}
-use Rattle.refinement.specs.Run.{Call, mount, checkpoint, free, step, begin, abort, commit, prepare, confirm, withdraw, consolidate, run, write, read, recall, event, load, exec}
+use Rattle.refinement.specs.Run.{Call, mount, checkpoint, free, step, begin, beginWide, abort, commit, prepare, confirm, withdraw, consolidate, run, write, read, recall, event, load, exec}
 use Rattle.refinement.specs.Recall.{recallRow}
 use Rattle.refinement.specs.Reference.{Reference, Task, Work, idle, under, moving, withWork, starts, continues, advances, taken, turn}
 use Rattle.refinement.proofs.AskEvent.{event-moving}

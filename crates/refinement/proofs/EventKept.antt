@@ -32,7 +32,7 @@ module _ {past : List ℕ} (st u : State) (img : List ℕ) (b c : Reference) (ok
   z = st .sizes
 
   abbrev a : ℕ
-  a = storeAt u op m
+  a = storeAt u img op m
 
   one-view : E .view ≡ D .view
   one-view = sym (E .shows) ∙ D .shows

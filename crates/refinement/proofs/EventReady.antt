@@ -1,4 +1,5 @@
 -- The states of an event's transaction: each write and the commit is one that no row turns back, and each state is valid.
+use Rattle.state.specs.Wide.{someWide, isWide}
 use Prim.Native.Nat.{ℕ, zero, suc, _+_, _*_, _<_, _≤_}
 use mathlib.Core.Bool.{Bool, true, false, _&&_, _||_, not, cond}
 use mathlib.Core.List.{List}
@@ -56,6 +57,7 @@ pub record Ready (s : State) (k m f : ℕ) : Type 0 where
   pub lines : length (s .writers .held) ≡ 64
   pub opened : isOpen (s .writers .opened) 1 ≡ true
   pub none-prepared : somePrepared (s .writers .prepared) ≡ false
+  pub none-wide : someWide (s .wide .writer) ≡ false
   pub first-free : lineTaken (s .sizes) (s .writers .held) 1 (slotFor s 0) (firstMeter k m) ≡ false
   pub own-free : lineTaken (s .sizes) (s .writers .held) 1 (slotFor s 0) (ownMeter k m) ≡ false
   pub some-free : noneFree (s .sizes) (s .table .page) (s .next) (slotFor s 0) ≡ false
@@ -119,15 +121,19 @@ module _ (s : State) (k m f l : ℕ) (words : List ℕ) (R : Ready s k m f) (low
       sym (row-none (writeRows s 1 0 l 0 8 f)
       (rw (lt-leb (z .pages) 0 (omega (arith, legal .pages-low)), le-ltb 63 l (omega arith)), (rw (R .opened), (ne-eqb (s .writers .prepared) 1 (λ e. omega (arith, e, ltb-false (s .writers .prepared) 4 (R .none-prepared))), (free, (R .some-free, (R .frame-good, tt)))))))
 
+  -- writer 1 is no wide one
+  other : isWide (s .wide) 1 ≡ false
+  other = ne-eqb (s .wide .writer) 1 (λ e. omega (arith, e, ltb-false (s .wide .writer) 4 (R .none-wide)))
+
   pub asked-ok : stateOk asked ≡ true
   unfolding needs
-  asked-ok = lines-valid s words _ f (Write 1 0 l 0 8) (R .ok) write-row (omega arith)
+  asked-ok = lines-valid s words _ f (Write 1 0 l 0 8) (R .ok) (ap not other) write-row (omega arith)
 
   T : WriteTaken asked 1 0 l 0 8 f
   T = write-taken asked 1 0 l 0 8 f write-row
 
   done-ok : stateOk done ≡ true
-  done-ok = written-valid asked 1 0 l 0 8 asked-ok (R .full) T (R .lines)
+  done-ok = written-valid asked 1 0 l 0 8 asked-ok (R .full) T other (R .lines)
 
   apart : pagesApart z (writeTable asked 0 .page) ≡ true
   apart = good done done-ok .pages
@@ -194,6 +200,7 @@ module _ (s : State) (k m f l : ℕ) (words : List ℕ) (R : Ready s k m f) (low
               lines = length-set (s .writers .held) (16 * 1 + writeSlot asked 0) _ ∙ R .lines;
               opened = R .opened;
               none-prepared = R .none-prepared;
+              none-wide = R .none-wide;
               first-free = free-kept (firstMeter k m) (R .first-free);
               own-free = free-kept (ownMeter k m) (R .own-free);
               some-free = rw (lt-leb (z .slots) (slotFor done 0) slot-low);
@@ -265,7 +272,7 @@ module _ (st : State) (k m a : ℕ) (e : stateOk st ≡ true) (full : Sixteen (s
   begun-ok =
       let v = valid st e in
       valid-ok (withOpen st 1)
-      (record { legal = v .legal; positions = v .positions; slots = v .slots; held = opened-fine st 1 e (E .closed); next-low = v .next-low; lasts = v .lasts; prepared = λ l. absurd (omega (arith, l, ltb-false (st .writers .prepared) 4 (E .none-prepared))); pending = idle-ok (withOpen st 1) refl })
+      (record { legal = v .legal; positions = v .positions; slots = v .slots; held = opened-fine st 1 e (E .closed); next-low = v .next-low; lasts = v .lasts; prepared = λ l. absurd (omega (arith, l, ltb-false (st .writers .prepared) 4 (E .none-prepared))); entries = v .entries; wide = λ l. contradicts (lt-ltb (st .wide .writer) 4 l) (E .none-wide); pending = idle-ok (withOpen st 1) refl })
 
   -- a closed writer holds nothing
   pub nothing-held : (q : ℕ) → q < st .sizes .slots → heldAt (st .writers .held) 1 q ≡ 0
@@ -282,6 +289,7 @@ module _ (st : State) (k m a : ℕ) (e : stateOk st ≡ true) (full : Sixteen (s
         lines = lines;
         opened = getD-set-same (st .writers .opened) 1 true false (omega arith);
         none-prepared = E .none-prepared;
+        none-wide = E .none-wide;
         first-free = E .first-free;
         own-free = E .own-free;
         some-free = E .some-free;

@@ -26,7 +26,7 @@ rows-keep R false x y u v p q = q
 
 quiet-writes : {past : List ℕ} (st : State) (img : List ℕ) (b : Reference) (writes : ℕ → ℕ → ℕ → ℕ → Cell)
     → ((w p l i : ℕ) → w < 4 → p < st .sizes .pages → l < 64 → i < 64 → b .writes w p l i ≡ writes w p l i)
-    → Quiet past st img b → Quiet past st img (record { pages = b .pages; writes = writes; work = b .work })
+    → Quiet past st img b → Quiet past st img (record { pages = b .pages; writes = writes; work = b .work; wide = b .wide })
 quiet-writes st img b writes e q =
     let ws = q .writers in
     let D = q .durable in
@@ -34,7 +34,7 @@ quiet-writes st img b writes e q =
       valid = q .valid;
       pending = q .pending;
       durable =
-          record { bytes = D .bytes; past-kept = D .past-kept; view = D .view; shows = D .shows; mounts = D .mounts; sizes-same = D .sizes-same; head-same = D .head-same; tail-same = D .tail-same; behind = D .behind; committed = D .committed };
+          record { bytes = D .bytes; past-kept = D .past-kept; view = D .view; shows = D .shows; mounts = D .mounts; sizes-same = D .sizes-same; head-same = D .head-same; tail-same = D .tail-same; count-same = D .count-same; behind = D .behind; committed = D .committed };
       writers =
           record {
             four = ws .four;
@@ -47,6 +47,7 @@ quiet-writes st img b writes e q =
             ready = ws .ready;
           };
       work = q .work;
+      narrow = record { state = q .narrow .state; book = q .narrow .book };
     }
 
 -- ---- a line of writer 1 laid on a page
@@ -110,13 +111,13 @@ moved-quiet {past = past} st img b ms k m a nothing q =
     let P : ℕ = st .sizes .pages in
     let c : Reference = emptied 1 (laid 1 (withWork idle (linesReference ms k m a b))) in
     let d : Reference = moved ms k m a (withWork idle b) in
-    let r : Quiet past st img (record { pages = moved ms k m a b .pages; writes = c .writes; work = idle }) =
+    let r : Quiet past st img (record { pages = moved ms k m a b .pages; writes = c .writes; work = idle; wide = c .wide }) =
     quiet-pages st img c (moved ms k m a b .pages) (λ p l i lp ll li. pages-laid ms k m a b P nothing p l i lp ll li) q in
-    let s : Quiet past st img (record { pages = moved ms k m a b .pages; writes = moved ms k m a b .writes; work = idle }) =
-    quiet-writes st img (record { pages = moved ms k m a b .pages; writes = c .writes; work = idle }) (moved ms k m a b .writes) (λ v p l i lv lp ll li. writes-emptied ms k m a b P nothing v p l i lp ll li) r in
+    let s : Quiet past st img (record { pages = moved ms k m a b .pages; writes = moved ms k m a b .writes; work = idle; wide = c .wide }) =
+    quiet-writes st img (record { pages = moved ms k m a b .pages; writes = c .writes; work = idle; wide = c .wide }) (moved ms k m a b .writes) (λ v p l i lv lp ll li. writes-emptied ms k m a b P nothing v p l i lp ll li) r in
     subst (Quiet past st img) same s
   where
-    same : record { pages = moved ms k m a b .pages; writes = moved ms k m a b .writes; work = idle } ≡ moved ms k m a (withWork idle b)
+    same : record { pages = moved ms k m a b .pages; writes = moved ms k m a b .writes; work = idle; wide = c .wide } ≡ moved ms k m a (withWork idle b)
     same =
-        rows-keep (λ (x y : Reference). _≡_ {A = Reference} (record { pages = x .pages; writes = x .writes; work = idle }) y) (movesCredit k)
+        rows-keep (λ (x y : Reference). _≡_ {A = Reference} (record { pages = x .pages; writes = x .writes; work = idle; wide = x .wide }) y) (movesCredit k)
         _ (firstMoved ms k m a b) _ (firstMoved ms k m a (withWork idle b)) refl refl

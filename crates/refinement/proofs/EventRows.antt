@@ -31,13 +31,13 @@ module _ (st : State) (img ms : List ℕ) (k m a : ℕ) (e : refusal (eventCallR
   pub event-op-row : refusal (opRows st (Event k m a) (pageFrame st img 0)) ≡ 0
   event-op-row =
       let h = none-apply (eventCallRows st img ms k m a) (omega arith) e .1 .1 .1 in
-      sym (row-none (opRows st (Event k m a) (pageFrame st img 0)) (h .0, (h .1 .1 .0, (h .1 .1 .1 .0, (h .1 .1 .1 .1 .0, (h .1 .1 .1 .1 .1 .0, (h .1 .1 .1 .1 .1 .1 .0, (h .1 .1 .1 .1 .1 .1 .1 .1 .0, tt))))))))
+      sym (row-none (opRows st (Event k m a) (pageFrame st img 0)) (h .0, (h .1 .0, (h .1 .1 .1 .0, (h .1 .1 .1 .1 .0, (h .1 .1 .1 .1 .1 .0, (h .1 .1 .1 .1 .1 .1 .0, (h .1 .1 .1 .1 .1 .1 .1 .0, (h .1 .1 .1 .1 .1 .1 .1 .1 .1 .0, tt)))))))))
 
   pub event-amount : amountBad ms k m (meterIn st img (firstMeter k m)) a ≡ false
-  event-amount = none-apply (eventCallRows st img ms k m a) (omega arith) e .1 .1 .1 .1 .1 .1 .1 .1 .1 .1 .0
+  event-amount = none-apply (eventCallRows st img ms k m a) (omega arith) e .1 .1 .1 .1 .1 .1 .1 .1 .1 .1 .1 .0
 
   pub event-moduli : moduliOk ms ≡ true
-  event-moduli = not-false (moduliOk ms) (none-apply (eventCallRows st img ms k m a) (omega arith) e .1 .1 .1 .1 .0)
+  event-moduli = not-false (moduliOk ms) (none-apply (eventCallRows st img ms k m a) (omega arith) e .1 .1 .1 .1 .1 .0)
 
 -- its sizes
 pub line-sizes : (s : State) (l : ℕ) (words : List ℕ) (f : ℕ) → lineDone s l words f .sizes ≡ s .sizes

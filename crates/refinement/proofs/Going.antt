@@ -18,7 +18,7 @@ use Rattle.operations.specs.Operations.{Ranged, isIdle, opRows, needs, commitNe
 use Rattle.validity.specs.Validity.{stateOk}
 use Rattle.validity.proofs.Ranged.{slots-good, ranged}
 use Rattle.meters.specs.Meters.{eventNeeds}
-use Rattle.operations.proofs.Taken.{WriteTaken, write-taken, CommitTaken, commit-taken, ConfirmTaken, confirm-taken, ConsolidateTaken, consolidate-taken, EventTaken, event-taken}
+use Rattle.operations.proofs.Taken.{prepare-taken, WriteTaken, write-taken, CommitTaken, commit-taken, ConfirmTaken, confirm-taken, ConsolidateTaken, consolidate-taken, EventTaken, event-taken}
 use Rattle.refinement.specs.Frames.{pageSlot}
 use Rattle.refinement.specs.Commit.{commitSlots}
 use Rattle.refinement.specs.Consolidate.{copyStoreCount}
@@ -55,7 +55,7 @@ module _ (st : State) (taken : refusal (opRows st (st .pending .op) (st .pending
   commit-of {w} e = commit-taken st w (rw e at taken)
 
   pub prepare-of : {w : ℕ} → st .pending .op ≡ Prepare w → CommitTaken st w
-  prepare-of {w} e = commit-taken st w (rw e at taken)
+  prepare-of {w} e = prepare-taken st w (rw e at taken)
 
   pub confirm-of : {w : ℕ} → st .pending .op ≡ Confirm w → ConfirmTaken st w
   confirm-of {w} e = confirm-taken st w (rw e at taken)

@@ -1,27 +1,34 @@
 -- Every store of an operation that no row turns back goes to a word of the image.
 use Prim.Native.Nat.{ℕ, _+_, _-_, _*_, _/_, _%_, _<_, _≤_}
-use mathlib.Core.Bool.{Bool, true, false, not, _&&_}
+use mathlib.Core.Bool.{Bool, true, false, not, _&&_, _||_}
+use mathlib.Core.List.{List}
 use mathlib.Core.Path.{_≡_, refl, subst}
+use native.Mathlib.Nat.{mod-lt}
 use native.Mathlib.Omega.{arith}
-use lib.Dec.{ltb, eqb}
+use lib.Dec.{ltb, leb, eqb}
 use lib.ListN.{length, getD}
-use borrow.Author.Tests.{eqb-false, ltb-true, ltb-false}
+use borrow.Author.Tests.{eqb-false, ltb-true, ltb-false, leb-false}
 use Rattle.bounded.specs.Rows.{refusal}
 use Rattle.bounded.proofs.Tests.{caseOn, row-keeps, and-right}
 use Rattle.bounded.proofs.Those.{chosen, length-those}
 use Rattle.layout.specs.declared.Sizes.{Sizes}
-use Rattle.layout.specs.Layout.{Legal, frames, headWord, tailWord, pageWord, slotWord, recordWord, lineWord, imageWords, imageLength}
+use Rattle.layout.specs.Layout.{Legal, frames, headWord, tailWord, countWord, pageWord, slotWord, recordWord, lineWord, imageWords, imageLength}
 use Rattle.layout.proofs.LayoutLaws.{record-end, frame-start, line-end}
+use Rattle.words.specs.Words.{word}
+use Rattle.entries.specs.Entries.{keyOf, keyPage, keyLine}
+use Rattle.entries.proofs.EntryLaws.{entry-le}
 use Rattle.journal.specs.Records.{position}
 use Rattle.replay.specs.Table.{noPosition, slotIn}
 use Rattle.replay.proofs.Tables.{Sixteen}
 use Rattle.state.specs.declared.State.{State}
 use Rattle.state.specs.declared.Op.{Op}
-use Rattle.state.specs.declared.Op.the-variants.{Idle, Write, Commit, Consolidate, Checkpoint, Event, Prepare, Confirm}
+use Rattle.state.specs.declared.Op.the-variants.{Idle, Write, Commit, Consolidate, Checkpoint, Event, Prepare, Confirm, Log, Copy}
+use Rattle.state.specs.Wide.{entryFor, hasEntry}
 use Rattle.operations.specs.Operations.{isIdle, opRows, needs, recordedSlots}
 use Rattle.validity.specs.Validity.{stateOk}
-use Rattle.operations.proofs.Taken.{write-taken, consolidate-taken, EventTaken, event-taken}
-use Rattle.refinement.specs.Frames.{otherFrame, pageSlot}
+use Rattle.operations.proofs.Taken.{write-taken, consolidate-taken, log-taken, EventTaken, event-taken}
+use Rattle.refinement.specs.Frames.{otherFrame, pageSlot, frameOf}
+use Rattle.refinement.specs.Wide.{logAt, copiedFrame, copyAt, copyAtOf}
 use Rattle.refinement.specs.Stores.{storeAt}
 use Rattle.refinement.specs.Write.{writeSlot, writeAt}
 use Rattle.refinement.specs.Commit.{commitSlots, commitAt, commitAtOf}
@@ -154,21 +161,49 @@ module _ (st : State) (k m a : ℕ) (e : stateOk st ≡ true) (full : Sixteen (s
       (λ t. rw t (one t))
       (λ t. caseOn (movesCredit k && ltb i 16) (λ u. rw (t, u) (two t u)) (λ u. rw (t, u) three))
 
+-- a wide write's lie in an entry, a wide commit's in the header and in frames
+module _ (st : State) (e : stateOk st ≡ true) where
+  log-in : (p l o n i : ℕ) → refusal (opRows st (Log p l o n) (st .pending .frame)) ≡ 0 → i < 9 → logAt st p l i < imageWords (st .sizes)
+  log-in p l o n i r m =
+      let d = st .wide in
+      let x = entryFor d p l in
+      let room = log-taken st p l o n (st .pending .frame) r .room in
+      let low : x < st .sizes .entries =
+      caseOn (hasEntry d p l)
+      (λ t. omega (arith, ltb-true x (d .count) t, valid st e .entries .few))
+      (λ t.
+      let full : leb (st .sizes .entries) (d .count) ≡ false = rw t at room in
+      omega (arith, entry-le (d .keys) (d .count) (keyOf p l), leb-false (st .sizes .entries) (d .count) full)) in
+      omega arith
+
+  copy-in : (img : List ℕ) (i : ℕ) → copyAt st img i < imageWords (st .sizes)
+  unfolding copyAtOf
+  copy-in img i =
+      let z = st .sizes in
+      let v = valid st e in
+      let k = getD (st .wide .keys) ((i - 1) / 8) 0 in
+      let f = copiedFrame z (st .table) img k in
+      let low : f < frames z = mod-lt (frameOf (word img) z (st .table) (keyPage k) (keyLine k)) (omega (arith, v .legal .slots-low)) in
+      let inside : lineWord z f (keyLine k) + (i - 1) % 8 < imageWords z = line-in z (v .legal) f (keyLine k) ((i - 1) % 8) low (omega arith) (omega arith) in
+      row-keeps (λ (x : ℕ). x < imageWords z) (eqb i 0 || ltb (8 * st .wide .count) i) countWord (lineWord z f (keyLine k) + (i - 1) % 8) (header-in z (v .legal) countWord (omega arith)) inside
+
 module _ (st : State) (e : stateOk st ≡ true) where
   -- store i of an operation that needs more than i
-  pub op-in-range : Sixteen (st .table) → length (st .writers .held) ≡ 64 → length (st .writers .opened) ≡ 4 → (op : Op) → refusal (opRows st op (st .pending .frame)) ≡ 0 → (i : ℕ) → i < needs st op → storeAt st op i < imageWords (st .sizes)
+  pub op-in-range : Sixteen (st .table) → length (st .writers .held) ≡ 64 → length (st .writers .opened) ≡ 4 → (op : Op) → refusal (opRows st op (st .pending .frame)) ≡ 0 → (img : List ℕ) (i : ℕ) → i < needs st op → storeAt st img op i < imageWords (st .sizes)
   unfolding needs
-  op-in-range full lines four Idle r i l = absurd (omega arith)
-  op-in-range full lines four (Write w p l o n) r i m = write-in st e full w p l o n i r m
-  op-in-range full lines four (Commit w) r i l = commit-in st e w i
-  op-in-range full lines four (Consolidate p) r i l = consolidate-in st e full p i r
-  op-in-range full lines four Checkpoint r i l = checkpoint-in st e i
-  op-in-range full lines four (Event k m a) r i l = event-in st k m a e full lines four r i
-  op-in-range full lines four (Prepare w) r i l = commit-in st e w i
-  op-in-range full lines four (Confirm w) r i l = header-in (st .sizes) (valid st e .legal) headWord (omega arith)
+  op-in-range full lines four Idle r img i l = absurd (omega arith)
+  op-in-range full lines four (Write w p l o n) r img i m = write-in st e full w p l o n i r m
+  op-in-range full lines four (Commit w) r img i l = commit-in st e w i
+  op-in-range full lines four (Consolidate p) r img i l = consolidate-in st e full p i r
+  op-in-range full lines four Checkpoint r img i l = checkpoint-in st e i
+  op-in-range full lines four (Event k m a) r img i l = event-in st k m a e full lines four r i
+  op-in-range full lines four (Prepare w) r img i l = commit-in st e w i
+  op-in-range full lines four (Confirm w) r img i l = header-in (st .sizes) (valid st e .legal) headWord (omega arith)
+  op-in-range full lines four (Log p l o n) r img i m = log-in st e p l o n i r m
+  op-in-range full lines four Copy r img i l = copy-in st e img i
 
   -- store i of the pending operation: its eight bytes, on a word, lie inside the image
-  pub store-in-range : Sixteen (st .table) → length (st .writers .held) ≡ 64 → length (st .writers .opened) ≡ 4 → isIdle (st .pending .op) ≡ false → (i : ℕ) → i < needs st (st .pending .op) → 8 * storeAt st (st .pending .op) i + 8 ≤ imageLength (st .sizes)
-  store-in-range full lines four d i l =
-      let a : storeAt st (st .pending .op) i < imageWords (st .sizes) = op-in-range full lines four (st .pending .op) (pends st (st .pending .op) e refl d .taken) i l in
+  pub store-in-range : Sixteen (st .table) → length (st .writers .held) ≡ 64 → length (st .writers .opened) ≡ 4 → isIdle (st .pending .op) ≡ false → (img : List ℕ) (i : ℕ) → i < needs st (st .pending .op) → 8 * storeAt st img (st .pending .op) i + 8 ≤ imageLength (st .sizes)
+  store-in-range full lines four d img i l =
+      let a : storeAt st img (st .pending .op) i < imageWords (st .sizes) = op-in-range full lines four (st .pending .op) (pends st (st .pending .op) e refl d .taken) img i l in
       omega arith

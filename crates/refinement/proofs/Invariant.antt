@@ -1,9 +1,12 @@
 -- What holds of the store and the reference machine between two calls.
+use Rattle.state.specs.declared.Wide.{Wide}
+use borrow.Author.Tests.{ne-eqb}
+use native.Mathlib.Omega.{arith}
 use Prim.Native.Nat.{ℕ, _-_, _^_, _<_, _≤_}
 use mathlib.Core.Bool.{true, false}
 use mathlib.Core.List.{List}
 use mathlib.Core.Logic.{_⊎_}
-use mathlib.Core.Path.{_≡_}
+use mathlib.Core.Path.{_≡_, ap, _∙_}
 use lib.ListN.{length, drop}
 use Rattle.layout.specs.declared.Sizes.{Sizes}
 use Rattle.layout.specs.Layout.{imageLength, pageWord}
@@ -17,8 +20,9 @@ use Rattle.mount.proofs.Verdict.{Taken}
 use Rattle.replay.proofs.Tables.{Sixteen}
 use Rattle.state.specs.declared.State.{State}
 use Rattle.state.specs.declared.Op.{Op}
-use Rattle.state.specs.declared.Op.the-variants.{Idle, Write, Commit, Consolidate, Checkpoint, Event, Prepare, Confirm}
-use Rattle.state.specs.Held.{heldAt}
+use Rattle.state.specs.declared.Op.the-variants.{Idle, Write, Commit, Consolidate, Checkpoint, Event, Prepare, Confirm, Log, Copy}
+use Rattle.state.specs.Held.{noWriter, heldAt}
+use Rattle.state.specs.Wide.{noWide, isWide, someWide}
 use Rattle.operations.specs.Operations.{slotFor, needs}
 use Rattle.validity.specs.Validity.{stateOk}
 use Rattle.refinement.specs.Frames.{otherFrame, pageFrame}
@@ -53,6 +57,7 @@ pub record Durable (past : List ℕ) (st : State) (img : List ℕ) (b : Referenc
   pub sizes-same : view .sizes ≡ st .sizes
   pub head-same : view .head ≡ st .head
   pub tail-same : view .tail ≡ st .tail
+  pub count-same : view .count ≡ st .wide .count
   pub behind : Behind (word img) (st .sizes) (view .table) (st .table)
   pub committed : (p l : ℕ) → p < st .sizes .pages → l < 64 → lineBytes img (st .sizes) (frameOf (word img) (st .sizes) (st .table) p l) l ≡ recallLine b p l
 
@@ -67,6 +72,22 @@ pub record Writing (st : State) (img : List ℕ) (b : Reference) (written : ℕ 
   pub no-writes : (w p l i : ℕ) → w < 4 → p < st .sizes .pages → l < 64 → i < 64 → holds st w p l ≡ false → b .writes w p l i ≡ none
   pub ready : st .writers .prepared < 4 → Stored st img (st .writers .prepared)
 
+-- there is no wide transaction in the state, nor in the reference machine
+pub record Narrow (st : State) (b : Reference) : Type 0 where
+  pub state : st .wide ≡ noWide
+  pub book : b .wide ≡ noWriter
+
+-- so a mount counts no entry
+pub uncounted : {past : List ℕ} (st : State) (img : List ℕ) (b : Reference) (D : Durable past st img b) → Narrow st b → D .view .count ≡ 0
+uncounted st img b D n = D .count-same ∙ ap (λ (d : Wide). d .count) (n .state)
+
+-- and no writer is a wide one
+pub not-wide : (st : State) (b : Reference) (w : ℕ) → Narrow st b → w < 4 → isWide (st .wide) w ≡ false
+not-wide st b w n l = ap (λ (d : Wide). isWide d w) (n .state) ∙ ne-eqb noWriter w (λ e. omega arith)
+
+pub none-wide : (st : State) (b : Reference) → Narrow st b → someWide (st .wide .writer) ≡ false
+none-wide st b n = ap (λ (d : Wide). someWide (d .writer)) (n .state)
+
 -- nothing is pending
 abbrev pub Never : ℕ → ℕ → ℕ → Type 0
 Never w p l = ⊥
@@ -77,6 +98,7 @@ pub record Quiet (past : List ℕ) (st : State) (img : List ℕ) (b : Reference)
   pub durable : Durable past st img b
   pub writers : Writing st img b Never
   pub work : b .work ≡ idle
+  pub narrow : Narrow st b
 
 -- an operation other than an event is pending: what the reference machine has under way, and for a write the finished line, the page's frame and that the
 -- line was bytes before
@@ -96,6 +118,8 @@ Doing st img b Checkpoint = b .work ≡ under nothing (needs st Checkpoint - st 
 Doing st img b (Event k m a) = ⊥
 Doing st img b (Prepare w) = b .work ≡ under nothing (needs st (Prepare w) - st .pending .made)
 Doing st img b (Confirm w) = b .work ≡ under (committing w) (needs st (Confirm w) - st .pending .made)
+Doing st img b (Log p l o n) = ⊥
+Doing st img b Copy = ⊥
 
 -- the line that a pending write is changing
 abbrev pub Changing : Op → ℕ → ℕ → ℕ → Type 0
@@ -107,13 +131,16 @@ Changing Checkpoint v q m = ⊥
 Changing (Event k i a) v q m = ⊥
 Changing (Prepare w) v q m = ⊥
 Changing (Confirm w) v q m = ⊥
+Changing (Log p l o n) v q m = ⊥
+Changing Copy v q m = ⊥
 
 pub record Busy (past : List ℕ) (st : State) (img : List ℕ) (b : Reference) : Type 0 where
   pub valid : stateOk st ≡ true
   pub durable : Durable past st img b
   pub writers : Writing st img b (Changing (st .pending .op))
-  pub landed : (j : ℕ) → j < st .pending .made → word img (storeAt st (st .pending .op) j) ≡ storeValue st img (st .pending .op) j
+  pub landed : (j : ℕ) → j < st .pending .made → word img (storeAt st img (st .pending .op) j) ≡ storeValue st img (st .pending .op) j
   pub doing : Doing st img b (st .pending .op)
+  pub narrow : Narrow st b
 
 -- between two calls
 abbrev pub Related : List ℕ → World → Reference → Type 0

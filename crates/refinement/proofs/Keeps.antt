@@ -12,7 +12,7 @@ use Rattle.refinement.proofs.Invariant.{Durable, Quiet}
 
 -- the state with another next slot, other writers and another pending operation
 abbrev pub sameSlots : State → ℕ → Writers → Pending → State
-sameSlots st next ws q = record { sizes = st .sizes; head = st .head; tail = st .tail; next = next; table = st .table; writers = ws; pending = q }
+sameSlots st next ws q = record { sizes = st .sizes; head = st .head; tail = st .tail; next = next; table = st .table; writers = ws; wide = st .wide; pending = q }
 
 pub durable-kept : {past : List ℕ} (st : State) (img : List ℕ) (b b′ : Reference) (next : ℕ) (ws : Writers) (q : Pending) → ((p l : ℕ) → p < st .sizes .pages → l < 64 → recallLine b p l ≡ recallLine b′ p l)
     → Durable past st img b → Durable past (sameSlots st next ws q) img b′
@@ -26,6 +26,7 @@ durable-kept st img b b′ next ws q e d =
       sizes-same = d .sizes-same;
       head-same = d .head-same;
       tail-same = d .tail-same;
+      count-same = d .count-same;
       behind = d .behind;
       committed = λ p l h k. d .committed p l h k ∙ e p l h k;
     }
@@ -33,7 +34,7 @@ durable-kept st img b b′ next ws q e d =
 -- the reference machine's pages told otherwise, the same where there are lines
 pub quiet-pages : {past : List ℕ} (st : State) (img : List ℕ) (b : Reference) (pages : ℕ → ℕ → ℕ → ℕ)
     → ((p l i : ℕ) → p < st .sizes .pages → l < 64 → i < 64 → b .pages p l i ≡ pages p l i)
-    → Quiet past st img b → Quiet past st img (record { pages = pages; writes = b .writes; work = b .work })
+    → Quiet past st img b → Quiet past st img (record { pages = pages; writes = b .writes; work = b .work; wide = b .wide })
 quiet-pages st img b pages e q =
     let ws = q .writers in
     record {
@@ -52,4 +53,5 @@ quiet-pages st img b pages e q =
             ready = ws .ready;
           };
       work = q .work;
+      narrow = record { state = q .narrow .state; book = q .narrow .book };
     }

@@ -13,6 +13,7 @@ pub mod Records
 pub mod Closed
 pub mod WriteValid
 pub mod CommitValid
+pub mod WideValid
 pub mod ConsolidateValid
 pub mod CheckpointValid
 pub mod InRange
@@ -36,6 +37,7 @@ pub mod Valid
 pub mod PagesApart
 pub mod Names
 pub mod Copies
+pub mod CopyPlaces
 pub mod Sound
 pub mod Keeps
 pub mod Begin
@@ -57,6 +59,7 @@ pub mod AskConsolidate
 pub mod AskFree
 pub mod Stepping
 pub mod StepLast
+pub mod Copying
 pub mod HeaderStore
 pub mod WriteHeld
 pub mod WriteTable

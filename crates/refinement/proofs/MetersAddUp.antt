@@ -25,7 +25,7 @@ use Rattle.operations.proofs.Taken.{event-taken}
 use Rattle.refinement.specs.Frames.{pageFrame}
 use Rattle.refinement.specs.Stores.{World}
 use Rattle.refinement.specs.Calls.{commitCallRows, commitOf, prepareOf, confirmCallRows, confirmOf, withdrawOf, consolidateCallRows, consolidateOf, freeCallRows, freeOf, checkpointCallRows, checkpointOf, writeCallRows, writeOf, eventCallRows, eventOf, loadRows, loadOf}
-use Rattle.refinement.specs.Run.{Call, Result, mount, checkpoint, free, step, begin, abort, commit, prepare, confirm, withdraw, consolidate, run, write, read, recall, event, load, exec, formattedWorld, after}
+use Rattle.refinement.specs.Run.{Call, Result, mount, checkpoint, free, step, begin, beginWide, abort, commit, prepare, confirm, withdraw, consolidate, run, write, read, recall, event, load, exec, formattedWorld, after}
 use Rattle.refinement.specs.Reference.{Reference, Cell, none, laidOver, Task, Work, idle, under, writing, committing, moving, nothing, blank, withWork, emptied, written, laid, meterOn, firstMoved, moved, does, starts, continues, advances, taken, turn}
 use Rattle.refinement.specs.Statement.{AllLent}
 use Rattle.refinement.specs.Beside.{follows}
@@ -147,6 +147,7 @@ none-completed checkpoint n b = refl
 none-completed free n b = refl
 none-completed step n b = refl
 none-completed (begin w) n b = refl
+none-completed (beginWide w) n b = refl
 none-completed (abort w) n b = refl
 none-completed (commit w) n b = refl
 none-completed (prepare w) n b = refl
@@ -168,6 +169,7 @@ none-loaded checkpoint n = refl
 none-loaded free n = refl
 none-loaded step n = refl
 none-loaded (begin w) n = refl
+none-loaded (beginWide w) n = refl
 none-loaded (abort w) n = refl
 none-loaded (commit w) n = refl
 none-loaded (prepare w) n = refl

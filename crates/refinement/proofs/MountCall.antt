@@ -1,7 +1,9 @@
 -- Mount is taken at every time, also while an operation is pending: it finds the durable part, whose committed copies are the reference
 -- machine's pages.
+use Rattle.state.specs.Held.{noWriter}
+use borrow.Author.Tests.{eq-eqb}
 use Prim.Native.Nat.{ℕ, _<_}
-use mathlib.Core.Bool.{true}
+use mathlib.Core.Bool.{true, Bool, cond}
 use mathlib.Core.List.{List}
 use mathlib.Core.Logic.{inl}
 use mathlib.Core.Path.{_≡_, refl, sym, ap, _∙_, subst}
@@ -17,7 +19,7 @@ use Rattle.state.specs.declared.State.{State}
 use Rattle.validity.specs.Validity.{stateOk}
 use Rattle.refinement.specs.Stores.{World}
 use Rattle.refinement.specs.Outcome.{answered}
-use Rattle.refinement.specs.Mount.{noState, mountedState, mountCall}
+use Rattle.refinement.specs.Mount.{noState, mountedState, mountCall, copyingState}
 use Rattle.refinement.specs.Recall.{frameOf}
 use Rattle.refinement.specs.Run.{Result, mount, exec, replaces}
 use Rattle.refinement.specs.Reference.{Reference, none, idle, turn, recallLine}
@@ -43,20 +45,22 @@ unfolding exec mountCall
 mount-result v m e = ap (λ (x : Mounted). replaces (answered (x .row) noState 0 (mountedState x)) v) e
 
 -- it is taken, and the state is what the image shows
-pub mount-found : {past : List ℕ} (v : World) (b : Reference) (D : Durable past (v .st) (v .image) b)
+pub mount-found : {past : List ℕ} (v : World) (b : Reference) (D : Durable past (v .st) (v .image) b) → D .view .count ≡ 0
     → exec mount v ≡ replaces (answered 0 noState 0 (stateOf (D .view))) v
-mount-found v b D =
+mount-found v b D empty =
     mount-result v (foundIn (D .view)) (taken-mount (v .image) (D .view) (D .shows) (D .mounts))
+    ∙ ap (λ (x : Bool). replaces (answered 0 noState 0 (cond x (stateOf (D .view)) (copyingState (D .view .sizes) (D .view .head) (D .view .tail) (D .view .table) (D .view .count) (D .view .keys)))) v)
+    (eq-eqb (D .view .count) 0 empty)
 
-pub mount-sound : {past : List ℕ} (v : World) (b : Reference) → stateOk (v .st) ≡ true → Durable past (v .st) (v .image) b → Sound past mount v b
-mount-sound {past = past} v b ok D =
+pub mount-sound : {past : List ℕ} (v : World) (b : Reference) → stateOk (v .st) ≡ true → (D : Durable past (v .st) (v .image) b) → D .view .count ≡ 0 → Sound past mount v b
+mount-sound {past = past} v b ok D uncounted =
     let st = v .st in
     let img = v .image in
-    let e = mount-found v b D in
-    let fresh : Reference = record { pages = b .pages; writes = λ w p l i. none; work = idle } in
+    let e = mount-found v b D uncounted in
+    let fresh : Reference = record { pages = b .pages; writes = λ w p l i. none; work = idle; wide = noWriter } in
     let q =
     mounted-quiet img (D .view) fresh (D .bytes) (subst (λ (z : Sizes). drop (imageLength z) img ≡ past) (sym (D .sizes-same)) (D .past-kept)) (D .shows) (D .mounts)
-    (mounted-committed st img b ok D) (λ w p l i. refl) refl in
+    (mounted-committed st img b ok D) (λ w p l i. refl) refl uncounted refl in
     record {
       right = ap (λ (d : Result). d .number) e;
       sizes = ap (λ (d : Result). d .world .st .sizes) e ∙ D .sizes-same;

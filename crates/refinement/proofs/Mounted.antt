@@ -16,7 +16,7 @@ use Rattle.mount.proofs.View.{View, Shows}
 use Rattle.masks.specs.Lines.{inMask}
 use Rattle.masks.proofs.Members.{in-none}
 use Rattle.state.specs.declared.State.{State}
-use Rattle.state.specs.Held.{heldAt}
+use Rattle.state.specs.Held.{heldAt, noWriter}
 use Rattle.operations.specs.Operations.{slotFor, slotted}
 use Rattle.refinement.specs.Mount.{allClosed, quietState}
 use Rattle.refinement.specs.Recall.{frameOf}
@@ -42,8 +42,8 @@ none-holds v w p l =
     ∙ and-false (slotted (stateOf v) p)
 
 pub mounted-quiet : {past : List ℕ} (img : List ℕ) (v : View) (b : Reference) → Bytes img → drop (imageLength (v .sizes)) img ≡ past → Shows img v → Taken (length img) v
-    → Committed img v b → ((w p l i : ℕ) → b .writes w p l i ≡ none) → b .work ≡ idle → Quiet past (stateOf v) img b
-mounted-quiet img v b bytes past shows taken committed none-written work =
+    → Committed img v b → ((w p l i : ℕ) → b .writes w p l i ≡ none) → b .work ≡ idle → v .count ≡ 0 → b .wide ≡ noWriter → Quiet past (stateOf v) img b
+mounted-quiet img v b bytes past shows taken committed none-written work uncounted narrow =
     record {
       valid = mount-valid img v shows taken;
       pending = refl;
@@ -57,6 +57,7 @@ mounted-quiet img v b bytes past shows taken committed none-written work =
             sizes-same = refl;
             head-same = refl;
             tail-same = refl;
+            count-same = uncounted;
             behind = record { sixteen = view-sixteen img v shows; last-same = λ s l. refl; slot-same = λ s l. inl refl };
             committed = committed;
           };
@@ -70,4 +71,5 @@ mounted-quiet img v b bytes past shows taken committed none-written work =
             ready = λ l. absurd (omega arith);
           };
       work = work;
+      narrow = record { state = refl; book = narrow };
     }

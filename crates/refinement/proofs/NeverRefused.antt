@@ -17,7 +17,7 @@ use Rattle.operations.proofs.Taken.{args-good}
 use Rattle.refinement.specs.Frames.{pageFrame}
 use Rattle.refinement.specs.Stores.{World}
 use Rattle.refinement.specs.Calls.{beginRows, beginOf, abortRows, abortOf, writeCallRows, writeOf, commitCallRows, commitOf, prepareOf, confirmCallRows, confirmOf, withdrawOf, consolidateCallRows, consolidateOf, freeCallRows, freeOf, checkpointCallRows, checkpointOf, readRows, readRow, stepRows, stepOf, runOf, eventCallRows, eventOf, loadRows, loadOf}
-use Rattle.refinement.specs.Run.{Call, mount, checkpoint, free, step, begin, abort, commit, prepare, confirm, withdraw, consolidate, run, write, read, recall, exec, event, load}
+use Rattle.refinement.specs.Run.{Call, mount, checkpoint, free, step, begin, beginWide, abort, commit, prepare, confirm, withdraw, consolidate, run, write, read, recall, exec, event, load}
 use Rattle.refinement.specs.Beside.{broken, NeverRefused}
 use Rattle.refinement.specs.Reference.{Reference}
 use Rattle.refinement.proofs.Copies.{durable-fits, names-once}

@@ -9,9 +9,9 @@ use Rattle.bounded.specs.Rows.{refusal}
 use Rattle.bounded.proofs.Tests.{and-left, and-right}
 use Rattle.state.specs.declared.State.{State}
 use Rattle.state.specs.declared.Op.{Op}
-use Rattle.state.specs.declared.Op.the-variants.{Idle, Write, Commit, Consolidate, Checkpoint, Event, Prepare, Confirm}
+use Rattle.state.specs.declared.Op.the-variants.{Idle, Write, Commit, Consolidate, Checkpoint, Event, Prepare, Confirm, Log, Copy}
 use Rattle.operations.specs.Operations.{isIdle, opRows, needs}
-use Rattle.validity.specs.Validity.{pendingOk, stateOk}
+use Rattle.validity.specs.Validity.{opFits, pendingOk, stateOk}
 use Rattle.refinement.specs.Stores.{withMade}
 use Rattle.refinement.proofs.StateValid.{valid, valid-ok}
 
@@ -22,16 +22,17 @@ idle-ok st e = rw e
 
 -- an operation is
 pub record Pends (st : State) (op : Op) : Type 0 where
+  pub fits : opFits (st .wide .writer) op ≡ true
   pub made-low : st .pending .made < needs st op
   pub taken : refusal (opRows st op (st .pending .frame)) ≡ 0
 
 pub pends-ok : (st : State) (op : Op) → st .pending .op ≡ op → Pends st op → pendingOk st ≡ true
 unfolding pendingOk
 pends-ok st op e h =
-    let busy : ltb (st .pending .made) (needs st op) && eqb (refusal (opRows st op (st .pending .frame))) 0 ≡ true =
-    rw (lt-ltb (st .pending .made) (needs st op) (h .made-low)) (eq-eqb (refusal (opRows st op (st .pending .frame))) 0 (h .taken)) in
-    or-second (isIdle (st .pending .op)) (ltb (st .pending .made) (needs st (st .pending .op)) && eqb (refusal (opRows st (st .pending .op) (st .pending .frame))) 0)
-    (ap (λ (o : Op). ltb (st .pending .made) (needs st o) && eqb (refusal (opRows st o (st .pending .frame))) 0) e ∙ busy)
+    let busy : Op → Bool = λ o. opFits (st .wide .writer) o && (ltb (st .pending .made) (needs st o) && eqb (refusal (opRows st o (st .pending .frame))) 0) in
+    let is : busy op ≡ true =
+    rw (h .fits, lt-ltb (st .pending .made) (needs st op) (h .made-low)) (eq-eqb (refusal (opRows st op (st .pending .frame))) 0 (h .taken)) in
+    or-second (isIdle (st .pending .op)) (busy (st .pending .op)) (ap busy e ∙ is)
   where
     or-second : (a b : Bool) → b ≡ true → a || b ≡ true
     or-second true b e = refl
@@ -42,10 +43,13 @@ unfolding pendingOk
 pends st op v e i =
     let a = ltb (st .pending .made) (needs st op) in
     let b = eqb (refusal (opRows st op (st .pending .frame))) 0 in
-    let h : isIdle op || (a && b) ≡ true =
-    ap (λ (o : Op). isIdle o || (ltb (st .pending .made) (needs st o) && eqb (refusal (opRows st o (st .pending .frame))) 0)) (sym e) ∙ valid st v .pending in
-    let k : a && b ≡ true = ap (λ (x : Bool). x || (a && b)) (sym i) ∙ h in
+    let c = opFits (st .wide .writer) op in
+    let h : isIdle op || (c && (a && b)) ≡ true =
+    ap (λ (o : Op). isIdle o || (opFits (st .wide .writer) o && (ltb (st .pending .made) (needs st o) && eqb (refusal (opRows st o (st .pending .frame))) 0))) (sym e) ∙ valid st v .pending in
+    let f : c && (a && b) ≡ true = ap (λ (x : Bool). x || (c && (a && b))) (sym i) ∙ h in
+    let k : a && b ≡ true = and-right c (a && b) f in
     record {
+      fits = and-left c (a && b) f;
       made-low = ltb-true (st .pending .made) (needs st op) (and-left a b k);
       taken = eqb-true (refusal (opRows st op (st .pending .frame))) 0 (and-right a b k);
     }
@@ -61,6 +65,8 @@ needs-made st m Checkpoint = refl
 needs-made st m (Event k i a) = refl
 needs-made st m (Prepare w) = refl
 needs-made st m (Confirm w) = refl
+needs-made st m (Log p l o n) = refl
+needs-made st m Copy = refl
 
 -- nor do its rows
 pub rows-made : (st : State) (m : ℕ) (op : Op) (f : ℕ) → refusal (opRows (withMade st m) op f) ≡ refusal (opRows st op f)
@@ -72,6 +78,8 @@ rows-made st m Checkpoint f = refl
 rows-made st m (Event k i a) f = refl
 rows-made st m (Prepare w) f = refl
 rows-made st m (Confirm w) f = refl
+rows-made st m (Log p l o n) f = refl
+rows-made st m Copy f = refl
 
 pub made-valid : (st : State) (m : ℕ) → stateOk st ≡ true → isIdle (st .pending .op) ≡ false → m < needs st (st .pending .op) → stateOk (withMade st m) ≡ true
 made-valid st m e i l =
@@ -87,7 +95,9 @@ made-valid st m e i l =
       next-low = v .next-low;
       lasts = v .lasts;
       prepared = v .prepared;
+      entries = v .entries;
+      wide = v .wide;
       pending =
           pends-ok (withMade st m) op refl
-          (record { made-low = rw (needs-made st m op) l; taken = rows-made st m op (st .pending .frame) ∙ h .taken });
+          (record { fits = h .fits; made-low = rw (needs-made st m op) l; taken = rows-made st m op (st .pending .frame) ∙ h .taken });
     })

@@ -11,7 +11,7 @@ use Rattle.refinement.specs.Outcome.{answered}
 use Rattle.refinement.specs.Calls.{beginOf, abortOf, writeOf, commitOf, prepareOf, confirmOf, withdrawOf, consolidateOf, freeOf, checkpointOf, eventOf, loadOf, readBytes, stepOf, stepBytes, runOf, runBytes}
 use Rattle.refinement.specs.Mount.{mountCall}
 use Rattle.refinement.specs.Recall.{recallBytes}
-use Rattle.refinement.specs.Run.{Call, result, mount, checkpoint, free, step, begin, abort, commit, prepare, confirm, withdraw, consolidate, run, write, read, recall, event, load, exec}
+use Rattle.refinement.specs.Run.{Call, result, mount, checkpoint, free, step, begin, beginWide, abort, commit, prepare, confirm, withdraw, consolidate, run, write, read, recall, event, load, exec}
 use Rattle.refinement.specs.Refused.{Unchanged, RefusedUnchanged}
 
 -- either of two, by a number that is not 0
@@ -29,6 +29,7 @@ plain row n after img v h e = record { world = world v _ _ (kept row after (v .s
 pub refused-unchanged : RefusedUnchanged
 unfolding exec beginOf abortOf writeOf commitOf prepareOf confirmOf withdrawOf consolidateOf freeOf checkpointOf eventOf loadOf readBytes stepOf stepBytes runOf runBytes mountCall recallBytes
 refused-unchanged (begin w) v h = plain _ _ _ _ v h refl
+refused-unchanged (beginWide w) v h = plain _ _ _ _ v h refl
 refused-unchanged (abort w) v h = plain _ _ _ _ v h refl
 refused-unchanged (commit w) v h = plain _ _ _ _ v h refl
 refused-unchanged (prepare w) v h = plain _ _ _ _ v h refl

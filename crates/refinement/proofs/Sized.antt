@@ -25,7 +25,7 @@ use Rattle.masks.proofs.Members.{with-lt, exclusive-or-lt}
 use Rattle.state.specs.declared.State.{State}
 use Rattle.state.specs.declared.Writers.{Writers}
 use Rattle.state.specs.declared.Op.{Op}
-use Rattle.state.specs.declared.Op.the-variants.{Idle, Write, Commit, Consolidate, Checkpoint, Event, Prepare, Confirm}
+use Rattle.state.specs.declared.Op.the-variants.{Idle, Write, Commit, Consolidate, Checkpoint, Event, Prepare, Confirm, Log, Copy}
 use Rattle.state.specs.Held.{heldAt}
 use Rattle.operations.specs.Operations.{slotted, opRows}
 use Rattle.meters.specs.Meters.{eventKnown, movesCredit, firstMeter, ownMeter}
@@ -154,6 +154,8 @@ module _ (st : State) (h : Sized st) where
   completed-sized (Commit w) r = committed-sized st h w
   completed-sized (Prepare w) r = record { table = h .table; writers = record { four = h .writers .four; sixty-four = h .writers .sixty-four; held-low = h .writers .held-low } }
   completed-sized (Confirm w) r = committed-sized st h w
+  completed-sized (Log p l o n) r = record { table = h .table; writers = h .writers }
+  completed-sized Copy r = record { table = h .table; writers = closed-sized (st .sizes) (st .writers) (st .wide .writer) (h .writers) }
   completed-sized (Event k m a) r = event-sized st k m h (event-taken st k m a (st .pending .frame) r .known)
   completed-sized (Consolidate p) r =
       record {

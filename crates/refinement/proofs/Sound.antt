@@ -8,7 +8,7 @@ use lib.Dec.{eqb, eqb·suc-zero}
 use Rattle.bounded.proofs.Tests.{contradicts}
 use Rattle.state.specs.declared.State.{State}
 use Rattle.state.specs.declared.Op.{Op}
-use Rattle.state.specs.declared.Op.the-variants.{Idle, Write, Commit, Consolidate, Checkpoint, Event, Prepare, Confirm}
+use Rattle.state.specs.declared.Op.the-variants.{Idle, Write, Commit, Consolidate, Checkpoint, Event, Prepare, Confirm, Log, Copy}
 use Rattle.state.specs.declared.Pending.{Pending}
 use Rattle.operations.specs.Operations.{isIdle}
 use Rattle.validity.specs.Validity.{stateOk}
@@ -61,6 +61,8 @@ doing-pending st img b Checkpoint d = refl
 doing-pending st img b (Event k m a) d = absurd d
 doing-pending st img b (Prepare w) d = refl
 doing-pending st img b (Confirm w) d = refl
+doing-pending st img b (Log p l o n) d = absurd d
+doing-pending st img b Copy d = absurd d
 
 module _ {past : List ℕ} (st : State) (img : List ℕ) (b : Reference) where
   pub quiet-idle : Quiet past st img b → isIdle (st .pending .op) ≡ true

@@ -51,7 +51,7 @@ module _ (z : Sizes) (ok : sizesOk z ≡ true) (buffer : List ℕ) (bytes : Byte
   fresh-quiet =
       let g : Legal z = legal z ok in
       mounted-quiet (formatted z buffer) (freshView z) blank (bytes-formatted z g buffer fits bytes) (drop-formatted z g buffer fits (imageLength z) (omega arith)) (fresh-shows z g buffer fits)
-      (fresh-taken z g (length (formatted z buffer)) long) fresh-committed (λ w p l i. refl) refl
+      (fresh-taken z g (length (formatted z buffer)) long) fresh-committed (λ w p l i. refl) refl refl refl
 
   -- the format is taken
   pub format-world : formattedWorld z buffer ≡ worldOf (freshState z) (formatted z buffer)

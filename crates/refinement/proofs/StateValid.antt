@@ -1,16 +1,16 @@
 -- Row 8 as facts: what a valid state keeps of its slots, its writers and its last positions, from the test and back.
 use Prim.Native.Nat.{ℕ, _+_, _*_, _<_, _≤_}
-use mathlib.Core.Bool.{Bool, true, _&&_, _||_, not, or-true}
+use mathlib.Core.Bool.{Bool, true, false, _&&_, _||_, not, or-true}
 use mathlib.Core.List.{List, [], _∷_}
 use mathlib.Core.Logic.{⊎-elim}
-use mathlib.Core.Path.{_≡_, sym, ap, _∙_}
+use mathlib.Core.Path.{_≡_, refl, sym, ap, _∙_}
 use native.Mathlib.Omega.{arith}
 use lib.Dec.{ltb, eqb}
 use lib.ListN.{length, getD}
-use borrow.Author.Tests.{eqb-true, eqb-false, ne-eqb, ltb-true, ltb-false, lt-ltb, le-ltb, not-true}
+use borrow.Author.Tests.{eqb-true, eqb-false, eq-eqb, ne-eqb, ltb-true, ltb-false, lt-ltb, le-ltb, not-true}
 use Rattle.bounded.specs.Below.{allBelow}
 use Rattle.bounded.proofs.Below.{all-at, all-made}
-use Rattle.bounded.proofs.Tests.{caseOn, and-left, and-right, every-held, held-every}
+use Rattle.bounded.proofs.Tests.{caseOn, contradicts, and-left, and-right, every-held, held-every}
 use Rattle.layout.specs.declared.Sizes.{Sizes}
 use Rattle.layout.specs.Layout.{Legal, frames}
 use Rattle.layout.proofs.LayoutLaws.{legal, legal-ok}
@@ -24,8 +24,12 @@ use Rattle.journal.proofs.SlotWords.{Owning, Free, shape, or-cases}
 use Rattle.masks.specs.Lines.{disjoint}
 use Rattle.masks.proofs.Disjoint.{disjoint-sym, none-disjoint}
 use Rattle.state.specs.declared.State.{State}
+use Rattle.state.specs.declared.Wide.{Wide}
 use Rattle.state.specs.Slots.{freeAt, slotsApart, framesApart}
-use Rattle.state.specs.Held.{isOpen, heldAt, heldSlots, holderOk, heldOk}
+use Rattle.state.specs.Held.{isOpen, heldAt, heldSlots, someHold, holderOk, heldOk}
+use Rattle.state.specs.Wide.{someWide, isWide, aloneOpen, noneHeld, wideOk}
+use Rattle.entries.specs.Entries.{entriesOk}
+use Rattle.entries.proofs.EntryLaws.{Right, entries-right, right-entries}
 use Rattle.operations.specs.Operations.{journalFullOf}
 use Rattle.validity.specs.Validity.{slotsOk, isLive, lastOk, lastsOk, preparedOk, pendingOk, stateOk}
 use Rattle.validity.proofs.Ranged.{slots-good}
@@ -299,6 +303,62 @@ module _ (z : Sizes) (head tail : ℕ) (opened : List Bool) (held : List ℕ) (w
       rw (t, p .opens, le-ltb (z .places) (liveCount z head tail + length (heldSlots z held w)) (p .fits)))
       (λ t. rw t)
 
+-- ---- a wide transaction
+
+-- writer w is open, alone, not prepared, and no line is held
+pub record WideFine (z : Sizes) (opened : List Bool) (held : List ℕ) (prepared w : ℕ) : Type 0 where
+  pub opens : isOpen opened w ≡ true
+  pub closed : (v : ℕ) → v < 4 → (v ≡ w → ⊥) → isOpen opened v ≡ false
+  pub unprepared : prepared ≡ w → ⊥
+  pub unheld : (s : ℕ) → s < z .slots → someHold held s ≡ false
+
+module _ (z : Sizes) (opened : List Bool) (held : List ℕ) (prepared : ℕ) (d : Wide) where
+  -- the test of writer v
+  abbrev alone : ℕ → Bool
+  alone v = (isOpen opened v && eqb v (d .writer)) || (not (isOpen opened v) && not (eqb v (d .writer)))
+
+  abbrev beside : Bool
+  beside = aloneOpen opened (d .writer) && (not (eqb prepared (d .writer)) && noneHeld z held)
+
+  wide-right : wideOk z opened held prepared d ≡ true → Right z (d .keys) (d .count)
+  unfolding wideOk
+  wide-right e = entries-right z (d .keys) (d .count) (and-left (entriesOk z (d .keys) (d .count)) (not (someWide (d .writer)) || beside) e)
+
+  wide-fine : wideOk z opened held prepared d ≡ true → d .writer < 4 → WideFine z opened held prepared (d .writer)
+  unfolding wideOk
+  wide-fine e l =
+      let w = d .writer in
+      let h : beside ≡ true = rw (lt-ltb w 4 l) at (and-right (entriesOk z (d .keys) (d .count)) (not (someWide w) || beside) e) in
+      let a : aloneOpen opened w ≡ true = and-left (aloneOpen opened w) (not (eqb prepared w) && noneHeld z held) h in
+      let r : not (eqb prepared w) && noneHeld z held ≡ true = and-right (aloneOpen opened w) (not (eqb prepared w) && noneHeld z held) h in
+      record {
+        opens = caseOn (isOpen opened w) (λ t. t) (λ t. contradicts (rw (t, eq-eqb w w refl) at (all-at alone 4 w l a)) refl);
+        closed =
+            λ v m n.
+            caseOn (isOpen opened v)
+            (λ t. contradicts (rw (t, ne-eqb v w n) at (all-at alone 4 v m a)) refl)
+            (λ t. t);
+        unprepared = differ prepared w (and-left (not (eqb prepared w)) (noneHeld z held) r);
+        unheld = λ s m. not-true (someHold held s) (all-at (λ s. not (someHold held s)) (z .slots) s m (and-right (not (eqb prepared w)) (noneHeld z held) r));
+      }
+
+  wide-ok : Right z (d .keys) (d .count) → (d .writer < 4 → WideFine z opened held prepared (d .writer)) → wideOk z opened held prepared d ≡ true
+  unfolding wideOk
+  wide-ok r h =
+      let w = d .writer in
+      caseOn (ltb w 4)
+      (λ t.
+      let f = h (ltb-true w 4 t) in
+      let a : aloneOpen opened w ≡ true =
+      all-made alone 4
+      (λ v m.
+      caseOn (eqb v w)
+      (λ q. rw (q, ap (isOpen opened) (eqb-true v w q) ∙ f .opens))
+      (λ q. rw (q, f .closed v m (eqb-false v w q)))) in
+      rw (right-entries z (d .keys) (d .count) r, t, a, ne-eqb prepared w (f .unprepared))
+      (all-made (λ s. not (someHold held s)) (z .slots) (λ s m. ap not (f .unheld s m))))
+      (λ t. rw (right-entries z (d .keys) (d .count) r, t))
+
 -- ---- the state
 
 pub record Valid (st : State) : Type 0 where
@@ -309,7 +369,13 @@ pub record Valid (st : State) : Type 0 where
   pub next-low : st .next < st .sizes .slots
   pub lasts : LastsFine (st .sizes) (st .head) (st .tail) (lastAt (st .table))
   pub prepared : st .writers .prepared < 4 → PreparedFine (st .sizes) (st .head) (st .tail) (st .writers .opened) (st .writers .held) (st .writers .prepared)
+  pub entries : Right (st .sizes) (st .wide .keys) (st .wide .count)
+  pub wide : st .wide .writer < 4 → WideFine (st .sizes) (st .writers .opened) (st .writers .held) (st .writers .prepared) (st .wide .writer)
   pub pending : pendingOk st ≡ true
+
+-- beside an open writer who is not the wide one there is none
+pub narrow : (st : State) (w : ℕ) → Valid st → w < 4 → isOpen (st .writers .opened) w ≡ true → isWide (st .wide) w ≡ false → st .wide .writer < 4 → ⊥
+narrow st w v low o n l = contradicts o (v .wide l .closed w low (λ e. eqb-false (st .wide .writer) w n (sym e)))
 
 -- the parts of row 8
 pub record Parts (st : State) : Type 0 where
@@ -318,6 +384,7 @@ pub record Parts (st : State) : Type 0 where
   pub next : ltb (st .next) (st .sizes .slots) ≡ true
   pub lasts : lastsOk (st .sizes) (st .head) (st .tail) (st .table .last) ≡ true
   pub prepared : preparedOk (st .sizes) (st .head) (st .tail) (st .writers .opened) (st .writers .held) (st .writers .prepared) ≡ true
+  pub wide : wideOk (st .sizes) (st .writers .opened) (st .writers .held) (st .writers .prepared) (st .wide) ≡ true
   pub pending : pendingOk st ≡ true
 
 pub parts : (st : State) → stateOk st ≡ true → Parts st
@@ -328,17 +395,20 @@ parts st e =
     let c = ltb (st .next) (st .sizes .slots) in
     let d = lastsOk (st .sizes) (st .head) (st .tail) (st .table .last) in
     let f = preparedOk (st .sizes) (st .head) (st .tail) (st .writers .opened) (st .writers .held) (st .writers .prepared) in
-    let e₁ = and-right a (b && (c && (d && (f && pendingOk st)))) e in
-    let e₂ = and-right b (c && (d && (f && pendingOk st))) e₁ in
-    let e₃ = and-right c (d && (f && pendingOk st)) e₂ in
-    let e₄ = and-right d (f && pendingOk st) e₃ in
+    let g = wideOk (st .sizes) (st .writers .opened) (st .writers .held) (st .writers .prepared) (st .wide) in
+    let e₁ = and-right a (b && (c && (d && (f && (g && pendingOk st))))) e in
+    let e₂ = and-right b (c && (d && (f && (g && pendingOk st)))) e₁ in
+    let e₃ = and-right c (d && (f && (g && pendingOk st))) e₂ in
+    let e₄ = and-right d (f && (g && pendingOk st)) e₃ in
+    let e₅ = and-right f (g && pendingOk st) e₄ in
     record {
-      slots = and-left a (b && (c && (d && (f && pendingOk st)))) e;
-      held = and-left b (c && (d && (f && pendingOk st))) e₁;
-      next = and-left c (d && (f && pendingOk st)) e₂;
-      lasts = and-left d (f && pendingOk st) e₃;
-      prepared = and-left f (pendingOk st) e₄;
-      pending = and-right f (pendingOk st) e₄;
+      slots = and-left a (b && (c && (d && (f && (g && pendingOk st))))) e;
+      held = and-left b (c && (d && (f && (g && pendingOk st)))) e₁;
+      next = and-left c (d && (f && (g && pendingOk st))) e₂;
+      lasts = and-left d (f && (g && pendingOk st)) e₃;
+      prepared = and-left f (g && pendingOk st) e₄;
+      wide = and-left g (pendingOk st) e₅;
+      pending = and-right g (pendingOk st) e₅;
     }
 
 pub valid : (st : State) → stateOk st ≡ true → Valid st
@@ -353,6 +423,8 @@ valid st e =
       next-low = ltb-true (st .next) (st .sizes .slots) (h .next);
       lasts = lasts-fine (st .sizes) (st .head) (st .tail) (st .table) (h .lasts);
       prepared = prepared-fine (st .sizes) (st .head) (st .tail) (st .writers .opened) (st .writers .held) (st .writers .prepared) (h .prepared);
+      entries = wide-right (st .sizes) (st .writers .opened) (st .writers .held) (st .writers .prepared) (st .wide) (h .wide);
+      wide = wide-fine (st .sizes) (st .writers .opened) (st .writers .held) (st .writers .prepared) (st .wide) (h .wide);
       pending = h .pending;
     }
 
@@ -371,5 +443,6 @@ valid-ok st v =
       lt-ltb (st .next) (z .slots) (v .next-low),
       lasts-ok z (st .head) (st .tail) t (v .lasts),
       prepared-ok z (st .head) (st .tail) (st .writers .opened) (st .writers .held) (st .writers .prepared) (v .prepared),
+      wide-ok z (st .writers .opened) (st .writers .held) (st .writers .prepared) (st .wide) (v .entries) (v .wide),
       v .pending,
     )

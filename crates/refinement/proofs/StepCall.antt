@@ -11,13 +11,13 @@ use Rattle.bounded.proofs.Rows.{none-apply}
 use Rattle.bounded.proofs.Tests.{caseOn, contradicts}
 use Rattle.state.specs.declared.State.{State}
 use Rattle.state.specs.declared.Op.{Op}
-use Rattle.state.specs.declared.Op.the-variants.{Idle, Write, Commit, Consolidate, Checkpoint, Event, Prepare, Confirm}
+use Rattle.state.specs.declared.Op.the-variants.{Idle, Write, Commit, Consolidate, Checkpoint, Event, Prepare, Confirm, Log, Copy}
 use Rattle.operations.specs.Operations.{needs}
 use Rattle.refinement.specs.Stores.{World, completed, stepped, steppedBy, left}
 use Rattle.refinement.proofs.Pending.{pends}
 use Rattle.refinement.specs.Calls.{stepRows, stepRow, stepOf, stepBytes, runOf, runBytes, worldOf}
 use Rattle.refinement.specs.Run.{step, run, exec}
-use Rattle.refinement.specs.Reference.{Reference, Task, Work, idle, under, writing, committing, nothing, withWork, continues, advances}
+use Rattle.refinement.specs.Reference.{Reference, Task, Work, idle, under, copying, writing, committing, nothing, withWork, continues, advances}
 use Rattle.refinement.proofs.EventRows.{done-sizes}
 use Rattle.refinement.proofs.Invariant.{Doing, Busy, Related}
 use Rattle.refinement.proofs.Sound.{Sound, answered-after, is-busy, busy-pending}
@@ -39,6 +39,8 @@ module _ (past : List ℕ) (st : State) (img : List ℕ) (b : Reference) (B : Bu
   step-of (Event k m a) e = absurd (subst (Doing st img b) e (B .doing))
   step-of (Prepare w) e = step-prepare past st img b B w e
   step-of (Confirm w) e = step-confirm past st img b B w e
+  step-of (Log p l o n) e = absurd (subst (Doing st img b) e (B .doing))
+  step-of Copy e = absurd (subst (Doing st img b) e (B .doing))
 
   pub one-store : Related past (stepped (worldOf st img)) (advances 1 (b .work) b)
   one-store = step-of (st .pending .op) refl
@@ -53,6 +55,8 @@ completed-sizes st Checkpoint = refl
 completed-sizes st (Event k m a) = done-sizes st k m
 completed-sizes st (Prepare w) = refl
 completed-sizes st (Confirm w) = refl
+completed-sizes st (Log p l o n) = refl
+completed-sizes st Copy = refl
 
 pub stepped-sizes : (v : World) → stepped v .st .sizes ≡ v .st .sizes
 unfolding stepped
@@ -77,10 +81,13 @@ doing-work st img b Checkpoint d = (nothing, d)
 doing-work st img b (Event k m a) d = absurd d
 doing-work st img b (Prepare w) d = (nothing, d)
 doing-work st img b (Confirm w) d = (committing w, d)
+doing-work st img b (Log p l o n) d = absurd d
+doing-work st img b Copy d = absurd d
 
 no-work : Work → Bool
 no-work idle = true
 no-work (under t k) = false
+no-work (copying w k) = false
 
 pub idle-apart : (t : Task) (k : ℕ) (w : Work) → w ≡ under t k → w ≡ idle → ⊥
 unfolding no-work
@@ -99,7 +106,7 @@ continues-on t zero b l = absurd (omega arith)
 continues-on t (suc m) b l = refl
 
 pub work-same : (b : Reference) (k : Work) → b .work ≡ k → withWork k b ≡ b
-work-same b k e = λ i. record { pages = b .pages; writes = b .writes; work = sym e i }
+work-same b k e = λ i. record { pages = b .pages; writes = b .writes; work = sym e i; wide = b .wide }
 
 one-advance : (t : Task) (m : ℕ) (b : Reference) → 0 < m → advances 1 (under t m) (withWork (under t m) b) ≡ continues t (m - 1) b
 one-advance t m b l =

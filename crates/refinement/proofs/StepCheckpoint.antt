@@ -108,6 +108,7 @@ module _ (past : List ℕ) (st : State) (img : List ℕ) (b : Reference) (D : Du
         sizes-same = D .sizes-same;
         head-same = D .head-same;
         tail-same = D .head-same;
+        count-same = D .count-same;
         behind = behind-after;
         committed = λ p l low line. header-copy img z tailWord (st .head) (omega arith) whole (st .table) p l ∙ D .committed p l low line;
       }
@@ -157,7 +158,7 @@ module _ (past : List ℕ) (st : State) (img : List ℕ) (b : Reference) (B : Bu
   end = store img tailWord (st .head)
 
   all-landed : m ≡ 3 * recorded st → (j : ℕ) → j < 3 * recorded st → word img (checkpointAt st j) ≡ checkpointValue st img j
-  all-landed e j l = subst (λ (o : Op). word img (storeAt st o j) ≡ storeValue st img o j) is (B .landed j (omega arith))
+  all-landed e j l = subst (λ (o : Op). word img (storeAt st img o j) ≡ storeValue st img o j) is (B .landed j (omega arith))
 
   -- the image shows no live record, and the slots that it showed
   pub checkpoint-shows : m ≡ 3 * recorded st → Shows end (emptied (B .durable .view))
@@ -171,6 +172,7 @@ module _ (past : List ℕ) (st : State) (img : List ℕ) (b : Reference) (B : Bu
         durable = checkpointed-durable past st img b (B .durable) (all-landed e);
         writers = checkpointed-writing past st img b (B .durable) (all-landed e) (subst (λ (o : Op). Writing st img b (Changing o)) is (B .writers));
         work = refl;
+        narrow = record { state = B .narrow .state; book = B .narrow .book };
       }
 
   pub checkpoint-image : m ≡ 3 * recorded st → storeMade st img Checkpoint m ≡ end

@@ -41,7 +41,7 @@ use Rattle.refinement.proofs.Pending.{pends}
 use Rattle.refinement.proofs.StateValid.{valid}
 use Rattle.refinement.specs.Recall.{frameOf}
 use Rattle.refinement.specs.Reference.{Reference, Cell, laidOver, idle, committing, withWork, laid, emptied, advances, readLine, recallLine}
-use Rattle.refinement.proofs.Invariant.{Behind, Durable, holds, Writing, Never, Changing, Quiet, Busy, Related}
+use Rattle.refinement.proofs.Invariant.{Behind, Durable, holds, Writing, Never, Changing, Quiet, Busy, Related, Narrow, not-wide}
 use Rattle.refinement.proofs.CommitCopies.{names-kept, frame-held, frame-other, other-after, closed-none, others-keep, not-both}
 use Rattle.refinement.proofs.CommitMid.{ownView, own-shows, own-mounts, commit-pending, count, commit-names, commit-right, at-record, value-record, at-head, value-head, commit-needs, commit-doing, commit-on}
 use Rattle.refinement.proofs.CommitNames.{behind-shapes, behind-apart, behind-more, once-more}
@@ -126,6 +126,7 @@ module _ (past : List ℕ) (st : State) (img : List ℕ) (b : Reference) (ok : s
             sizes-same = refl;
             head-same = refl;
             tail-same = refl;
+            count-same = D .count-same;
             behind =
                 behind-ext (word img) (word headStored) z (replay z (st .head) n new d) (commitTable st w) legal behind
                 (λ p _ _. header-page img z headWord x (omega arith) whole p);
@@ -151,7 +152,7 @@ others-same b w v p l ne h =
 -- ---- head stored, where the records are in the image
 
 module _ (past : List ℕ) (st : State) (img : List ℕ) (b : Reference) (ok : stateOk st ≡ true) (D₀ : Durable past st img b) (writing : Writing st img b Never)
-    (w : ℕ) (can : CommitTaken st w) (stored : Stored st img w) where
+    (w : ℕ) (can : CommitTaken st w) (stored : Stored st img w) (narrow : Narrow st b) where
   abbrev after : State
   after = completed st (Commit w)
 
@@ -162,7 +163,7 @@ module _ (past : List ℕ) (st : State) (img : List ℕ) (b : Reference) (ok : s
   machine = committedReference w (withWork idle b)
 
   done-ok : stateOk after ≡ true
-  done-ok = committed-valid st w ok (D₀ .behind .sixteen) can
+  done-ok = committed-valid st w ok (D₀ .behind .sixteen) can (not-wide st b w narrow (can .writer-low))
 
   -- the records are there
   all-landed : Landed (word img) (st .sizes) (st .head) (count st w) (commitRecord st w)
@@ -237,14 +238,14 @@ module _ (past : List ℕ) (st : State) (img : List ℕ) (b : Reference) (ok : s
   commit-shows = head-shows past st img b ok D₀ w can done-ok all-landed
 
   pub commit-quiet : Quiet past after image machine
-  commit-quiet = record { valid = done-ok; pending = refl; durable = durable; writers = writers; work = refl }
+  commit-quiet = record { valid = done-ok; pending = refl; durable = durable; writers = writers; work = refl; narrow = record { state = narrow .state; book = caseOn (eqb (b .wide) w) (λ t. rw t) (λ t. rw t (narrow .book)) } }
 
 -- ---- the last store of a commit
 
 module _ (past : List ℕ) (st : State) (img : List ℕ) (b : Reference) (B : Busy past st img b) (w : ℕ) (e : st .pending .op ≡ Commit w)
     (last : st .pending .made ≡ 4 * count st w) where
   pub records-there : Stored st img w
-  records-there i l = subst (λ (q : Op). (j : ℕ) → j < st .pending .made → word img (storeAt st q j) ≡ storeValue st img q j) e (B .landed) i (omega arith)
+  records-there i l = subst (λ (q : Op). (j : ℕ) → j < st .pending .made → word img (storeAt st img q j) ≡ storeValue st img q j) e (B .landed) i (omega arith)
 
   pub image-is : storeMade st img (Commit w) (st .pending .made) ≡ store img headWord (commitHead st w)
   image-is =
@@ -253,7 +254,7 @@ module _ (past : List ℕ) (st : State) (img : List ℕ) (b : Reference) (B : Bu
   commit-ends : st .pending .made + 1 ≡ needs st (Commit w) → Related past (stepped (record { st = st; image = img })) (advances 1 (b .work) b)
   commit-ends q =
       step-last past st img b (Commit w) (committing w) (store img headWord (commitHead st w)) e (commit-doing past st img b B w e) q image-is
-      (commit-quiet past st img b (B .valid) (B .durable) (subst (λ (o : Op). Writing st img b (Changing o)) e (B .writers)) w (commit-pending st w (B .valid) e) records-there)
+      (commit-quiet past st img b (B .valid) (B .durable) (subst (λ (o : Op). Writing st img b (Changing o)) e (B .writers)) w (commit-pending st w (B .valid) e) records-there (B .narrow))
 
 -- one step of a pending commit
 pub step-commit : (past : List ℕ) (st : State) (img : List ℕ) (b : Reference) → Busy past st img b → (w : ℕ) → st .pending .op ≡ Commit w

@@ -149,7 +149,7 @@ module _ (past : List ℕ) (st : State) (img : List ℕ) (b : Reference) (B : Bu
   after = store img headWord (position (st .sizes) (st .head) 1)
 
   all-landed : m ≡ copyStoreCount t + 5 → (j : ℕ) → j < copyStoreCount t + 5 → word img (consolidateAt st p j) ≡ consolidateValue st img p j
-  all-landed e j l = subst (λ (o : Op). word img (storeAt st o j) ≡ storeValue st img o j) is (B .landed j (omega arith))
+  all-landed e j l = subst (λ (o : Op). word img (storeAt st img o j) ≡ storeValue st img o j) is (B .landed j (omega arith))
 
   sixteen : Sixteen (B .durable .view .table)
   sixteen = view-sixteen img (B .durable .view) (B .durable .shows)
@@ -175,6 +175,7 @@ module _ (past : List ℕ) (st : State) (img : List ℕ) (b : Reference) (B : Bu
             consolidated-writing st img b p (position (st .sizes) (st .head) 1) F (frees-state st p (B .valid) full F) (durable-fits past st img b (B .durable))
             (λ w q l c. c) (subst (λ (o : Op). Writing st img b (Changing o)) is (B .writers));
         work = refl;
+        narrow = record { state = B .narrow .state; book = B .narrow .book };
       }
 
   pub consolidate-image : m ≡ copyStoreCount t + 5 → storeMade st img (Consolidate p) m ≡ after

@@ -14,7 +14,7 @@ use Rattle.state.specs.declared.State.{State}
 use Rattle.state.specs.declared.Op.{Op}
 use Rattle.state.specs.declared.Op.the-variants.{Prepare, Confirm}
 use Rattle.operations.specs.Operations.{needs}
-use Rattle.operations.proofs.Taken.{CommitTaken, commit-taken, confirm-taken}
+use Rattle.operations.proofs.Taken.{prepare-taken, CommitTaken, commit-taken, confirm-taken}
 use Rattle.refinement.specs.Commit.{commitHead}
 use Rattle.refinement.specs.Stores.{stepped, completed, storeAt, storeValue, storeMade}
 use Rattle.refinement.specs.Calls.{worldOf}
@@ -60,11 +60,12 @@ module _ (past : List ℕ) (st : State) (img : List ℕ) (b : Reference) (B : Bu
       let M = prepare-mid past st img b B w e m prepare-left in
       let D = mid-durable past st img b (B .durable) (Prepare w) m M in
       let W : Writing st after b Never = mid-writing past st img b (B .durable) (Prepare w) m M (subst (λ (o : Op). Writing st img b (Changing o)) e (B .writers)) in
-      let landed = subst (λ (o : Op). (j : ℕ) → j < m → word img (storeAt st o j) ≡ storeValue st img o j) e (B .landed) in
-      now-prepared st after (withWork idle b) w (B .valid) (commit-taken st w (pends st (Prepare w) (B .valid) e refl .taken))
+      let landed = subst (λ (o : Op). (j : ℕ) → j < m → word img (storeAt st img o j) ≡ storeValue st img o j) e (B .landed) in
+      now-prepared st after (withWork idle b) w (B .valid) (prepare-taken st w (pends st (Prepare w) (B .valid) e refl .taken))
       (durable-kept st after b (withWork idle b) (st .next) (st .writers) (st .pending) (λ p l h k. refl) D)
       (record { four = W .four; sixty-four = W .sixty-four; held-low = W .held-low; own-copy = W .own-copy; no-writes = W .no-writes; ready = W .ready })
       (λ j l. mid-landed past st img b (B .durable) (Prepare w) m M landed j (omega (arith, l, q, prepare-needs st w))) refl
+      (record { state = B .narrow .state; book = B .narrow .book })
 
   pub step-prepare : Related past (stepped (worldOf st img)) (advances 1 (b .work) b)
   step-prepare =
@@ -95,4 +96,4 @@ module _ (past : List ℕ) (st : State) (img : List ℕ) (b : Reference) (B : Bu
   step-confirm =
       let low = pends st (Confirm w) (B .valid) e refl .made-low in
       step-last past st img b (Confirm w) (committing w) (store img headWord (commitHead st w)) e (subst (Doing st img b) e (B .doing)) (omega (arith, low, confirm-most st w)) refl
-      (commit-quiet past st img b (B .valid) (B .durable) (subst (λ (o : Op). Writing st img b (Changing o)) e (B .writers)) w confirm-pending records-ready)
+      (commit-quiet past st img b (B .valid) (B .durable) (subst (λ (o : Op). Writing st img b (Changing o)) e (B .writers)) w confirm-pending records-ready (B .narrow))

@@ -84,7 +84,7 @@ module _ (past : List ℕ) (st : State) (img : List ℕ) (b : Reference) (B : Bu
   landed : (j : ℕ) → j < 8 → word image (lineWord z target l + j) ≡ getD (st .pending .line) j 0
   landed j h =
       mid-landed past st img b (B .durable) op m M
-      (subst (λ (q : Op). (i : ℕ) → i < m → word img (storeAt st q i) ≡ storeValue st img q i) e (B .landed)) j (omega arith)
+      (subst (λ (q : Op). (i : ℕ) → i < m → word img (storeAt st img q i) ≡ storeValue st img q i) e (B .landed)) j (omega arith)
 
   -- the line is there, whole
   line-there : lineBytes image z target l ≡ readLine machine w p l
@@ -128,6 +128,7 @@ module _ (past : List ℕ) (st : State) (img : List ℕ) (b : Reference) (B : Bu
         sizes-same = D .sizes-same;
         head-same = D .head-same;
         tail-same = D .tail-same;
+        count-same = D .count-same;
         behind =
             write-behind st p legal (D .behind .sixteen) (T .args .page-low) apart cases (word image) (D .view .table) home
             (λ un. unslotted-durable (word image) z (D .view .table) (st .table) legal (D .behind) p (T .args .page-low) un) (D .behind);
@@ -189,7 +190,7 @@ module _ (past : List ℕ) (st : State) (img : List ℕ) (b : Reference) (B : Bu
   unfolding needs
   write-ends =
       step-last past st img b op (writing w p l o n bytes) image e (at-work st img b w p l o n (write-doing past st img b B w p l o n e)) last refl
-      (record { valid = ok; pending = refl; durable = durable; writers = writers; work = refl })
+      (record { valid = ok; pending = refl; durable = durable; writers = writers; work = refl; narrow = record { state = B .narrow .state; book = B .narrow .book } })
 
 -- one step of a pending write
 pub step-write : (past : List ℕ) (st : State) (img : List ℕ) (b : Reference) → Busy past st img b → (w p l o n : ℕ) → st .pending .op ≡ Write w p l o n

@@ -10,11 +10,11 @@ use lib.Dec.{ltb}
 use lib.ListN.{length}
 use borrow.Author.Tests.{ltb-true, ltb-false, eq-eqb, ne-eqb}
 use Rattle.bounded.proofs.Below.{split-below}
-use Rattle.bounded.proofs.Tests.{caseOn}
+use Rattle.bounded.proofs.Tests.{caseOn, contradicts}
 use Rattle.layout.specs.declared.Sizes.{Sizes}
 use Rattle.layout.specs.Layout.{Legal, imageLength, frameWord, pageWord, lineWord}
 use Rattle.image.specs.Lines.{lineBytes}
-use Rattle.words.specs.Words.{bytesOf, putWord, word, store}
+use Rattle.words.specs.Words.{part, bytesOf, putWord, word, store}
 use Rattle.words.proofs.Bytes.{length-bytes}
 use Rattle.words.proofs.Parts.{part-over-other}
 use Rattle.words.proofs.WordLaws.{word-store, word-store-other, length-store, bytes-store, drop-store}
@@ -26,7 +26,7 @@ use Rattle.mount.proofs.Verdict.{Taken}
 use Rattle.mount.proofs.Dead.{Dead, dead-view, store-old}
 use Rattle.state.specs.declared.State.{State}
 use Rattle.state.specs.declared.Op.{Op}
-use Rattle.state.specs.declared.Op.the-variants.{Idle, Write, Commit, Consolidate, Checkpoint, Event, Prepare, Confirm}
+use Rattle.state.specs.declared.Op.the-variants.{Idle, Write, Commit, Consolidate, Checkpoint, Event, Prepare, Confirm, Log, Copy}
 use Rattle.operations.specs.Operations.{slotFor, needs, isIdle}
 use Rattle.refinement.specs.Frames.{otherFrame}
 use Rattle.refinement.specs.Write.{writeSlot}
@@ -34,11 +34,12 @@ use Rattle.refinement.specs.Commit.{commitRecordOf, commitAtOf, commitVa
 use Rattle.refinement.specs.Consolidate.{consolidateAt, consolidateValue, freeingRecord}
 use Rattle.refinement.specs.Checkpoint.{checkpointAtOf, checkpointValueOf}
 use Rattle.refinement.specs.Event.{eventAt, eventValue}
+use Rattle.refinement.specs.Wide.{isCopy}
 use Rattle.refinement.specs.Stores.{World, stepped, withMade, completed, storeAt, storeValue, storeMade}
 use Rattle.refinement.proofs.Pending.{made-valid}
 pub use Rattle.refinement.proofs.Pending.{needs-made}
 use Rattle.refinement.specs.Recall.{frameOf}
-use Rattle.refinement.specs.Reference.{Reference, Task, idle, under, withWork, does, continues, advances}
+use Rattle.refinement.specs.Reference.{Reference, recallLine, Task, idle, under, withWork, does, continues, advances}
 use Rattle.refinement.proofs.Copies.{durable-legal, durable-fits}
 use Rattle.refinement.proofs.Invariant.{TakenOnly, Behind, Durable, holds, Writing, Doing, Changing, Busy, Related}
 use Rattle.refinement.proofs.PageSlots.{slotted-of, unslotted-of}
@@ -46,23 +47,26 @@ use Rattle.refinement.proofs.Records.{OffJournal, stored-kept}
 
 -- ---- one store of a word
 
+-- the 64 bytes from word c on, where the stored word is none of the eight
+pub eight-kept : (img : List ℕ) (a w c : ℕ) → 8 * a + 8 ≤ length img → ((k : ℕ) → k < 8 → c + k ≡ a → ⊥) → part (store img a w) (8 * c) 64 ≡ part img (8 * c) 64
+unfolding putWord
+eight-kept img a w c fits apart =
+    let e : length (bytesOf 8 w) ≡ 8 = length-bytes 8 w in
+    let h : 8 * a + length (bytesOf 8 w) ≤ length img = omega arith in
+    let sides : (8 * a + length (bytesOf 8 w) ≤ 8 * c) ⊎ (8 * c + 64 ≤ 8 * a) =
+    caseOn (ltb a c)
+    (λ t. let m : a < c = ltb-true a c t in inl (omega arith))
+    (λ t.
+    let m : c ≤ a = ltb-false a c t in
+    caseOn (ltb a (c + 8))
+    (λ u. let n : a < c + 8 = ltb-true a (c + 8) u in absurd (apart (a - c) (omega arith) (omega arith)))
+    (λ u. let n : c + 8 ≤ a = ltb-false a (c + 8) u in inr (omega arith))) in
+    part-over-other img (8 * a) (bytesOf 8 w) h (8 * c) 64 sides
+
 -- a line that does not have the stored word
 pub line-kept : (img : List ℕ) (a w : ℕ) (z : Sizes) (f l : ℕ) → 8 * a + 8 ≤ length img → ((k : ℕ) → k < 8 → lineWord z f l + k ≡ a → ⊥)
     → lineBytes (store img a w) z f l ≡ lineBytes img z f l
-unfolding putWord
-line-kept img a w z f l fits apart =
-    let b : ℕ = lineWord z f l in
-    let e : length (bytesOf 8 w) ≡ 8 = length-bytes 8 w in
-    let h : 8 * a + length (bytesOf 8 w) ≤ length img = omega arith in
-    let sides : (8 * a + length (bytesOf 8 w) ≤ 8 * b) ⊎ (8 * b + 64 ≤ 8 * a) =
-    caseOn (ltb a b)
-    (λ t. let m : a < b = ltb-true a b t in inl (omega arith))
-    (λ t.
-    let m : b ≤ a = ltb-false a b t in
-    caseOn (ltb a (b + 8))
-    (λ u. let n : a < b + 8 = ltb-true a (b + 8) u in absurd (apart (a - b) (omega arith) (omega arith)))
-    (λ u. let n : b + 8 ≤ a = ltb-false a (b + 8) u in inr (omega arith))) in
-    part-over-other img (8 * a) (bytesOf 8 w) h (8 * b) 64 sides
+line-kept img a w z f l fits apart = eight-kept img a w (lineWord z f l) fits apart
 
 -- ---- the words that the state's slots lean on
 
@@ -118,8 +122,11 @@ module _ (past : List ℕ) (st : State) (img : List ℕ) (b : Reference) (D : Du
     page-kept dead p low none =
         word-store-other img a w (pageWord p) store-fits (λ e. dead (subst (Read (D .view)) (sym e) (page-read p low none)))
 
-    pub durable-kept : Dead (D .view) a → Uncommitted a → Durable past st (store img a w) b
-    durable-kept dead free =
+    -- the image after a store to a dead word, against a reference machine whose pages are what its committed copies hold
+    pub durable-stored : (c : Reference) → Dead (D .view) a
+        → ((p l : ℕ) → p < st .sizes .pages → l < 64 → lineBytes (store img a w) (st .sizes) (frameOf (word img) (st .sizes) (st .table) p l) l ≡ recallLine c p l)
+        → Durable past st (store img a w) c
+    durable-stored c dead lines =
         let z : Sizes = st .sizes in
         let same = page-kept dead in
         record {
@@ -131,14 +138,20 @@ module _ (past : List ℕ) (st : State) (img : List ℕ) (b : Reference) (D : Du
           sizes-same = D .sizes-same;
           head-same = D .head-same;
           tail-same = D .tail-same;
+          count-same = D .count-same;
           behind = behind-ext (word img) (word (store img a w)) z (D .view .table) (st .table) (durable-legal past st img b D) (D .behind) same;
           committed =
               λ p l low line.
               ap (λ (f : ℕ). lineBytes (store img a w) z f l)
               (frame-ext (word img) (word (store img a w)) z (D .view .table) (st .table) (durable-legal past st img b D) (D .behind) same p l low)
-              ∙ line-kept img a w z (frameOf (word img) z (st .table) p l) l store-fits (λ k m. free p l k low line m)
-              ∙ D .committed p l low line;
+              ∙ lines p l low line;
         }
+
+    pub durable-kept : Dead (D .view) a → Uncommitted a → Durable past st (store img a w) b
+    durable-kept dead free =
+        durable-stored b dead
+        (λ p l low line.
+        line-kept img a w (st .sizes) (frameOf (word img) (st .sizes) (st .table) p l) l store-fits (λ k m. free p l k low line m) ∙ D .committed p l low line)
 
     -- of the value that is there
     pub store-none : w ≡ word img a → store img a w ≡ img
@@ -147,7 +160,7 @@ module _ (past : List ℕ) (st : State) (img : List ℕ) (b : Reference) (D : Du
 -- what does not say how many stores are made
 pub durable-made : (past : List ℕ) (st : State) (img : List ℕ) (b : Reference) (n : ℕ) (k : _) → Durable past st img b → Durable past (withMade st n) img (withWork k b)
 durable-made past st img b n k D =
-    record { bytes = D .bytes; past-kept = D .past-kept; view = D .view; shows = D .shows; mounts = D .mounts; sizes-same = D .sizes-same; head-same = D .head-same; tail-same = D .tail-same; behind = D .behind; committed = D .committed }
+    record { bytes = D .bytes; past-kept = D .past-kept; view = D .view; shows = D .shows; mounts = D .mounts; sizes-same = D .sizes-same; head-same = D .head-same; tail-same = D .tail-same; count-same = D .count-same; behind = D .behind; committed = D .committed }
 
 -- ---- the writers' copies
 
@@ -182,16 +195,18 @@ module _ (st : State) (img : List ℕ) (b : Reference) (Being : ℕ → ℕ → 
 -- ---- the state with one store more made
 
 module _ (st : State) (n : ℕ) where
-  pub at-made : (op : Op) (j : ℕ) → storeAt (withMade st n) op j ≡ storeAt st op j
+  pub at-made : (img : List ℕ) (op : Op) (j : ℕ) → storeAt (withMade st n) img op j ≡ storeAt st img op j
   unfolding writeSlot commitAtOf consolidateAt checkpointAtOf eventAt
-  at-made Idle j = refl
-  at-made (Write w p l o k) j = refl
-  at-made (Commit w) j = refl
-  at-made (Consolidate p) j = refl
-  at-made Checkpoint j = refl
-  at-made (Event k m a) j = refl
-  at-made (Prepare w) j = refl
-  at-made (Confirm w) j = refl
+  at-made img Idle j = refl
+  at-made img (Write w p l o k) j = refl
+  at-made img (Commit w) j = refl
+  at-made img (Consolidate p) j = refl
+  at-made img Checkpoint j = refl
+  at-made img (Event k m a) j = refl
+  at-made img (Prepare w) j = refl
+  at-made img (Confirm w) j = refl
+  at-made img (Log p l o n) j = refl
+  at-made img Copy j = refl
 
   pub value-made : (img : List ℕ) (op : Op) (j : ℕ) → storeValue (withMade st n) img op j ≡ storeValue st img op j
   unfolding commitValueOf commitRecordOf consolidateValue freeingRecord checkpointValueOf eventValue
@@ -203,6 +218,21 @@ module _ (st : State) (n : ℕ) where
   value-made img (Event k m a) j = refl
   value-made img (Prepare w) j = refl
   value-made img (Confirm w) j = refl
+  value-made img (Log p l o n) j = refl
+  value-made img Copy j = refl
+
+-- where a store goes is found in the state, but for a wide commit's
+pub at-steady : (st : State) (img img′ : List ℕ) (op : Op) (j : ℕ) → isCopy op ≡ false → storeAt st img op j ≡ storeAt st img′ op j
+at-steady st img img′ Idle j c = refl
+at-steady st img img′ (Write w p l o n) j c = refl
+at-steady st img img′ (Commit w) j c = refl
+at-steady st img img′ (Consolidate p) j c = refl
+at-steady st img img′ Checkpoint j c = refl
+at-steady st img img′ (Event k m a) j c = refl
+at-steady st img img′ (Prepare w) j c = refl
+at-steady st img img′ (Confirm w) j c = refl
+at-steady st img img′ (Log p l o n) j c = refl
+at-steady st img img′ Copy j c = contradicts refl c
 
 -- ---- a step
 
@@ -244,11 +274,12 @@ pub record Aside (past : List ℕ) (st : State) (img : List ℕ) (b : Reference)
   pub off : Off st img b (Changing op) a
 
 pub record Mid (past : List ℕ) (st : State) (img : List ℕ) (b : Reference) (D : Durable past st img b) (op : Op) (m : ℕ) : Type 0 where
-  pub inside : 8 * storeAt st op m + 8 ≤ imageLength (st .sizes)
+  pub in-place : isCopy op ≡ false
+  pub inside : 8 * storeAt st img op m + 8 ≤ imageLength (st .sizes)
   pub low : storeValue st img op m < 2 ^ 64
-  pub apart : (j : ℕ) → j < m → storeAt st op m ≡ storeAt st op j → ⊥
+  pub apart : (j : ℕ) → j < m → storeAt st img op m ≡ storeAt st img op j → ⊥
   pub stable : (j : ℕ) → j ≤ m → storeValue st (storeMade st img op m) op j ≡ storeValue st img op j
-  pub harmless : (storeValue st img op m ≡ word img (storeAt st op m)) ⊎ Aside past st img b D op (storeAt st op m)
+  pub harmless : (storeValue st img op m ≡ word img (storeAt st img op m)) ⊎ Aside past st img b D op (storeAt st img op m)
 
 -- a word before the frames is no word of a line
 pub aside-before : (past : List ℕ) (st : State) (img : List ℕ) (b : Reference) (D : Durable past st img b) (op : Op) (a : ℕ) → a < frameWord (st .sizes) → Off st img b (Changing op) a → Dead (D .view) a
@@ -258,7 +289,7 @@ aside-before past st img b D op a early off dead =
 
 module _ (past : List ℕ) (st : State) (img : List ℕ) (b : Reference) (D : Durable past st img b) (op : Op) (m : ℕ) (M : Mid past st img b D op m) where
   abbrev a : ℕ
-  a = storeAt st op m
+  a = storeAt st img op m
 
   abbrev w : ℕ
   w = storeValue st img op m
@@ -280,13 +311,14 @@ module _ (past : List ℕ) (st : State) (img : List ℕ) (b : Reference) (D : Du
       (λ (s : Aside past st img b D op a). writing-kept st img b (Changing op) (durable-legal past st img b D) a w (store-fits past st img b D a w (M .inside)) (s .unowned) (s .off) W)
       (M .harmless)
 
-  pub mid-landed : ((j : ℕ) → j < m → word img (storeAt st op j) ≡ storeValue st img op j) → (j : ℕ) → j < m + 1 → word after (storeAt st op j) ≡ storeValue st after op j
+  pub mid-landed : ((j : ℕ) → j < m → word img (storeAt st img op j) ≡ storeValue st img op j) → (j : ℕ) → j < m + 1 → word after (storeAt st after op j) ≡ storeValue st after op j
   mid-landed h j l =
       let fits = store-fits past st img b D a w (M .inside) in
       let n : j < suc m = omega arith in
-      split-below n
+      ap (word after) (at-steady st after img op j (M .in-place))
+      ∙ split-below n
       (λ q. rw q (word-store img a w fits (M .low) ∙ sym (M .stable m (omega arith))))
-      (λ lt. word-store-other img a w (storeAt st op j) fits (M .apart j lt) ∙ h j lt ∙ sym (M .stable j (omega arith)))
+      (λ lt. word-store-other img a w (storeAt st img op j) fits (M .apart j lt) ∙ h j lt ∙ sym (M .stable j (omega arith)))
 
 module _ (past : List ℕ) (st : State) (img : List ℕ) (b : Reference) (B : Busy past st img b) (t : Task) where
   -- facts about the pending operation, where it is op
@@ -310,10 +342,11 @@ module _ (past : List ℕ) (st : State) (img : List ℕ) (b : Reference) (B : Bu
         writers = writing-made st img′ b (Changing op) (m + 1) k (mid-writing past st img b (B .durable) op m M (B .writers));
         landed =
             λ j n.
-            ap (word img′) (at-made st (m + 1) op j)
+            ap (word img′) (at-made st (m + 1) img′ op j)
             ∙ mid-landed past st img b (B .durable) op m M (B .landed) j n
             ∙ sym (value-made st (m + 1) img′ op j);
         doing = doing;
+        narrow = record { state = B .narrow .state; book = B .narrow .book };
       } in
       subst (λ (v : World). Related past v (advances 1 (b .work) b)) (sym (step-on st img l))
       (subst (λ (c : Reference). Related past (record { st = withMade st (m + 1); image = img′ }) c) (sym (advance-on b t (needs st op) m work l))

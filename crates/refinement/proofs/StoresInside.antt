@@ -8,7 +8,7 @@ use Rattle.layout.specs.declared.Sizes.{Sizes}
 use Rattle.layout.specs.Layout.{imageLength}
 use Rattle.state.specs.declared.State.{State}
 use Rattle.state.specs.declared.Op.{Op}
-use Rattle.state.specs.declared.Op.the-variants.{Idle, Write, Commit, Consolidate, Checkpoint, Event, Prepare, Confirm}
+use Rattle.state.specs.declared.Op.the-variants.{Idle, Write, Commit, Consolidate, Checkpoint, Event, Prepare, Confirm, Log, Copy}
 use Rattle.operations.specs.Operations.{isIdle, needs}
 use Rattle.refinement.specs.Stores.{World, storeAt}
 use Rattle.refinement.proofs.InRange.{store-in-range}
@@ -28,12 +28,14 @@ needing st Checkpoint i l = refl
 needing st (Event k m a) i l = refl
 needing st (Prepare w) i l = refl
 needing st (Confirm w) i l = refl
+needing st (Log p l o n) i l = refl
+needing st Copy i l = refl
 
 inside : {past : List ℕ} (z : Sizes) (v : World) (b : Reference) → Reached z past v b → (i : ℕ) → i < needs (v .st) (v .st .pending .op)
-    → 8 * storeAt (v .st) (v .st .pending .op) i + 8 ≤ imageLength z
+    → 8 * storeAt (v .st) (v .image) (v .st .pending .op) i + 8 ≤ imageLength z
 inside z v b h i l =
     let st = v .st in
-    subst (λ (y : Sizes). 8 * storeAt st (st .pending .op) i + 8 ≤ imageLength y) (h .sizes)
+    subst (λ (y : Sizes). 8 * storeAt st (v .image) (st .pending .op) i + 8 ≤ imageLength y) (h .sizes)
     (store-in-range st (between-valid v b (h .related)) (between-durable v b (h .related) .behind .sixteen) (between-held v b (h .related)) (between-opened v b (h .related)) (needing st (st .pending .op) i l) i l)
 
 pub stores-inside : StoresInside

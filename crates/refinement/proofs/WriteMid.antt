@@ -107,7 +107,7 @@ module _ (past : List ℕ) (st : State) (img : List ℕ) (b : Reference) (valid 
   pub target-aside : (k : ℕ) → k < 8 → Aside past st img b D (Write w p l o n) (wordOf k)
   target-aside k m =
       record {
-        dead = subst (λ (z : Sizes). Dead (D .view) (lineWord z target l + k)) (D .sizes-same) (dead-line (D .view) (D .mounts .legal) target l k);
+        dead = subst (λ (z : Sizes). Dead (D .view) (lineWord z target l + k)) (D .sizes-same) (dead-line (D .view) (D .mounts .legal) target l k (rw (D .sizes-same) target-low) (T .args .line-low) m);
         uncommitted =
             λ q i j lq li lj e.
             let a = line-apart (st .sizes) (frameOf (word img) (st .sizes) (st .table) q i) i j target l k li (T .args .line-low) lj m e in
@@ -177,6 +177,7 @@ module _ (past : List ℕ) (st : State) (img : List ℕ) (b : Reference) (B : Bu
   write-mid m k =
       let T = write-pending st w p l o n (B .valid) e in
       record {
+        in-place = refl;
         inside = target-inside past st img b (B .valid) (B .durable) w p l o n T m k;
         low = value-low st img b w p l o n write-doing m k;
         apart = λ j h q. omega arith;

@@ -8,7 +8,7 @@ use native.Mathlib.Nat.{mod-lt}
 use native.Mathlib.Omega.{arith}
 use lib.Dec.{leb, eqb}
 use lib.ListN.{length}
-use borrow.Author.Tests.{eqb-true, eqb-false, ne-eqb, ltb-true, ltb-false, leb-false, le-leb}
+use borrow.Author.Tests.{eqb-true, eqb-false, ne-eqb, ltb-true, ltb-false, leb-false, le-leb, not-true}
 use Rattle.bounded.proofs.Below.{first-holds, first-before, none-at}
 use Rattle.bounded.proofs.Tests.{caseOn, or-left, or-right}
 use Rattle.layout.specs.declared.Sizes.{Sizes}
@@ -26,12 +26,13 @@ use Rattle.state.specs.declared.State.{State}
 use Rattle.state.specs.declared.Op.the-variants.{Write}
 use Rattle.state.specs.Slots.{freeAt, roundSlot, freeAfter, frameOfSlot}
 use Rattle.state.specs.Held.{heldAt, othersHold}
+use Rattle.state.specs.Wide.{isWide}
 use Rattle.operations.specs.Operations.{slotFor, slotted}
 use Rattle.validity.specs.Validity.{stateOk}
 use Rattle.operations.proofs.Taken.{WriteTaken, write-taken}
 use Rattle.refinement.specs.Stores.{completed}
 use Rattle.refinement.specs.Write.{writeSlot, writeTable, writeNext, writeWriters}
-use Rattle.refinement.proofs.StateValid.{Apart, SlotsFine, HeldFine, LastsFine, lastAt, valid, valid-ok}
+use Rattle.refinement.proofs.StateValid.{narrow, Apart, SlotsFine, HeldFine, LastsFine, lastAt, valid, valid-ok}
 use Rattle.refinement.proofs.Pending.{idle-ok, pends}
 use Rattle.refinement.proofs.OneSlot.{slots-changed, held-changed}
 use Rattle.refinement.proofs.LinePut.{held-writer, line-put}
@@ -187,8 +188,8 @@ module _ (st : State) (w p l o n : ℕ) (e : stateOk st ≡ true) (full : Sixtee
       (λ y. rw (slot-own y, y) (own-target y))
       (λ y. rw y (taken-target y))
 
-  pub written-valid : length (st .writers .held) ≡ 64 → stateOk (completed st (Write w p l o n)) ≡ true
-  written-valid lines =
+  pub written-valid : isWide (st .wide) w ≡ false → length (st .writers .held) ≡ 64 → stateOk (completed st (Write w p l o n)) ≡ true
+  written-valid other lines =
       let v = valid st e in
       let g = target in
       valid-ok (completed st (Write w p l o n))
@@ -206,9 +207,11 @@ module _ (st : State) (w p l o n : ℕ) (e : stateOk st ≡ true) (full : Sixtee
             slots-same z (st .writers .held) (writeWriters st w p l .held) b
             (λ s i. held-writer (st .writers .held) w (writeSlot st p) (withLine (heldAt (st .writers .held) w (writeSlot st p)) l) lines (h .args .writer-low) (omega (arith, g .slot-low, v .legal .slots-high)) b s (omega (arith, i, v .legal .slots-high)) (h .unprepared)) in
             record { opens = v .prepared k .opens; fits = rw same (v .prepared k .fits) };
+        entries = v .entries;
+        wide = λ j. absurd (narrow st w v (h .args .writer-low) (h .opened) other j);
         pending = idle-ok (completed st (Write w p l o n)) refl;
       })
 
 pub write-valid : (st : State) (w p l o n : ℕ) → stateOk st ≡ true → Sixteen (st .table) → length (st .writers .held) ≡ 64 → st .pending .op ≡ Write w p l o n → stateOk (completed st (Write w p l o n)) ≡ true
 write-valid st w p l o n e full lines q =
-    written-valid st w p l o n e full (write-taken st w p l o n (st .pending .frame) (pends st (Write w p l o n) e q refl .taken)) lines
+    written-valid st w p l o n e full (write-taken st w p l o n (st .pending .frame) (pends st (Write w p l o n) e q refl .taken)) (not-true _ (pends st (Write w p l o n) e q refl .fits)) lines

@@ -10,18 +10,17 @@ use Rattle.words.specs.Words.{Bytes}
 use Rattle.layout.specs.declared.Sizes.{Sizes}
 use Rattle.layout.specs.Layout.{sizesOk, imageLength}
 use Rattle.state.specs.declared.State.{State}
-use Rattle.state.specs.declared.Op.the-variants.{Write}
 use Rattle.refinement.specs.Frames.{pageFrame}
 use Rattle.refinement.specs.Outcome.{Outcome}
 use Rattle.refinement.specs.Stores.{World}
-use Rattle.refinement.specs.Calls.{asked, finishedLine, writeCallRows}
-use Rattle.refinement.specs.Run.{Call, Result, mount, checkpoint, free, step, begin, abort, commit, prepare, confirm, withdraw, consolidate, run, write, read, recall, event, load, result, exec, formattedWorld}
+use Rattle.refinement.specs.Calls.{asked, finishedLine, writeOp, writeCallRows}
+use Rattle.refinement.specs.Run.{Call, Result, mount, checkpoint, free, step, begin, beginWide, abort, commit, prepare, confirm, withdraw, consolidate, run, write, read, recall, event, load, result, exec, formattedWorld}
 use Rattle.refinement.specs.Statement.{Lent}
 
--- the write before this change: every taken one needs its eight stores
+-- the write before this change: every taken one needs its stores
 unfoldable pub writeBefore : State → List ℕ → ℕ → ℕ → ℕ → ℕ → ℕ → List ℕ → Outcome
 writeBefore st img w p l o n bytes =
-    asked (refusal (writeCallRows st img w p l o n bytes)) st (Write w p l o n) (finishedLine st img w p l o n bytes) (pageFrame st img p)
+    asked (refusal (writeCallRows st img w p l o n bytes)) st (writeOp st w p l o n) (finishedLine st img w p l o n bytes) (pageFrame st img p)
 
 -- the calls before this change
 unfoldable pub execBefore : Call → World → Result
@@ -31,6 +30,7 @@ execBefore checkpoint v = exec checkpoint v
 execBefore free v = exec free v
 execBefore step v = exec step v
 execBefore (begin w) v = exec (begin w) v
+execBefore (beginWide w) v = exec (beginWide w) v
 execBefore (abort w) v = exec (abort w) v
 execBefore (commit w) v = exec (commit w) v
 execBefore (prepare w) v = exec (prepare w) v

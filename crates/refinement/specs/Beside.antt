@@ -1,23 +1,23 @@
 -- What stands beside demand 3, over the same lists: sentences on the world that a list of calls reaches on a freshly formatted buffer,
 -- and on the reference machine fed the same calls. A list may end anywhere, so each holds before and after every call of a list.
-use Prim.Native.Nat.{ℕ, _+_, _*_, _<_, _≤_}
-use mathlib.Core.Bool.{Bool, true, false, _&&_, _||_}
+use Prim.Native.Nat.{ℕ, _+_, _*_, _<_, _≤_, min}
+use mathlib.Core.Bool.{Bool, true, false, _&&_, _||_, cond}
 use mathlib.Core.List.{List, [], _∷_}
 use mathlib.Core.Logic.{_⊎_}
 use mathlib.Core.Path.{_≡_}
-use lib.Dec.{leb, eqb}
+use lib.Dec.{ltb, leb, eqb}
 use lib.ListN.{length, drop}
 use Rattle.words.specs.Words.{Bytes, word}
 use Rattle.layout.specs.declared.Sizes.{Sizes}
 use Rattle.layout.specs.Layout.{sizesOk, imageLength, pageWord}
-use Rattle.image.specs.Lines.{lineBytes}
 use Rattle.journal.specs.Slots.{freeSlot}
 use Rattle.replay.specs.Table.{slotIn, lastIn}
 use Rattle.state.specs.declared.State.{State}
 use Rattle.state.specs.declared.Op.the-variants.{Checkpoint}
 use Rattle.operations.specs.Operations.{needs}
 use Rattle.refinement.specs.Stores.{World, storeAt, left}
-use Rattle.refinement.specs.Recall.{frameOf}
+use Rattle.state.specs.Wide.{isWide}
+use Rattle.refinement.specs.Wide.{isCopy, shownLine}
 use Rattle.refinement.specs.Run.{Call, mount, checkpoint, step, commit, prepare, confirm, run, exec, formattedWorld, after}
 use Rattle.refinement.specs.Reference.{Reference, blank, turn, readLine, recallLine}
 use Rattle.refinement.specs.Statement.{AllLent}
@@ -36,9 +36,13 @@ Always P =
 
 -- ---- demand 2: a mount reads back what is committed
 
--- line l of page p in the image, where a state says that its committed copy lies
+-- the entries of a wide transaction that are committed and not yet copied: those that word 6 counts
+abbrev pub counted : State → ℕ
+counted st = cond (isCopy (st .pending .op) && ltb 0 (st .pending .made)) (st .wide .count) 0
+
+-- line l of page p in the image, where a state says that its committed line lies
 abbrev pub lineOf : List ℕ → State → ℕ → ℕ → List ℕ
-lineOf img st p l = lineBytes img (st .sizes) (frameOf (word img) (st .sizes) (st .table) p l) l
+lineOf img st p l = shownLine img (st .sizes) (st .table) (counted st) (st .wide .keys) p l
 
 -- a mount (which stands for a power cut) is taken and finds these lines, by page and line
 pub record Finds (z : Sizes) (v : World) (lines : ℕ → ℕ → List ℕ) : Type 0 where
@@ -81,7 +85,7 @@ NeverRefused = Always (λ z buffer v b. (c : Call) → broken (exec c v .number)
 -- the eight bytes of each store of the operation that is pending lie inside the image
 abbrev pub StoresInside : Type 0
 StoresInside =
-    Always (λ z buffer v b. (i : ℕ) → i < needs (v .st) (v .st .pending .op) → 8 * storeAt (v .st) (v .st .pending .op) i + 8 ≤ imageLength z)
+    Always (λ z buffer v b. (i : ℕ) → i < needs (v .st) (v .st .pending .op) → 8 * storeAt (v .st) (v .image) (v .st .pending .op) i + 8 ≤ imageLength z)
 
 -- the bytes past the image are those of the buffer
 abbrev pub PastKept : Type 0
@@ -89,11 +93,15 @@ PastKept = Always (λ z buffer v b. drop (imageLength z) (v .image) ≡ drop (im
 
 -- ---- a commit is whole or absent, and so is a confirm
 
--- the call c, a commit or a confirm by writer w, is asked for, a run of k follows, and power goes: with fewer stores made than it needs (the last is that of
--- head) a mount finds every page as it was before the call; with all of them, as the writer read it
+-- the stores after which the call c by writer w has landed: all that it needs, the last of which is that of head; of a wide commit the first, that of word 6
+abbrev pub deciding : World → Call → ℕ → ℕ
+deciding v c w = cond (isWide (v .st .wide) w) (min 1 (exec c v .stores)) (exec c v .stores)
+
+-- c, a commit or a confirm by writer w, is asked for, a run of k follows, and power goes: with fewer stores made a mount finds every page as it was before
+-- the call; with so many, as the writer read it
 pub record Whole (z : Sizes) (v : World) (b : Reference) (c : Call) (w k : ℕ) : Type 0 where
-  pub absent : k < exec c v .stores → Finds z (exec (run k) (exec c v .world) .world) (recallLine b)
-  pub landed : exec c v .stores ≤ k → Finds z (exec (run k) (exec c v .world) .world) (readLine b w)
+  pub absent : k < deciding v c w → Finds z (exec (run k) (exec c v .world) .world) (recallLine b)
+  pub landed : deciding v c w ≤ k → Finds z (exec (run k) (exec c v .world) .world) (readLine b w)
 
 -- every one of the two that is taken
 pub record WholeOrAbsent (z : Sizes) (v : World) (b : Reference) : Type 0 where

@@ -14,10 +14,12 @@ use Rattle.moduli_text.specs.Text.{textRow, moduliIn}
 use Rattle.state.specs.declared.State.{State}
 use Rattle.state.specs.declared.Writers.{Writers}
 use Rattle.state.specs.declared.Op.{Op}
-use Rattle.state.specs.declared.Op.the-variants.{Idle, Write, Commit, Consolidate, Checkpoint, Event, Prepare, Confirm}
+use Rattle.state.specs.declared.Op.the-variants.{Idle, Write, Commit, Consolidate, Checkpoint, Event, Prepare, Confirm, Log, Copy}
 use Rattle.state.specs.Held.{isOpen, noWriter, somePrepared}
-use Rattle.operations.specs.Operations.{isIdle, slotFor, frameBad, journalFull, writeRows, commitRows, confirmRows, consolidateRows, needs, eventNextRows}
+use Rattle.state.specs.Wide.{someWide, isWide, begunWide, dropped, entryFor, hasEntry, someOpen}
+use Rattle.operations.specs.Operations.{isIdle, slotFor, frameBad, journalFull, writeRows, logRows, commitRows, prepareRows, confirmRows, consolidateRows, needs, eventNextRows}
 use Rattle.validity.specs.Validity.{stateOk}
+use Rattle.refinement.specs.Wide.{entryBytes}
 use Rattle.refinement.specs.Settled.{withPrepared, withLines}
 use Rattle.refinement.specs.Commit.{closedWriter}
 use Rattle.refinement.specs.Frames.{pageFrame, seenFrame, holds}
@@ -25,7 +27,7 @@ use Rattle.refinement.specs.Recall.{frameOf}
 use Rattle.refinement.specs.Freeing.{freedSlot, freedPage}
 use Rattle.refinement.specs.Stores.{World, completed, stepped, steppedBy, left}
 use Rattle.refinement.specs.Outcome.{Outcome, answered}
-pub use Rattle.refinement.specs.Settled.{withWriters, withPending}
+pub use Rattle.refinement.specs.Settled.{withWriters, withWide, withPending}
 
 -- 8: a state that breaks the rules; 4: a short buffer; 9, 10: an operation is pending, none is
 abbrev pub rowState : State → Row
@@ -50,12 +52,23 @@ busyRows st n = rowState st ∷ rowShort st n ∷ rowNotPending st ∷ []
 
 -- ---- begin, abort
 
+-- 29: a wide transaction is open
 abbrev pub beginRows : State → ℕ → List Row
-beginRows st w = rowState st ∷ rowPending st ∷ (ltb 3 w, 11) ∷ (isOpen (st .writers .opened) w, 12) ∷ []
+beginRows st w = rowState st ∷ rowPending st ∷ (ltb 3 w, 11) ∷ (someWide (st .wide .writer), 29) ∷ (isOpen (st .writers .opened) w, 12) ∷ []
 
 unfoldable pub beginOf : State → ℕ → Outcome
 beginOf st w =
     answered (refusal (beginRows st w)) st 0 (withWriters st (record { opened = set (st .writers .opened) w true; held = st .writers .held; prepared = st .writers .prepared }))
+
+-- a wide transaction (document 02, L14). 28: there are no entries; 29: a writer is open
+abbrev pub beginWideRows : State → ℕ → List Row
+beginWideRows st w =
+    rowState st ∷ rowPending st ∷ (ltb 3 w, 11) ∷ (eqb (st .sizes .entries) 0, 28) ∷ (someOpen (st .writers .opened), 29) ∷ []
+
+unfoldable pub beginWideOf : State → ℕ → Outcome
+beginWideOf st w =
+    answered (refusal (beginWideRows st w)) st 0
+    (withWide (withWriters st (record { opened = set (st .writers .opened) w true; held = st .writers .held; prepared = st .writers .prepared })) (begunWide w))
 
 -- 23: the writer is prepared
 abbrev pub abortRows : State → ℕ → List Row
@@ -63,7 +76,8 @@ abortRows st w =
     rowState st ∷ rowPending st ∷ (ltb 3 w, 11) ∷ (not (isOpen (st .writers .opened) w), 13) ∷ (eqb (st .writers .prepared) w, 23) ∷ []
 
 unfoldable pub abortOf : State → ℕ → Outcome
-abortOf st w = answered (refusal (abortRows st w)) st 0 (withWriters st (closedWriter (st .sizes) (st .writers) w))
+abortOf st w =
+    answered (refusal (abortRows st w)) st 0 (withWide (withWriters st (closedWriter (st .sizes) (st .writers) w)) (dropped (st .wide) w))
 
 -- ---- operations asked for: complete where no store is needed, else pending
 
@@ -71,37 +85,53 @@ abbrev pub asked : ℕ → State → Op → List ℕ → ℕ → Outcome
 asked row st op line frame =
     answered row st (needs st op) (cond (eqb (needs st op) 0) (completed st op) (withPending st op line frame))
 
--- the line as the writer reads it, and with the data's first n bytes laid over
+-- the line as the writer reads it, a wide writer its own entry first; and with the data's first n bytes laid over
 abbrev pub seenLine : State → List ℕ → ℕ → ℕ → ℕ → List ℕ
-seenLine st img w p l = lineBytes img (st .sizes) (seenFrame st w p l (pageFrame st img p)) l
+seenLine st img w p l =
+    cond (isWide (st .wide) w && hasEntry (st .wide) p l) (entryBytes img (st .sizes) (entryFor (st .wide) p l))
+    (lineBytes img (st .sizes) (seenFrame st w p l (pageFrame st img p)) l)
 
 abbrev pub finishedLine : State → List ℕ → ℕ → ℕ → ℕ → ℕ → ℕ → List ℕ → List ℕ
 finishedLine st img w p l o n bytes = lineWords (merged (seenLine st img w p l) o n bytes)
 
 abbrev pub writeCallRows : State → List ℕ → ℕ → ℕ → ℕ → ℕ → ℕ → List ℕ → List Row
 writeCallRows st img w p l o n bytes =
-    rowState st ∷ rowShort st (length img) ∷ rowPending st ∷ (ltb (length bytes) n, 11) ∷ writeRows st w p l o n (pageFrame st img p)
+    rowState st ∷ rowShort st (length img) ∷ rowPending st ∷ (ltb (length bytes) n, 11)
+    ∷ cond (isWide (st .wide) w) (logRows st p l o n (pageFrame st img p)) (writeRows st w p l o n (pageFrame st img p))
 
--- the writer holds the line and the data change none of its bytes (document 02, L3)
+-- the writer holds the line, a wide one as an entry, and the data change none of its bytes (document 02, L3)
 unfoldable pub changesNothing : State → List ℕ → ℕ → ℕ → ℕ → ℕ → ℕ → List ℕ → Bool
-changesNothing st img w p l o n bytes = holds st w p l && not (mergeChanges (seenLine st img w p l) o n bytes)
+changesNothing st img w p l o n bytes =
+    cond (isWide (st .wide) w) (hasEntry (st .wide) p l) (holds st w p l) && not (mergeChanges (seenLine st img w p l) o n bytes)
 
--- then the write is taken with no stores, and the state is as it was: the line is held and its page has a slot; else 8 stores are pending
+-- a wide writer's write is one of its own kind
+abbrev pub writeOp : State → ℕ → ℕ → ℕ → ℕ → ℕ → Op
+writeOp st w p l o n = cond (isWide (st .wide) w) (Log p l o n) (Write w p l o n)
+
+-- where nothing changes the write is taken with no stores, and the state is as it was: the line is held and its page has a slot, or it has its entry; else
+-- 8 stores are pending, a wide writer's 9
 unfoldable pub writeOf : State → List ℕ → ℕ → ℕ → ℕ → ℕ → ℕ → List ℕ → Outcome
 writeOf st img w p l o n bytes =
     let idle = changesNothing st img w p l o n bytes in
-    answered (refusal (writeCallRows st img w p l o n bytes)) st (cond idle 0 8)
-    (cond idle st (withPending st (Write w p l o n) (finishedLine st img w p l o n bytes) (pageFrame st img p)))
+    answered (refusal (writeCallRows st img w p l o n bytes)) st (cond idle 0 (cond (isWide (st .wide) w) 9 8))
+    (cond idle st (withPending st (writeOp st w p l o n) (finishedLine st img w p l o n bytes) (pageFrame st img p)))
 
 abbrev pub commitCallRows : State → List ℕ → ℕ → List Row
 commitCallRows st img w = rowState st ∷ rowShort st (length img) ∷ rowPending st ∷ commitRows st w
 
+-- a wide writer's is a copying
+abbrev pub commitOp : State → ℕ → Op
+commitOp st w = cond (isWide (st .wide) w) Copy (Commit w)
+
 unfoldable pub commitOf : State → List ℕ → ℕ → Outcome
-commitOf st img w = asked (refusal (commitCallRows st img w)) st (Commit w) (replicate 8 0) 0
+commitOf st img w = asked (refusal (commitCallRows st img w)) st (commitOp st w) (replicate 8 0) 0
 
 -- prepare, confirm and withdraw (document 02, L8): a commit in two parts. A withdraw needs no stores: no writer is prepared, and the transaction goes on
+abbrev pub prepareCallRows : State → List ℕ → ℕ → List Row
+prepareCallRows st img w = rowState st ∷ rowShort st (length img) ∷ rowPending st ∷ prepareRows st w
+
 unfoldable pub prepareOf : State → List ℕ → ℕ → Outcome
-prepareOf st img w = asked (refusal (commitCallRows st img w)) st (Prepare w) (replicate 8 0) 0
+prepareOf st img w = asked (refusal (prepareCallRows st img w)) st (Prepare w) (replicate 8 0) 0
 
 abbrev pub confirmCallRows : State → List ℕ → ℕ → List Row
 confirmCallRows st img w = rowState st ∷ rowShort st (length img) ∷ rowPending st ∷ confirmRows st w
@@ -155,10 +185,11 @@ abbrev pub eventSecond : State → List ℕ → List ℕ → ℕ → ℕ → ℕ
 eventSecond st img ms k m a =
     cond (movesCredit k) (meterLine st img (ownMeter k m) (rolled ms (ownMeter k m) (meterIn st img (ownMeter k m)) a)) (replicate 8 0)
 
--- 20, 26 (not 24 moduli in the range), 12, 23, 14, 15, 16, then 21, then 19
+-- 29, 20, 26 (not 24 moduli in the range), 12, 23, 14, 15, 16, then 21, then 19
 abbrev pub eventCallRows : State → List ℕ → List ℕ → ℕ → ℕ → ℕ → List Row
 eventCallRows st img ms k m a =
     rowState st ∷ rowShort st (length img) ∷ rowPending st
+    ∷ (someWide (st .wide .writer), 29)
     ∷ (not (eventKnown k m), 20)
     ∷ (not (moduliOk ms), 26)
     ∷ (eventNextRows st k m (pageFrame st img 0) ++ ((amountBad ms k m (meterIn st img (firstMeter k m)) a, 21) ∷ (journalFull st 1, 19) ∷ []))

@@ -34,6 +34,10 @@ committedFrame t l = cond (inMask (t .bitmap) l) (t .spare) (t .original)
 abbrev pub otherFrame : Slot → ℕ → ℕ
 otherFrame t l = cond (inMask (t .bitmap) l) (t .original) (t .spare)
 
+-- the frame with the committed copy of line l of page p, page-table words read through r
+abbrev pub frameOf : (ℕ → ℕ) → Sizes → Table → ℕ → ℕ → ℕ
+frameOf r z t p l = cond (ltb (slotOf z t p) (z .slots)) (committedFrame (slotIn t (slotOf z t p)) l) (r (pageWord p))
+
 -- page p's frame, s being its slot, S where it has none: a slotted page's original, else its page-table word
 abbrev pub frameAt : Sizes → List ℕ → List ℕ → ℕ → ℕ → ℕ
 frameAt z original img p s = cond (ltb s (z .slots)) (getD original s 0) (word img (pageWord p))

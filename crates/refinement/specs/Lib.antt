@@ -5,6 +5,7 @@ pub mod Commit
 pub mod Consolidate
 pub mod Checkpoint
 pub mod Event
+pub mod Wide
 pub mod Stores
 pub mod Outcome
 pub mod Freeing

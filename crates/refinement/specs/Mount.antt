@@ -1,4 +1,5 @@
--- Format and mount: the state that they return. No writer is open or prepared, next slot is 0, nothing is pending.
+-- Format and mount: the state that they return. No writer is open or prepared, next slot is 0. Nothing is pending; but where a mount finds entries that
+-- are counted, their copying is, from the first entry on, with the store of their count made and without a writer (document 02, L14).
 use Prim.Native.Nat.{ℕ}
 use mathlib.Core.Bool.{Bool, false, cond}
 use mathlib.Core.List.{List}
@@ -8,11 +9,14 @@ use Rattle.layout.specs.declared.Sizes.{Sizes}
 use Rattle.replay.specs.declared.Table.{Table}
 use Rattle.mount.specs.declared.Mounted.{Mounted}
 use Rattle.fresh.specs.Fresh.{freshTable, formatRow}
-use Rattle.mount.specs.Mount.{mountOf}
+use Rattle.mount.specs.Mount.{noSizes, mountOf}
 use Rattle.replay.specs.Table.{emptyTable}
 use Rattle.state.specs.declared.State.{State}
 use Rattle.state.specs.declared.Writers.{Writers}
+use Rattle.state.specs.declared.Pending.{Pending}
+use Rattle.state.specs.declared.Op.the-variants.{Copy}
 use Rattle.state.specs.Held.{noWriter}
+use Rattle.state.specs.Wide.{wideOf, noWide}
 use Rattle.refinement.specs.Settled.{noPending}
 use Rattle.refinement.specs.Outcome.{Outcome, answered}
 
@@ -21,14 +25,23 @@ allClosed = record { opened = replicate 4 false; held = replicate 64 0; prepared
 
 abbrev pub quietState : Sizes → ℕ → ℕ → Table → State
 quietState z head tail t =
-    record { sizes = z; head = head; tail = tail; next = 0; table = t; writers = allClosed; pending = noPending }
+    record { sizes = z; head = head; tail = tail; next = 0; table = t; writers = allClosed; wide = noWide; pending = noPending }
+
+-- with a wide commit of n entries pending
+abbrev pub copying : Pending
+copying = record { op = Copy; made = 1; line = replicate 8 0; second = replicate 8 0; frame = 0 }
+
+abbrev pub copyingState : Sizes → ℕ → ℕ → Table → ℕ → List ℕ → State
+copyingState z head tail t n keys =
+    record { sizes = z; head = head; tail = tail; next = 0; table = t; writers = allClosed; wide = wideOf noWriter n keys; pending = copying }
 
 -- what a refused format or mount returns: a state with nothing in it, which row 8 turns back
 abbrev pub noState : State
-noState = quietState (record { pages = 0; slots = 0; places = 0 }) 0 0 emptyTable
+noState = quietState noSizes 0 0 emptyTable
 
 abbrev pub mountedState : Mounted → State
-mountedState m = quietState (m .sizes) (m .head) (m .tail) (m .table)
+mountedState m =
+    cond (eqb (m .count) 0) (quietState (m .sizes) (m .head) (m .tail) (m .table)) (copyingState (m .sizes) (m .head) (m .tail) (m .table) (m .count) (m .keys))
 
 unfoldable pub mountCall : List ℕ → Outcome
 mountCall img = let m = mountOf img in answered (m .row) noState 0 (mountedState m)

@@ -4,7 +4,7 @@ use mathlib.Core.List.{List, []}
 use mathlib.Core.Path.{_≡_}
 use lib.ListN.{replicate}
 use Rattle.refinement.specs.Stores.{World}
-use Rattle.refinement.specs.Run.{Call, Result, mount, checkpoint, free, step, begin, abort, commit, prepare, confirm, withdraw, consolidate, run, write, read, recall, event, load, exec}
+use Rattle.refinement.specs.Run.{Call, Result, mount, checkpoint, free, step, begin, beginWide, abort, commit, prepare, confirm, withdraw, consolidate, run, write, read, recall, event, load, exec}
 
 -- the target that a read or a recall is lent, and of a load the moduli that a refused one gives; no other call has one
 abbrev pub targetOf : Call → List ℕ
@@ -15,6 +15,7 @@ targetOf checkpoint = []
 targetOf free = []
 targetOf step = []
 targetOf (begin w) = []
+targetOf (beginWide w) = []
 targetOf (abort w) = []
 targetOf (commit w) = []
 targetOf (prepare w) = []

@@ -8,14 +8,14 @@ use Rattle.fresh.specs.Fresh.{formatBytes}
 use Rattle.state.specs.declared.State.{State}
 use Rattle.refinement.specs.Stores.{World}
 use Rattle.refinement.specs.Outcome.{Outcome}
-use Rattle.refinement.specs.Calls.{beginOf, abortOf, writeOf, commitOf, prepareOf, confirmOf, withdrawOf, consolidateOf, freeOf, checkpointOf, readRow, readBytes, stepOf, stepBytes, runOf, runBytes, eventOf, loadOf}
+use Rattle.refinement.specs.Calls.{beginOf, beginWideOf, abortOf, writeOf, commitOf, prepareOf, confirmOf, withdrawOf, consolidateOf, freeOf, checkpointOf, readRow, readBytes, stepOf, stepBytes, runOf, runBytes, eventOf, loadOf}
 use Rattle.refinement.specs.Mount.{mountCall, formatCall}
 use Rattle.refinement.specs.Recall.{recallRow, recallBytes}
 
 -- the calls that may follow a taken format
 pub data Call : Type 0 where
   mount checkpoint free step : Call
-  begin abort commit prepare confirm withdraw consolidate run : ℕ → Call
+  begin beginWide abort commit prepare confirm withdraw consolidate run : ℕ → Call
   -- writer, page, line, offset, length, data
   write : ℕ → ℕ → ℕ → ℕ → ℕ → List ℕ → Call
   -- writer, page, line, the target's bytes
@@ -48,6 +48,7 @@ exec checkpoint v = result (checkpointOf (v .st) (v .image)) (v .image)
 exec free v = result (freeOf (v .st) (v .image)) (v .image)
 exec step v = result (stepOf (v .st) (v .image)) (stepBytes (v .st) (v .image))
 exec (begin w) v = result (beginOf (v .st) w) (v .image)
+exec (beginWide w) v = result (beginWideOf (v .st) w) (v .image)
 exec (abort w) v = result (abortOf (v .st) w) (v .image)
 exec (commit w) v = result (commitOf (v .st) (v .image) w) (v .image)
 exec (prepare w) v = result (prepareOf (v .st) (v .image) w) (v .image)

@@ -7,6 +7,7 @@ use Rattle.replay.specs.declared.Table.{Table}
 use Rattle.state.specs.declared.State.{State}
 use Rattle.state.specs.declared.Writers.{Writers}
 use Rattle.state.specs.declared.Pending.{Pending}
+use Rattle.state.specs.declared.Wide.{Wide}
 use Rattle.state.specs.declared.Op.{Op}
 use Rattle.state.specs.declared.Op.the-variants.{Idle}
 
@@ -17,12 +18,17 @@ noPending = record { op = Idle; made = 0; line = replicate 8 0; second = replica
 -- the state with other head, tail, next slot, slots and writers, and no operation pending
 abbrev pub settled : State → ℕ → ℕ → ℕ → Table → Writers → State
 settled st head tail next t ws =
-    record { sizes = st .sizes; head = head; tail = tail; next = next; table = t; writers = ws; pending = noPending }
+    record { sizes = st .sizes; head = head; tail = tail; next = next; table = t; writers = ws; wide = st .wide; pending = noPending }
 
 -- the state with writers ws
 abbrev pub withWriters : State → Writers → State
 withWriters st ws =
-    record { sizes = st .sizes; head = st .head; tail = st .tail; next = st .next; table = st .table; writers = ws; pending = st .pending }
+    record { sizes = st .sizes; head = st .head; tail = st .tail; next = st .next; table = st .table; writers = ws; wide = st .wide; pending = st .pending }
+
+-- the state with the wide transaction d
+abbrev pub withWide : State → Wide → State
+withWide st d =
+    record { sizes = st .sizes; head = st .head; tail = st .tail; next = st .next; table = st .table; writers = st .writers; wide = d; pending = st .pending }
 
 -- the writers with writer w prepared
 abbrev pub withPrepared : Writers → ℕ → Writers
@@ -36,7 +42,7 @@ withOpen st w =
 -- the state with an operation pending, none of its stores made; with two finished lines, and with one
 abbrev pub withLines : State → Op → List ℕ → List ℕ → ℕ → State
 withLines st op line second frame =
-    record { sizes = st .sizes; head = st .head; tail = st .tail; next = st .next; table = st .table; writers = st .writers; pending = record { op = op; made = 0; line = line; second = second; frame = frame } }
+    record { sizes = st .sizes; head = st .head; tail = st .tail; next = st .next; table = st .table; writers = st .writers; wide = st .wide; pending = record { op = op; made = 0; line = line; second = second; frame = frame } }
 
 abbrev pub withPending : State → Op → List ℕ → ℕ → State
 withPending st op line frame = withLines st op line (replicate 8 0) frame

@@ -11,7 +11,7 @@ use Rattle.layout.specs.Layout.{sizesOk, imageLength}
 use Rattle.words.specs.Words.{Bytes, over}
 use Rattle.meters.specs.Meters.{modulusOf}
 use Rattle.refinement.specs.Stores.{World}
-use Rattle.refinement.specs.Run.{Call, Result, mount, checkpoint, free, step, begin, abort, commit, prepare, confirm, withdraw, consolidate, run, write, read, recall, exec, formattedWorld, event, load}
+use Rattle.refinement.specs.Run.{Call, Result, mount, checkpoint, free, step, begin, beginWide, abort, commit, prepare, confirm, withdraw, consolidate, run, write, read, recall, exec, formattedWorld, event, load}
 use Rattle.refinement.specs.Reference.{Reference, blank, turn, readLine, recallLine, meterOn}
 
 -- what one call must answer, b being the reference machine before it:
@@ -28,6 +28,7 @@ Right checkpoint d b = Unit
 Right free d b = Unit
 Right step d b = Unit
 Right (begin w) d b = Unit
+Right (beginWide w) d b = Unit
 Right (abort w) d b = Unit
 Right (commit w) d b = Unit
 Right (prepare w) d b = Unit
@@ -47,6 +48,7 @@ Lent checkpoint = Unit
 Lent free = Unit
 Lent step = Unit
 Lent (begin w) = Unit
+Lent (beginWide w) = Unit
 Lent (abort w) = Unit
 Lent (commit w) = Unit
 Lent (prepare w) = Unit

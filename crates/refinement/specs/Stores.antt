@@ -9,7 +9,7 @@ use Rattle.layout.specs.Layout.{headWord}
 use Rattle.journal.specs.Records.{position}
 use Rattle.state.specs.declared.State.{State}
 use Rattle.state.specs.declared.Op.{Op}
-use Rattle.state.specs.declared.Op.the-variants.{Idle, Write, Commit, Consolidate, Checkpoint, Event, Prepare, Confirm}
+use Rattle.state.specs.declared.Op.the-variants.{Idle, Write, Commit, Consolidate, Checkpoint, Event, Prepare, Confirm, Log, Copy}
 use Rattle.operations.specs.Operations.{needs}
 use Rattle.refinement.specs.Settled.{settled}
 use Rattle.refinement.specs.Write.{writeAt, writeValue, writeDone}
@@ -17,17 +17,20 @@ use Rattle.refinement.specs.Commit.{commitAt, commitValue, commitHead, c
 use Rattle.refinement.specs.Consolidate.{consolidateAt, consolidateValue, consolidateTable}
 use Rattle.refinement.specs.Checkpoint.{checkpointAt, checkpointValue, withoutLasts}
 use Rattle.refinement.specs.Event.{eventAt, eventValue, eventDone}
+use Rattle.refinement.specs.Wide.{logAt, logValue, logDone, copyAt, copyValue, copyDone}
 
--- the word that store i goes to, and its value
-abbrev pub storeAt : State → Op → ℕ → ℕ
-storeAt st Idle i = 0
-storeAt st (Write w p l o n) i = writeAt st p l i
-storeAt st (Commit w) i = commitAt st w i
-storeAt st (Consolidate p) i = consolidateAt st p i
-storeAt st Checkpoint i = checkpointAt st i
-storeAt st (Event k m a) i = eventAt st k m i
-storeAt st (Prepare w) i = commitAt st w i
-storeAt st (Confirm w) i = headWord
+-- the word that store i goes to, and its value; of a wide commit the word, too, is found in the image as it then is
+abbrev pub storeAt : State → List ℕ → Op → ℕ → ℕ
+storeAt st img Idle i = 0
+storeAt st img (Write w p l o n) i = writeAt st p l i
+storeAt st img (Commit w) i = commitAt st w i
+storeAt st img (Consolidate p) i = consolidateAt st p i
+storeAt st img Checkpoint i = checkpointAt st i
+storeAt st img (Event k m a) i = eventAt st k m i
+storeAt st img (Prepare w) i = commitAt st w i
+storeAt st img (Confirm w) i = headWord
+storeAt st img (Log p l o n) i = logAt st p l i
+storeAt st img Copy i = copyAt st img i
 
 abbrev pub storeValue : State → List ℕ → Op → ℕ → ℕ
 storeValue st img Idle i = 0
@@ -38,10 +41,12 @@ storeValue st img Checkpoint i = checkpointValue st img i
 storeValue st img (Event k m a) i = eventValue st k m i
 storeValue st img (Prepare w) i = commitValue st w i
 storeValue st img (Confirm w) i = commitHead st w
+storeValue st img (Log p l o n) i = logValue st p l i
+storeValue st img Copy i = copyValue st img i
 
 -- the image after store i
 abbrev pub storeMade : State → List ℕ → Op → ℕ → List ℕ
-storeMade st img op i = store img (storeAt st op i) (storeValue st img op i)
+storeMade st img op i = store img (storeAt st img op i) (storeValue st img op i)
 
 -- the image after the next n stores of the pending operation
 abbrev pub storesMade : State → ℕ → List ℕ → List ℕ
@@ -57,11 +62,13 @@ completed st Checkpoint = settled st (st .head) (st .head) (st .next) (withoutLa
 completed st (Event k m a) = eventDone st k m
 completed st (Prepare w) = prepareDone st w
 completed st (Confirm w) = commitDone st w
+completed st (Log p l o n) = logDone st p l
+completed st Copy = copyDone st
 
 -- the state with m stores made
 abbrev pub withMade : State → ℕ → State
 withMade st m =
-    record { sizes = st .sizes; head = st .head; tail = st .tail; next = st .next; table = st .table; writers = st .writers; pending = record { op = st .pending .op; made = m; line = st .pending .line; second = st .pending .second; frame = st .pending .frame } }
+    record { sizes = st .sizes; head = st .head; tail = st .tail; next = st .next; table = st .table; writers = st .writers; wide = st .wide; pending = record { op = st .pending .op; made = m; line = st .pending .line; second = st .pending .second; frame = st .pending .frame } }
 
 -- the state after the next n stores of the pending operation: with the last of them it is complete
 abbrev pub stateAfter : State → ℕ → State

@@ -12,8 +12,8 @@ use Rattle.layout.specs.declared.Sizes.{Sizes}
 use Rattle.layout.specs.Layout.{sizesOk, imageLength}
 use Rattle.meters.specs.Meters.{modulusOf, fixedModulus, fixedModuli, ownMeter}
 use Rattle.refinement.specs.Stores.{World}
-use Rattle.refinement.specs.Run.{Call, Result, mount, checkpoint, free, step, begin, abort, commit, prepare, confirm, withdraw, consolidate, run, write, read, recall, event, load, exec, formattedWorld, after}
-use Rattle.refinement.specs.Reference.{Reference, Work, idle, under, writing, committing, moving, nothing, blank, turn}
+use Rattle.refinement.specs.Run.{Call, Result, mount, checkpoint, free, step, begin, beginWide, abort, commit, prepare, confirm, withdraw, consolidate, run, write, read, recall, event, load, exec, formattedWorld, after}
+use Rattle.refinement.specs.Reference.{Reference, Work, idle, under, copying, writing, committing, moving, nothing, blank, turn}
 use Rattle.refinement.specs.Statement.{AllLent}
 use Rattle.refinement.specs.Beside.{lineOf}
 
@@ -29,6 +29,7 @@ finishes k idle = []
 finishes k (under (moving ms e m a) left) = cond (leb left k) (record { kind = e; meter = m; amount = a } ∷ []) []
 finishes k (under (writing w p l o n bytes) left) = []
 finishes k (under (committing w) left) = []
+finishes k (copying w left) = []
 finishes k (under nothing left) = []
 
 -- the event that a call with this answer completes, if it does: a taken step makes one store, a taken run at most k
@@ -41,6 +42,7 @@ completes mount n b = []
 completes checkpoint n b = []
 completes free n b = []
 completes (begin w) n b = []
+completes (beginWide w) n b = []
 completes (abort w) n b = []
 completes (commit w) n b = []
 completes (prepare w) n b = []
@@ -71,6 +73,7 @@ Spares checkpoint n = Unit
 Spares free n = Unit
 Spares step n = Unit
 Spares (begin w) n = Unit
+Spares (beginWide w) n = Unit
 Spares (abort w) n = Unit
 Spares (commit w) n = Unit
 Spares (prepare w) n = Unit
@@ -97,6 +100,7 @@ loads checkpoint n = false
 loads free n = false
 loads step n = false
 loads (begin w) n = false
+loads (beginWide w) n = false
 loads (abort w) n = false
 loads (commit w) n = false
 loads (prepare w) n = false
@@ -148,6 +152,7 @@ Lends checkpoint n ms = Unit
 Lends free n ms = Unit
 Lends step n ms = Unit
 Lends (begin w) n ms = Unit
+Lends (beginWide w) n ms = Unit
 Lends (abort w) n ms = Unit
 Lends (commit w) n ms = Unit
 Lends (prepare w) n ms = Unit

@@ -162,6 +162,7 @@ pub fn rounds(image: &mut [u8; 84288], n: usize, stay: usize) -> Played {
         pages: 16,
         slots: 4,
         places: 64,
+        entries: 0,
     };
     let done = mounting::format(image, z);
     let fresh = done.state;

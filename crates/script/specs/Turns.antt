@@ -25,7 +25,7 @@ use Rattle.executing.specs.declared.Turned.{Turned}
 use Rattle.executing.specs.Called.{Turn, turn, ready, callOf, finished}
 
 abbrev pub sizesIn : List ℕ → Sizes
-sizesIn numbers = record { pages = num numbers 0; slots = num numbers 1; places = num numbers 2 }
+sizesIn numbers = record { pages = num numbers 0; slots = num numbers 1; places = num numbers 2; entries = 0 }
 
 -- F: after a refused format the state stays; a K stays after any
 unfoldable pub formats : Machine → List ℕ → Sizes → Turn

@@ -19,6 +19,7 @@ pub fn start() -> Machine
         pages: 0,
         slots: 0,
         places: 0,
+        entries: 0,
     };
     let writers = Writers {
         opened: [false; 4],

@@ -20,6 +20,7 @@ fn sizes_in(numbers: &[u64; 69]) -> Sizes
         pages: numbers[0] as usize,
         slots: numbers[1] as usize,
         places: numbers[2] as usize,
+        entries: 0,
     }
 }
 

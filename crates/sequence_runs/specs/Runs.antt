@@ -12,7 +12,7 @@ use Rattle.sequence_runs.specs.Calls.{callOf}
 
 -- P = S = J = 1
 abbrev pub small : Sizes
-small = record { pages = 1; slots = 1; places = 1 }
+small = record { pages = 1; slots = 1; places = 1; entries = 0 }
 
 -- a fresh image, and nothing past it
 unfoldable pub freshWorld : World

@@ -43,6 +43,7 @@ pub fn play(numbers: &[u64], k: usize, answers: &mut [u64]) -> Played
         pages: 1,
         slots: 1,
         places: 1,
+        entries: 0,
     };
     let fresh = mounting::format(&mut image, sizes);
     let needed = turns::perform(fresh.state, &mut image, numbers, k, answers);

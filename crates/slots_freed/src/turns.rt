@@ -12,6 +12,7 @@ pub fn play(image: &mut [u8]) {
         pages: 6,
         slots: 4,
         places: 6,
+        entries: 0,
     };
     let mut st = mounting::format(image, z).state;
     let mut sum = 0;

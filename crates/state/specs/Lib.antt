@@ -1,3 +1,4 @@
 pub mod Slots
 pub mod Held
+pub mod Wide
 pub mod Parts

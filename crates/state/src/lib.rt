@@ -1,11 +1,12 @@
 // The state that the host keeps, its held lines and its slots.
+pub mod beside;
 pub mod held;
 pub mod slots;
 
 use layout::Sizes;
 use replay::Table;
 
-// An operation that has been asked for, with its arguments.
+// An operation that has been asked for, with its arguments. `Log` and `Copy` are the wide writer's write and commit.
 pub enum Op {
     Idle,
     Write {
@@ -33,6 +34,13 @@ pub enum Op {
     Confirm {
         writer: usize,
     },
+    Log {
+        page: usize,
+        line: usize,
+        offset: usize,
+        length: usize,
+    },
+    Copy,
 }
 
 // Four writers: open or not, the lines that each holds of each slot, at 16 × writer + slot, and the one that is prepared: 4, or any number above 3, is none.
@@ -40,6 +48,13 @@ pub struct Writers {
     pub opened: [bool; 4],
     pub held: [u64; 64],
     pub prepared: usize,
+}
+
+// A wide transaction: its writer, how many entries it uses, and their keys, page × 64 + line. A writer above 3 is none.
+pub struct Wide {
+    pub writer: usize,
+    pub count: usize,
+    pub keys: [u64; 64],
 }
 
 // The pending operation, how many of its stores are made, and for a write the finished line's words and the page's
@@ -59,5 +74,6 @@ pub struct State {
     pub next: usize,
     pub table: Table,
     pub writers: Writers,
+    pub wide: Wide,
     pub pending: Pending,
 }

@@ -21,7 +21,7 @@ newest f k v old = cond (eqb f k) v old
 abbrev pub withHeader : State → ℕ → ℕ → State
 withHeader st f v =
     record {
-      sizes = record { pages = newest f 0 v (st .sizes .pages); slots = newest f 1 v (st .sizes .slots); places = newest f 2 v (st .sizes .places) };
+      sizes = record { pages = newest f 0 v (st .sizes .pages); slots = newest f 1 v (st .sizes .slots); places = newest f 2 v (st .sizes .places); entries = st .sizes .entries };
       head = newest f 3 v (st .head);
       tail = newest f 4 v (st .tail);
       next = newest f 5 v (st .next);

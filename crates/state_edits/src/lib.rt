@@ -25,6 +25,7 @@ fn with_header(st: State, f: usize, v: usize) -> State
         pages: newest(f, 0, v, z.pages),
         slots: newest(f, 1, v, z.slots),
         places: newest(f, 2, v, z.places),
+        entries: z.entries,
     };
     let mut next = st;
     next.sizes = sizes;

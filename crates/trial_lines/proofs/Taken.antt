@@ -16,7 +16,7 @@ use Rattle.trials.specs.declared.Spent.{Spent}
 use Rattle.trials.specs.Trials.{Tried, formatted, asAbandoned, played}
 use Rattle.trial_lines.specs.Lines.{Work, first, sizesOf, withSetting, withRound, acted, spentText}
 
-pub first-told : (t : Tried) (img : List ℕ) → t ≡ formatted (record { pages = 0; slots = 0; places = 0 }) img
+pub first-told : (t : Tried) (img : List ℕ) → t ≡ formatted (record { pages = 0; slots = 0; places = 0; entries = 0 }) img
     → record { tried = t; lines = 0; set = false } ≡ first img
 unfolding first
 first-told t img e = rw e

@@ -27,7 +27,7 @@ workOf s img = record { tried = trialOf (s .trial) img; lines = s .lines; set = 
 
 -- before the first line there is no store: sizes 0 are none that format takes
 unfoldable pub first : List ℕ → Work
-first img = record { tried = formatted (record { pages = 0; slots = 0; places = 0 }) img; lines = 0; set = false }
+first img = record { tried = formatted (record { pages = 0; slots = 0; places = 0; entries = 0 }) img; lines = 0; set = false }
 
 -- a line's numbers, as powerhit reads them after a letter and a comma; a line of another form has none
 abbrev pub prefixed : List ℕ → List ℕ
@@ -39,7 +39,7 @@ numbersOf line = parsed 9 (prefixed line)
 -- ---- a line of these numbers
 
 abbrev pub sizesOf : Line → Sizes
-sizesOf q = record { pages = getD (q .numbers) 0 0; slots = getD (q .numbers) 1 0; places = getD (q .numbers) 2 0 }
+sizesOf q = record { pages = getD (q .numbers) 0 0; slots = getD (q .numbers) 1 0; places = getD (q .numbers) 2 0; entries = 0 }
 
 -- the first: three numbers, which format takes in the buffer as it is
 unfoldable pub withSetting : Line → Work → Work

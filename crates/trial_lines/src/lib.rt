@@ -23,6 +23,7 @@ pub fn start(image: &mut [u8]) -> Session
         pages: 0,
         slots: 0,
         places: 0,
+        entries: 0,
     };
     let trial = trials::start(image, none);
     Session {
@@ -48,6 +49,7 @@ fn take_setting(s: Session, image: &mut [u8], text: &[u8]) -> Session
         pages: numbers[0] as usize,
         slots: numbers[1] as usize,
         places: numbers[2] as usize,
+        entries: 0,
     };
     let trial = trials::start(image, sizes);
     next.trial = trial;

@@ -1,6 +1,6 @@
 -- Row 8: what a state must keep, in document 01's order. No part of it reads the image.
 use Prim.Native.Nat.{ℕ, _*_}
-use mathlib.Core.Bool.{Bool, _&&_, _||_, not}
+use mathlib.Core.Bool.{Bool, true, _&&_, _||_, not}
 use mathlib.Core.List.{List}
 use lib.Dec.{ltb, eqb}
 use lib.ListN.{length, getD}
@@ -12,8 +12,11 @@ use Rattle.replay.specs.declared.Table.{Table}
 use Rattle.journal.specs.Records.{liveCount, positionsOk}
 use Rattle.replay.specs.Table.{noPosition, slotsShaped, pagesApart}
 use Rattle.state.specs.declared.State.{State}
+use Rattle.state.specs.declared.Op.{Op}
+use Rattle.state.specs.declared.Op.the-variants.{Idle, Write, Commit, Consolidate, Checkpoint, Event, Prepare, Confirm, Log, Copy}
 use Rattle.state.specs.Slots.{framesApart}
 use Rattle.state.specs.Held.{isOpen, somePrepared, heldSlots, heldOk}
+use Rattle.state.specs.Wide.{wideOk}
 use Rattle.operations.specs.Operations.{isIdle, journalFullOf, opRows, needs}
 
 -- the rules of rows 3, 5 and 7 for its slots (unslotted page words aside)
@@ -46,11 +49,25 @@ unfoldable pub preparedOk : Sizes → ℕ → ℕ → List Bool → List ℕ →
 preparedOk z head tail opened held prepared =
     not (somePrepared prepared) || (isOpen opened prepared && not (journalFullOf z head tail (length (heldSlots z held prepared))))
 
+-- a write or a commit by the wide writer is pending as a wide one (document 02, L14)
+abbrev pub opFits : ℕ → Op → Bool
+opFits wide (Write w p l o n) = not (eqb wide w)
+opFits wide Idle = true
+opFits wide (Commit w) = not (eqb wide w)
+opFits wide (Consolidate p) = true
+opFits wide Checkpoint = true
+opFits wide (Event k m a) = true
+opFits wide (Prepare w) = true
+opFits wide (Confirm w) = true
+opFits wide (Log p l o n) = true
+opFits wide Copy = true
+
 -- a pending call: fewer stores made than it needs, and no row from 11 on turns it back
 unfoldable pub pendingOk : State → Bool
 pendingOk st =
     isIdle (st .pending .op)
-    || (ltb (st .pending .made) (needs st (st .pending .op)) && eqb (refusal (opRows st (st .pending .op) (st .pending .frame))) 0)
+    || (opFits (st .wide .writer) (st .pending .op)
+    && (ltb (st .pending .made) (needs st (st .pending .op)) && eqb (refusal (opRows st (st .pending .op) (st .pending .frame))) 0))
 
 unfoldable pub stateOk : State → Bool
 stateOk st =
@@ -58,4 +75,5 @@ stateOk st =
     && (heldOk (st .sizes) (st .table .page) (st .writers .opened) (st .writers .held)
     && (ltb (st .next) (st .sizes .slots)
     && (lastsOk (st .sizes) (st .head) (st .tail) (st .table .last)
-    && (preparedOk (st .sizes) (st .head) (st .tail) (st .writers .opened) (st .writers .held) (st .writers .prepared) && pendingOk st))))
+    && (preparedOk (st .sizes) (st .head) (st .tail) (st .writers .opened) (st .writers .held) (st .writers .prepared)
+    && (wideOk (st .sizes) (st .writers .opened) (st .writers .held) (st .writers .prepared) (st .wide) && pendingOk st)))))

@@ -5,9 +5,11 @@ ghost use Rattle.layout.specs.Layout.{Legal};
 ghost use Rattle.journal.specs.Records.{liveCount};
 ghost use Rattle.replay.specs.Table.{slotsOfArrays};
 ghost use Rattle.state.specs.Parts.{stateOf};
+ghost use Rattle.state.specs.Wide.{wideOf};
 ghost use Rattle.operations.specs.Operations.{Ranged};
-ghost use Rattle.validity.specs.Validity.{slotsOk, isLiveOf, lastOkOf, lastsOk, preparedOk, pendingOk, stateOk};
+ghost use Rattle.validity.specs.Validity.{slotsOk, isLiveOf, lastOkOf, lastsOk, preparedOk, opFits, pendingOk, stateOk};
 use layout::Sizes;
+use state::Op;
 use state::Pending;
 
 // The rules of rows 3, 5 and 7 for the slots.
@@ -102,6 +104,39 @@ fn prepared_ok<'a>(
     !(z.places < journal::records::live_count(z, head, tail) + n)
 }
 
+// Whether a write or a commit that is pending is not one by the wide writer, whose are `Log` and `Copy`.
+fn op_fits(wide: usize, op: Op) -> bool
+    ensures { λ r. ⌜ r ≡ opFits wide op ⌝ }
+{
+    match op {
+        Op::Write {
+            writer,
+            page: _,
+            line: _,
+            offset: _,
+            length: _,
+        } => wide != writer,
+        Op::Idle => true,
+        Op::Commit { writer } => wide != writer,
+        Op::Consolidate { page: _ } => true,
+        Op::Checkpoint => true,
+        Op::Event {
+            kind: _,
+            meter: _,
+            amount: _,
+        } => true,
+        Op::Prepare { writer: _ } => true,
+        Op::Confirm { writer: _ } => true,
+        Op::Log {
+            page: _,
+            line: _,
+            offset: _,
+            length: _,
+        } => true,
+        Op::Copy => true,
+    }
+}
+
 // Whether the pending call, if there is one, has stores left and no row from 11 on turns it back.
 fn pending_ok<'a>(
     z: Sizes,
@@ -116,14 +151,20 @@ fn pending_ok<'a>(
     opened: &'a [bool; 4],
     held: &'a [u64; 64],
     prepared: usize,
+    wide: usize,
+    count: usize,
+    keys: &'a [u64; 64],
     pending: Pending,
 ) -> bool
-    requires { ⌜ Ranged (stateOf z head tail next (now page) (now original) (now spare) (now bitmap) (now last) (now opened) (now held) prepared pending) ⌝ }
-    ensures { λ r. ⌜ r ≡ pendingOk (stateOf z head tail next (now (page .entry)) (now (original .entry)) (now (spare .entry)) (now (bitmap .entry)) (now (last .entry)) (now (opened .entry)) (now (held .entry)) prepared pending) ⌝ }
+    requires { ⌜ Ranged (stateOf z head tail next (now page) (now original) (now spare) (now bitmap) (now last) (now opened) (now held) prepared (wideOf wide count (now keys)) pending) × (count ≤ 64) ⌝ }
+    ensures { λ r. ⌜ r ≡ pendingOk (stateOf z head tail next (now (page .entry)) (now (original .entry)) (now (spare .entry)) (now (bitmap .entry)) (now (last .entry)) (now (opened .entry)) (now (held .entry)) prepared (wideOf wide count (now (keys .entry))) pending) ⌝ }
 {
     let op = pending.op;
     if operations::is_idle(op) {
         return true;
+    }
+    if !op_fits(wide, op) {
+        return false;
     }
     let row = operations::op_row(
         z,
@@ -136,13 +177,16 @@ fn pending_ok<'a>(
         opened,
         held,
         prepared,
+        wide,
+        count,
+        keys,
         op,
         pending.frame,
     );
     if row != 0 {
         return false;
     }
-    pending.made < needs::op_needs(z, head, tail, page, bitmap, last, held, op)
+    pending.made < needs::op_needs(z, head, tail, page, bitmap, last, held, count, op)
 }
 
 // Whether the state with these parts keeps every rule of row 8.
@@ -159,9 +203,12 @@ pub fn state_ok<'a>(
     opened: &'a [bool; 4],
     held: &'a [u64; 64],
     prepared: usize,
+    wide: usize,
+    count: usize,
+    keys: &'a [u64; 64],
     pending: Pending,
 ) -> bool
-    ensures { λ r. ⌜ r ≡ stateOk (stateOf z head tail next (now (page .entry)) (now (original .entry)) (now (spare .entry)) (now (bitmap .entry)) (now (last .entry)) (now (opened .entry)) (now (held .entry)) prepared pending) ⌝ }
+    ensures { λ r. ⌜ r ≡ stateOk (stateOf z head tail next (now (page .entry)) (now (original .entry)) (now (spare .entry)) (now (bitmap .entry)) (now (last .entry)) (now (opened .entry)) (now (held .entry)) prepared (wideOf wide count (now (keys .entry))) pending) ⌝ }
 {
     if !slots_ok(z, head, tail, page, original, spare, bitmap) {
         return false;
@@ -178,6 +225,9 @@ pub fn state_ok<'a>(
     if !prepared_ok(z, head, tail, opened, held, prepared) {
         return false;
     }
+    if !state::beside::wide_ok(z, opened, held, prepared, wide, count, keys) {
+        return false;
+    }
     pending_ok(
         z,
         head,
@@ -191,6 +241,9 @@ pub fn state_ok<'a>(
         opened,
         held,
         prepared,
+        wide,
+        count,
+        keys,
         pending,
     )
 }

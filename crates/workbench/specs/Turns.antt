@@ -24,7 +24,7 @@ abbrev pub firstBench : Bench
 firstBench =
     record {
       st = record {
-        sizes = record { pages = 0; slots = 0; places = 0 };
+        sizes = record { pages = 0; slots = 0; places = 0; entries = 0 };
         head = 0;
         tail = 0;
         next = 0;

@@ -15,6 +15,7 @@ pub fn first_bench() -> Bench
         pages: 0,
         slots: 0,
         places: 0,
+        entries: 0,
     };
     let table = Table {
         page: [0; 16],

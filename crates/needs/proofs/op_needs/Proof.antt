@@ -9,24 +9,24 @@ use Rattle.needs.proofs.op_needs.Statement.{statement}
 use Rattle.needs.proofs.op_needs.Tie as tie
 
 -- the stores that an operation needs
-abbrev count : tie.Start → Op → ℕ
-count c op =
+abbrev stores : tie.Start → Op → ℕ
+stores c op =
     let a = c .args in
-    needsOf (a .z) (a .head) (a .tail) (a .page .now) (a .bitmap .now) (a .last .now) (a .held .now) op
+    needsOf (a .z) (a .head) (a .tail) (a .page .now) (a .bitmap .now) (a .last .now) (a .held .now) (a .count) op
 
 -- the slot of the page to consolidate
 slot-low : (c : tie.After-slot-of) → c .slot-of .result < c .before .before .before .before .args .z .slots
 slot-low c =
-    rw (c .slot-of .ensures) (subst (Asked (c .before .before .before .before .args .z) (c .before .before .before .before .args .page .now)) (c .before .before .op2 .given .1) (c .before .before .before .before .pre .1))
+    rw (c .slot-of .ensures) (subst (Asked (c .before .before .before .before .args .z) (c .before .before .before .before .args .page .now)) (c .before .before .op2 .given .1) (c .before .before .before .before .pre .2))
 
 held-count-requires : tie.Need-held-count-requires
-held-count-requires c κs = (c .before .before .before .pre .0, subst (Asked (c .before .before .before .args .z) (c .before .before .before .args .page .now)) (c .before .op .given .1) (c .before .before .before .pre .1))
+held-count-requires c κs = (c .before .before .before .pre .0, subst (Asked (c .before .before .before .args .z) (c .before .before .before .args .page .now)) (c .before .op .given .1) (c .before .before .before .pre .2))
 
 held-count-requires-2 : tie.Need-held-count-requires-2
-held-count-requires-2 c κs = (c .before .before .before .pre .0, subst (Asked (c .before .before .before .args .z) (c .before .before .before .args .page .now)) (c .before .op4 .given .1) (c .before .before .before .pre .1))
+held-count-requires-2 c κs = (c .before .before .before .pre .0, subst (Asked (c .before .before .before .args .z) (c .before .before .before .args .page .now)) (c .before .op4 .given .1) (c .before .before .before .pre .2))
 
 held-count-requires-3 : tie.Need-held-count-requires-3
-held-count-requires-3 c κs = (c .before .before .before .pre .0, subst (Asked (c .before .before .before .args .z) (c .before .before .before .args .page .now)) (c .before .op5 .given .1) (c .before .before .before .pre .1))
+held-count-requires-3 c κs = (c .before .before .before .pre .0, subst (Asked (c .before .before .before .args .z) (c .before .before .before .args .page .now)) (c .before .op5 .given .1) (c .before .before .before .pre .2))
 
 prepare-needs-requires : tie.Need-prepare-needs-requires
 prepare-needs-requires c κs = omega (arith, held-le _ _ _ _ (c .held-count2 .ensures), c .before .before .before .before .pre .0)
@@ -41,28 +41,34 @@ element-copy-out-consolidate-needs : tie.Need-element-copy-out-consolidate-needs
 element-copy-out-consolidate-needs c = omega (arith, slot-low c, c .before .before .before .before .pre .0)
 
 returns : tie.Need-returns
-returns c = sym (ap (count (c .before .before)) (c .enum-told .given .1))
+returns c = sym (ap (stores (c .before .before)) (c .enum-told .given .1))
 
 returns-2 : tie.Need-returns-2
-returns-2 c = sym (ap (count (c .before .before)) (c .enum-told2 .given .1))
+returns-2 c = sym (ap (stores (c .before .before)) (c .enum-told2 .given .1))
 
 returns-3 : tie.Need-returns-3
-returns-3 c = c .commit-needs .ensures ∙ ap commitNeeds (c .before .held-count .ensures) ∙ sym (ap (count (c .before .before .before .before .before)) (c .before .before .before .op .given .1))
+returns-3 c = c .commit-needs .ensures ∙ ap commitNeeds (c .before .held-count .ensures) ∙ sym (ap (stores (c .before .before .before .before .before)) (c .before .before .before .op .given .1))
 
 returns-4 : tie.Need-returns-4
-returns-4 c = rw (c .before .before .slot-of .ensures) at (c .consolidate-needs .ensures) ∙ sym (ap (count (c .before .before .before .before .before .before)) (c .before .before .before .before .op2 .given .1))
+returns-4 c = rw (c .before .before .slot-of .ensures) at (c .consolidate-needs .ensures) ∙ sym (ap (stores (c .before .before .before .before .before .before)) (c .before .before .before .before .op2 .given .1))
 
 returns-5 : tie.Need-returns-5
-returns-5 c = c .checkpoint-needs .ensures ∙ sym (ap (count (c .before .before .before)) (c .before .enum-told3 .given .1))
+returns-5 c = c .checkpoint-needs .ensures ∙ sym (ap (stores (c .before .before .before)) (c .before .enum-told3 .given .1))
 
 returns-6 : tie.Need-returns-6
-returns-6 c = c .event-needs .ensures ∙ sym (ap (count (c .before .before .before .before)) (c .before .before .op3 .given .1))
+returns-6 c = c .event-needs .ensures ∙ sym (ap (stores (c .before .before .before .before)) (c .before .before .op3 .given .1))
 
 returns-7 : tie.Need-returns-7
-returns-7 c = c .prepare-needs .ensures ∙ ap prepareNeeds (c .before .held-count2 .ensures) ∙ sym (ap (count (c .before .before .before .before .before)) (c .before .before .before .op4 .given .1))
+returns-7 c = c .prepare-needs .ensures ∙ ap prepareNeeds (c .before .held-count2 .ensures) ∙ sym (ap (stores (c .before .before .before .before .before)) (c .before .before .before .op4 .given .1))
 
 returns-8 : tie.Need-returns-8
-returns-8 c = c .confirm-needs .ensures ∙ ap confirmNeeds (c .before .held-count3 .ensures) ∙ sym (ap (count (c .before .before .before .before .before)) (c .before .before .before .op5 .given .1))
+returns-8 c = c .confirm-needs .ensures ∙ ap confirmNeeds (c .before .held-count3 .ensures) ∙ sym (ap (stores (c .before .before .before .before .before)) (c .before .before .before .op5 .given .1))
+
+returns-9 : tie.Need-returns-9
+returns-9 c = sym (ap (stores (c .before .before)) (c .enum-told4 .given .1))
+
+returns-10 : tie.Need-returns-10
+returns-10 c = c .copy-needs .ensures ∙ sym (ap (stores (c .before .before .before)) (c .before .enum-told5 .given .1))
 
 pub op-needs-spec : {M : Type 1} → statement M
 op-needs-spec =
@@ -88,6 +94,9 @@ op-needs-spec =
     (λ c. search needs)
     held-count-requires-3
     (λ c κs. search needs)
+    (λ c. search needs)
+    (λ c. search needs)
+    (λ c κs. search needs)
     returns
     returns-2
     returns-3
@@ -95,4 +104,6 @@ op-needs-spec =
     returns-5
     returns-6
     returns-7
-    returns-8)
+    returns-8
+    returns-9
+    returns-10)

@@ -3,6 +3,7 @@ use mathlib.Core.Path.{_≡_, sym, ap, _∙_}
 use borrow.Author.Needs.{needs}
 use Rattle.bounded.specs.Rows.{refusal}
 use Rattle.state.specs.declared.Op.{Op}
+use Rattle.state.specs.Wide.{wideOf}
 use Rattle.operations.specs.Operations.{opRowsOf}
 use Rattle.operations.proofs.op_row.Statement.{statement}
 use Rattle.operations.proofs.op_row.Tie as tie
@@ -11,7 +12,7 @@ use Rattle.operations.proofs.op_row.Tie as tie
 abbrev row : tie.Start → Op → ℕ
 row c op =
     let a = c .args in
-    refusal (opRowsOf (a .z) (a .head) (a .tail) (a .next) (a .page .now) (a .original .now) (a .spare .now) (a .opened .now) (a .held .now) (a .prepared) op (a .frame))
+    refusal (opRowsOf (a .z) (a .head) (a .tail) (a .next) (a .page .now) (a .original .now) (a .spare .now) (a .opened .now) (a .held .now) (a .prepared) (wideOf (a .wide) (a .count) (a .keys .now)) op (a .frame))
 
 returns : tie.Need-returns
 returns c = sym (ap (row (c .before .before)) (c .enum-told .given .1))
@@ -32,10 +33,16 @@ returns-6 : tie.Need-returns-6
 returns-6 c = c .event-row .ensures ∙ sym (ap (row (c .before .before .before .before)) (c .before .before .op4 .given .1))
 
 returns-7 : tie.Need-returns-7
-returns-7 c = c .commit-row2 .ensures ∙ sym (ap (row (c .before .before .before .before)) (c .before .before .op5 .given .1))
+returns-7 c = c .prepare-row .ensures ∙ sym (ap (row (c .before .before .before .before)) (c .before .before .op5 .given .1))
 
 returns-8 : tie.Need-returns-8
 returns-8 c = c .confirm-row .ensures ∙ sym (ap (row (c .before .before .before .before)) (c .before .before .op6 .given .1))
+
+returns-9 : tie.Need-returns-9
+returns-9 c = rw (c .before .slot-of2 .ensures) at (c .log-row .ensures) ∙ sym (ap (row (c .before .before .before .before .before)) (c .before .before .before .op7 .given .1))
+
+returns-10 : tie.Need-returns-10
+returns-10 c = c .copy-row .ensures ∙ sym (ap (row (c .before .before .before)) (c .before .enum-told3 .given .1))
 
 pub op-row-spec : {M : Type 1} → statement M
 op-row-spec =
@@ -56,6 +63,11 @@ op-row-spec =
     (λ c κs. search needs)
     (λ c. search needs)
     (λ c κs. search needs)
+    (λ c. search needs)
+    (λ c κs. search needs)
+    (λ c κs. search needs)
+    (λ c. search needs)
+    (λ c κs. search needs)
     returns
     returns-2
     returns-3
@@ -63,4 +75,6 @@ op-row-spec =
     returns-5
     returns-6
     returns-7
-    returns-8)
+    returns-8
+    returns-9
+    returns-10)

@@ -1,12 +1,16 @@
 -- The tests stand in the definition's order: after each, the part that it tested holds.
 use mathlib.Core.Bool.{true}
 use mathlib.Core.Path.{_≡_}
+use native.Mathlib.Omega.{arith}
 use borrow.Author.Needs.{needs}
 use borrow.Author.Tests.{le-ltb, lt-ltb}
-use Rattle.bounded.proofs.Tests.{and-stops, held}
+use Rattle.bounded.proofs.Tests.{and-stops, and-left, held}
 use Rattle.layout.proofs.LayoutLaws.{legal}
 use Rattle.state.specs.declared.State.{State}
 use Rattle.state.specs.Parts.{stateOf}
+use Rattle.state.specs.Wide.{wideOf, wideOk}
+use Rattle.entries.proofs.EntryLaws.{entries-right}
+use Rattle.entries.specs.Entries.{entriesOk}
 use Rattle.state.specs.Held.{heldOk}
 use Rattle.operations.specs.Operations.{Ranged}
 use Rattle.validity.specs.Validity.{slotsOk, lastsOk, preparedOk, stateOk}
@@ -17,7 +21,7 @@ use Rattle.validity.proofs.state_ok.Tie as tie
 abbrev st : tie.Start → State
 st c =
     let a = c .args in
-    stateOf (a .z) (a .head) (a .tail) (a .next) (a .page .now) (a .original .now) (a .spare .now) (a .bitmap .now) (a .last .now) (a .opened .now) (a .held .now) (a .prepared) (a .pending)
+    stateOf (a .z) (a .head) (a .tail) (a .next) (a .page .now) (a .original .now) (a .spare .now) (a .bitmap .now) (a .last .now) (a .opened .now) (a .held .now) (a .prepared) (wideOf (a .wide) (a .count) (a .keys .now)) (a .pending)
 
 slots1 : (c : tie.Else1) → let s = st (c .before .before) in slotsOk (s .sizes) (s .head) (s .tail) (s .table) ≡ true
 unfolding slotsOk
@@ -66,12 +70,29 @@ returns-5 : tie.Need-returns-5
 unfolding stateOk
 returns-5 c = rw (slots1 (c .before .before .before .before .before .before .before .before), held2 (c .before .before .before .before .before .before), lt-ltb _ _ (c .before .before .before .before .if3 .left), lasts4 (c .before .before)) (and-stops _ _ _ (c .before .prepared-ok .ensures) (c .if5 .taken))
 
-pending-ok-requires : tie.Need-pending-ok-requires
-pending-ok-requires c κs = ranged3 (c .before .before .before .before)
+wide-ok-requires : tie.Need-wide-ok-requires
+wide-ok-requires c κs = ranged3 (c .before .before .before .before) .legal
+
+wide6 : (c : tie.Else6)
+    → let s = st (c .before .before .before .before .before .before .before .before .before .before .before .before) in
+    wideOk (s .sizes) (s .writers .opened) (s .writers .held) (s .writers .prepared) (s .wide) ≡ true
+wide6 c = held _ _ (c .before .wide-ok .ensures) (c .if6 .left)
 
 returns-6 : tie.Need-returns-6
 unfolding stateOk
-returns-6 c = rw (slots1 (c .before .before .before .before .before .before .before .before .before), held2 (c .before .before .before .before .before .before .before), lt-ltb _ _ (c .before .before .before .before .before .if3 .left), lasts4 (c .before .before .before), prepared5 (c .before)) (c .pending-ok .ensures)
+returns-6 c = rw (slots1 (c .before .before .before .before .before .before .before .before .before .before), held2 (c .before .before .before .before .before .before .before .before), lt-ltb _ _ (c .before .before .before .before .before .before .if3 .left), lasts4 (c .before .before .before .before), prepared5 (c .before .before)) (and-stops _ _ _ (c .before .wide-ok .ensures) (c .if6 .taken))
+
+pending-ok-requires : tie.Need-pending-ok-requires
+unfolding wideOk
+pending-ok-requires c κs =
+    let r = ranged3 (c .before .before .before .before .before .before) in
+    let s = st (c .before .before .before .before .before .before .before .before .before .before .before .before) in
+    let few = entries-right (s .sizes) (s .wide .keys) (s .wide .count) (and-left (entriesOk (s .sizes) (s .wide .keys) (s .wide .count)) _ (wide6 c)) .few in
+    (r, omega (arith, few, r .legal .entries-high))
+
+returns-7 : tie.Need-returns-7
+unfolding stateOk
+returns-7 c = rw (slots1 (c .before .before .before .before .before .before .before .before .before .before .before), held2 (c .before .before .before .before .before .before .before .before .before), lt-ltb _ _ (c .before .before .before .before .before .before .before .if3 .left), lasts4 (c .before .before .before .before .before), prepared5 (c .before .before .before), wide6 (c .before)) (c .pending-ok .ensures)
 
 pub state-ok-spec : {M : Type 1} → statement M
 state-ok-spec =
@@ -86,5 +107,7 @@ state-ok-spec =
     returns-4
     prepared-ok-requires
     returns-5
+    wide-ok-requires
+    returns-6
     pending-ok-requires
-    returns-6)
+    returns-7)
