@@ -59,7 +59,12 @@ pub mod AskConsolidate
 pub mod AskFree
 pub mod Stepping
 pub mod StepLast
+pub mod Keys
+pub mod Silent
+pub mod Counted
 pub mod Copying
+pub mod CopyMid
+pub mod CopyEnds
 pub mod HeaderStore
 pub mod WriteHeld
 pub mod WriteTable
@@ -79,6 +84,7 @@ pub mod CommitMid
 pub mod StepCommit
 pub mod StepPrepare
 pub mod StepCall
+pub mod StepCopy
 pub mod Moving
 pub mod EventKept
 pub mod AskEvent
