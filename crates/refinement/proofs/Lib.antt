@@ -85,6 +85,7 @@ pub mod StepCommit
 pub mod StepPrepare
 pub mod StepCall
 pub mod StepCopy
+pub mod CopyMount
 pub mod Moving
 pub mod EventKept
 pub mod AskEvent

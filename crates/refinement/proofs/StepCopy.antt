@@ -44,7 +44,7 @@ module _ (past : List ℕ) (st : State) (img : List ℕ) (b : Reference) (C : Co
   low : m < needs st Copy
   low = pends st Copy (C .valid) (C .op) refl .made-low
 
-  counts : (0 < st .wide .count) × (needs st Copy ≡ 8 * st .wide .count + 2)
+  pub counts : (0 < st .wide .count) × (needs st Copy ≡ 8 * st .wide .count + 2)
   counts = copy-needs st (omega (arith, low))
 
   -- what the reference machine has left
