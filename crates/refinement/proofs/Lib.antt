@@ -86,6 +86,8 @@ pub mod StepPrepare
 pub mod StepCall
 pub mod StepCopy
 pub mod CopyMount
+pub mod Logging
+pub mod LogMid
 pub mod Moving
 pub mod EventKept
 pub mod AskEvent
