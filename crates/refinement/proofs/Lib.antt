@@ -88,6 +88,7 @@ pub mod StepCopy
 pub mod CopyMount
 pub mod Logging
 pub mod LogMid
+pub mod LogEnds
 pub mod Moving
 pub mod EventKept
 pub mod AskEvent
