@@ -89,6 +89,8 @@ pub mod CopyMount
 pub mod Logging
 pub mod LogMid
 pub mod LogEnds
+pub mod StepLog
+pub mod CopyBegins
 pub mod Moving
 pub mod EventKept
 pub mod AskEvent
