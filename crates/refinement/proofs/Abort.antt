@@ -91,7 +91,7 @@ none-dropped st b w n l = ap (λ (x : Bool). withWide (closed st w) (cond x noWi
 
 pub abort-sound : {past : List ℕ} (w : ℕ) (v : World) (b : Reference) → Related past v b → Sound past (abort w) v b
 unfolding exec abortOf
-abort-sound w v b h =
+abort-sound {past = past} w v b h =
     let st = v .st in
     let a =
     answered-kept (abort w) v b (refusal (abortRows st w)) 0 (aborting st w) h
@@ -101,7 +101,7 @@ abort-sound w v b h =
     record {
       sizes = refl;
       related =
-          subst (λ (s : State). Related _ (worldOf s (v .image)) (emptied w b)) (sym same)
+          subst (λ (s : State). Related past (worldOf s (v .image)) (emptied w b)) (sym same)
           (inl (aborted st (v .image) b w (ap stateOk (sym same) ∙ abort-valid st w e) (abort-taken st w e .unprepared) q));
     }) in
     record { right = tt; sizes = a .sizes; related = a .related }

@@ -81,7 +81,7 @@ checkpoint-sound v b h =
     let img = v .image in
     let rows = none-apply (checkpointCallRows st img) (omega arith) in
     let a =
-    asked-after checkpoint v b (refusal (checkpointCallRows st img)) Checkpoint (replicate 8 0) 0 nothing (λ k. refl) h
+    asked-after checkpoint v b (refusal (checkpointCallRows st img)) Checkpoint (replicate 8 0) 0 nothing (λ e k. refl) h
     (λ e z. record { sizes = refl; related = inl (empty-checkpoint st img b (is-quiet st img b h (rows e .1 .1 .0)) (none-needed st z)) })
     (λ e z.
     let q = is-quiet st img b h (rows e .1 .1 .0) in

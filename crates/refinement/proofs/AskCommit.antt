@@ -1,13 +1,13 @@
 -- A commit asked for. With no lines held it needs no store: it closes the writer, whose unfinished writes are none.
 use Prim.Native.Nat.{ℕ, _<_}
-use mathlib.Core.Bool.{true, Bool, false, not}
+use mathlib.Core.Bool.{true, Bool, false, cond, not}
 use mathlib.Core.List.{List}
 use mathlib.Core.Logic.{inl, inr}
 use mathlib.Core.Path.{_≡_, refl, sym, ap, _∙_, subst}
 use native.Mathlib.Omega.{arith}
 use lib.Dec.{eqb}
 use lib.ListN.{length, replicate}
-use borrow.Author.Tests.{eqb-true, ltb-true}
+use borrow.Author.Tests.{eqb-true, ne-eqb, ltb-true}
 use Rattle.bounded.specs.Below.{upTo}
 use Rattle.bounded.specs.Rows.{refusal}
 use Rattle.bounded.proofs.Below.{count-before}
@@ -20,6 +20,7 @@ use Rattle.replay.specs.Table.{replay}
 use Rattle.journal.proofs.Ring.{pos-none}
 use Rattle.masks.proofs.Members.{in-none}
 use Rattle.state.specs.declared.State.{State}
+use Rattle.state.specs.declared.Op.{Op}
 use Rattle.state.specs.declared.Op.the-variants.{Commit}
 use Rattle.state.specs.Held.{noWriter, heldAt, heldSlots}
 use Rattle.operations.specs.Operations.{slotFor, slotted, needs, commitRows}
@@ -30,15 +31,16 @@ use Rattle.refinement.specs.Settled.{withPrepared}
 use Rattle.refinement.specs.Stores.{World, completed}
 use Rattle.refinement.proofs.CommitValid.{committed-valid}
 use Rattle.refinement.proofs.StateValid.{valid}
-use Rattle.refinement.specs.Calls.{commitCallRows, commitOf}
+use Rattle.refinement.specs.Calls.{commitCallRows, commitOf, commitOp, withPending, worldOf}
 use Rattle.refinement.specs.Run.{commit, exec}
-use Rattle.refinement.specs.Reference.{Reference, Cell, laidOver, committing, laid, emptied}
-use Rattle.refinement.proofs.Invariant.{Quiet, Related, holds}
+use Rattle.refinement.specs.Reference.{Reference, Cell, laidOver, committing, under, withWork, laid, emptied, taken, starts, startsCopy}
+use Rattle.refinement.proofs.Invariant.{Quiet, Related, holds, not-wide}
 use Rattle.refinement.proofs.Abort.{closed, aborted}
 use Rattle.refinement.proofs.Asked.{all-left, asked-busy, asked-after}
 use Rattle.refinement.proofs.Begun.{unprepared, unprepared-valid}
 use Rattle.refinement.proofs.Keeps.{durable-kept, quiet-pages}
-use Rattle.refinement.proofs.Sound.{Sound, is-quiet, quiet-idle}
+use Rattle.refinement.proofs.Sound.{After, Sound, is-quiet, quiet-idle}
+use Rattle.refinement.proofs.WriterCalls.{commit-narrow}
 
 -- no slot with held lines: every mask is empty
 unheld : (z : Sizes) (held : List ℕ) (w : ℕ) → length (heldSlots z held w) ≡ 0 → (s : ℕ) → s < z .slots → heldAt held w s ≡ 0
@@ -97,24 +99,33 @@ module _ {past : List ℕ} (st : State) (img : List ℕ) (b : Reference) (w : �
       subst (λ (s : State). Quiet past s img (emptied w (laid w b))) as-aborted
       (quiet-pages (closed (unprepared st) w) img (emptied w b) (laid w b .pages)
       (λ p l i h k m. ap (λ (c : Cell). laidOver c (b .pages p l i)) (sym (q .writers .no-writes w p l i (T .writer-low) h k m (none-holds p l))))
-      (aborted (unprepared st) img b w (subst (λ (s : State). stateOk s ≡ true) (sym as-aborted) (committed-valid st w (q .valid) (q .durable .behind .sixteen) T))
+      (aborted (unprepared st) img b w (subst (λ (s : State). stateOk s ≡ true) (sym as-aborted) (committed-valid st w (q .valid) (q .durable .behind .sixteen) T (not-wide st b w (q .narrow) (T .writer-low))))
       (λ e. omega (arith, e, T .writer-low)) (unprepared-quiet st img b q)))
 
 pub op-row : (st : State) (img : List ℕ) (w : ℕ) → refusal (commitCallRows st img w) ≡ 0 → refusal (commitRows st w) ≡ 0
 op-row st img w e = let rows = none-apply (commitCallRows st img w) (omega arith) e in sym (row-none (commitRows st w) (rows .1 .1 .1))
 
+-- the book's wide writer is none below 4
+book-narrow : (b : Reference) (w n : ℕ) → b .wide ≡ noWriter → w < 4 → taken (commit w) n b ≡ starts (committing w) n b
+book-narrow b w n e l =
+    ap (λ (x : Bool). cond x (startsCopy w n b) (starts (committing w) n b)) (ne-eqb (b .wide) w (λ q. omega (arith, q, e)))
+
 pub commit-sound : {past : List ℕ} (w : ℕ) (v : World) (b : Reference) → Related past v b → Sound past (commit w) v b
 unfolding exec commitOf
-commit-sound w v b h =
+commit-sound {past = past} w v b h =
     let st = v .st in
     let img = v .image in
     let rows = none-apply (commitCallRows st img w) (omega arith) in
+    let row : ℕ = refusal (commitCallRows st img w) in
+    let can : row ≡ 0 → CommitTaken st w = λ e. commit-taken st w (op-row st img w e) in
+    let q : row ≡ 0 → Quiet past st img b = λ e. is-quiet st img b h (rows e .1 .1 .0) in
+    let op : row ≡ 0 → Commit w ≡ commitOp st w = λ e. sym (commit-narrow st img w (not-wide st b w (q e .narrow) (can e .writer-low))) in
     let a =
-    asked-after (commit w) v b (refusal (commitCallRows st img w)) (Commit w) (replicate 8 0) 0 (committing w) (λ k. refl) h
+    asked-after (commit w) v b row (commitOp st w) (replicate 8 0) 0 (committing w) (λ e n. book-narrow b w n (q e .narrow .book) (can e .writer-low)) h
     (λ e z.
-    let q = is-quiet st img b h (rows e .1 .1 .0) in
-    record { sizes = refl; related = inl (empty-commit st img b w (commit-taken st w (op-row st img w e)) q (none-needed st w z)) })
+    subst (λ (o : Op). After past v (worldOf (completed st o) img) (emptied w (laid w b))) (op e)
+    (record { sizes = refl; related = inl (empty-commit st img b w (can e) (q e) (none-needed st w (ap (needs st) (op e) ∙ z))) }))
     (λ e z.
-    let q = is-quiet st img b h (rows e .1 .1 .0) in
-    record { sizes = refl; related = inr (asked-busy st img b (Commit w) (replicate 8 0) 0 (committing w) q z (op-row st img w e) (all-left st (Commit w) (replicate 8 0) 0 (committing w))) }) in
+    subst (λ (o : Op). After past v (worldOf (withPending st o (replicate 8 0) 0) img) (withWork (under (committing w) (needs st o)) b)) (op e)
+    (record { sizes = refl; related = inr (asked-busy st img b (Commit w) (replicate 8 0) 0 (committing w) (q e) (ap not (not-wide st b w (q e .narrow) (can e .writer-low))) (subst (λ (o : Op). 0 < needs st o) (sym (op e)) z) (op-row st img w e) (all-left st (Commit w) (replicate 8 0) 0 (committing w))) })) in
     record { right = tt; sizes = a .sizes; related = a .related }

@@ -25,7 +25,7 @@ some-needed st p = omega arith
 
 -- of a call that asks for the consolidation of page p, by whatever rows
 pub consolidation-after : {past : List ℕ} (c : Call) (v : World) (b : Reference) (row p : ℕ)
-    → ((n : ℕ) → taken c n b ≡ starts nothing n b) → Related past v b
+    → (row ≡ 0 → (n : ℕ) → taken c n b ≡ starts nothing n b) → Related past v b
     → (row ≡ 0 → (not (isIdle (v .st .pending .op)) ≡ false) × (refusal (consolidateRows (v .st) p) ≡ 0))
     → After past v (worldOf (asked row (v .st) (Consolidate p) (replicate 8 0) 0 .state) (v .image)) (turn c row (asked row (v .st) (Consolidate p) (replicate 8 0) 0 .stores) b)
 consolidation-after c v b row p t h rows =
@@ -44,6 +44,6 @@ consolidate-sound p v b h =
     let img = v .image in
     let rows = none-apply (consolidateCallRows st img p) (omega arith) in
     let a =
-    consolidation-after (consolidate p) v b (refusal (consolidateCallRows st img p)) p (λ k. refl) h
+    consolidation-after (consolidate p) v b (refusal (consolidateCallRows st img p)) p (λ e k. refl) h
     (λ e. (rows e .1 .1 .0, sym (row-none (consolidateRows st p) (rows e .1 .1 .1)))) in
     record { right = tt; sizes = a .sizes; related = a .related }

@@ -21,6 +21,7 @@ use Rattle.meters.proofs.MeterLaws.{first-low, own-range}
 use Rattle.state.specs.declared.State.{State}
 use Rattle.state.specs.declared.Op.{Op}
 use Rattle.state.specs.declared.Op.the-variants.{Write, Event}
+use Rattle.state.specs.Wide.{isWide}
 use Rattle.state.specs.Held.{heldAt}
 use Rattle.operations.specs.Operations.{isIdle, slotFor, slotted, needs}
 use Rattle.operations.proofs.Taken.{EventTaken, event-taken}
@@ -34,11 +35,12 @@ use Rattle.refinement.proofs.Asked.{all-left, asked-busy}
 use Rattle.refinement.proofs.AskWrite.{merged-read}
 use Rattle.refinement.proofs.EventReady.{Ready, write-row, event-begun, nothing-held}
 use Rattle.refinement.proofs.EventRows.{event-some, event-needs, event-op-row, event-amount}
-use Rattle.refinement.proofs.Invariant.{Never, Quiet, Busy, holds}
+use Rattle.refinement.proofs.Invariant.{Never, Quiet, Busy, holds, not-wide}
 use Rattle.refinement.proofs.Keeps.{durable-kept}
 use Rattle.refinement.proofs.LinesAsked.{lines-valid}
 use Rattle.refinement.proofs.Moving.{Facts, Under, Moving, in-first, firstBytes, firstReference, firstTask}
 use Rattle.refinement.proofs.Seen.{seen-line, unheld-line}
+use Rattle.refinement.proofs.WriterCalls.{seen-narrow, finished-narrow}
 use Rattle.refinement.proofs.StateValid.{valid}
 
 module _ {past : List ℕ} (st : State) (img : List ℕ) (b : Reference) (ms : List ℕ) (k m a : ℕ) (Q : Quiet past st img b) (row : refusal (eventCallRows st img ms k m a) ≡ 0) where
@@ -100,19 +102,23 @@ module _ {past : List ℕ} (st : State) (img : List ℕ) (b : Reference) (ms : L
       (λ t. rw t)
 
   -- the meters' lines and numbers are the reference machine's
+  other : isWide (st .wide) 1 ≡ false
+  other = not-wide st b 1 (Q .narrow) (omega arith)
+
   seen : (l : ℕ) → l < 64 → lineBytes img (st .sizes) (seenFrame st 1 0 l f) l ≡ readLine b 1 0 l
   seen l low = seen-line st img b Never (Q .durable) (Q .writers) 1 0 l (omega arith) page low (λ x. x)
 
   number : (l : ℕ) → l < 64 → meterIn st img l ≡ meterOn b l
   number l low =
-      ap (λ (x : List ℕ). wordAt x 0) (seen l low ∙ sym (unheld-line st img b Never (Q .durable) (Q .writers) 1 0 l (omega arith) page low (none-held 0 l)))
+      ap (λ (x : List ℕ). wordAt x 0) (seen-narrow st img 1 other 0 l ∙ seen l low ∙ sym (unheld-line st img b Never (Q .durable) (Q .writers) 1 0 l (omega arith) page low (none-held 0 l)))
 
   line-bytes : (l : ℕ) → l < 64 → Bytes (readLine b 1 0 l)
   line-bytes l low = subst Bytes (seen l low) (bytes-part img _ 64 (Q .durable .bytes))
 
   finished : (l v : ℕ) → l < 64 → meterLine st img l v ≡ lineWords (readLine (written 1 0 l 0 8 (bytesOf 8 v) b) 1 0 l)
   finished l v low =
-      ap lineWords (ap (λ (x : List ℕ). merged x 0 8 (bytesOf 8 v)) (seen l low) ∙ merged-read b 1 0 l 0 8 (bytesOf 8 v) (omega arith) (omega (arith, length-bytes 8 v)))
+      finished-narrow st img 1 other 0 l 0 8 (bytesOf 8 v)
+      ∙ ap lineWords (ap (λ (x : List ℕ). merged x 0 8 (bytesOf 8 v)) (seen l low) ∙ merged-read b 1 0 l 0 8 (bytesOf 8 v) (omega arith) (omega (arith, length-bytes 8 v)))
 
   pub facts : Facts line second machine ms k m a
   facts =
@@ -157,7 +163,7 @@ module _ {past : List ℕ} (st : State) (img : List ℕ) (b : Reference) (ms : L
   first-busy : Busy past (firstAsked asked k m) img (withWork (under (firstTask ms k m a b) (needs (withOpen asked 1) op)) b)
   first-busy =
       let bytes = firstBytes ms k m a b in
-      asked-busy (withOpen asked 1) img b op line f (firstTask ms k m a b) begun eight
+      asked-busy (withOpen asked 1) img b op line f (firstTask ms k m a b) begun (ap not other) eight
       (write-row (withOpen asked 1) k m f (firstMeter k m) line ready first (ready .first-free))
       (bytes, bytes-bytesOf 8 _, omega (arith, length-bytes 8 (firstNumber ms k m (meterOn b (firstMeter k m)) a)), all-left (withOpen asked 1) op line f (firstTask ms k m a b), facts .first-line, same-frame, line-bytes (firstMeter k m) first)
 
@@ -176,6 +182,7 @@ module _ {past : List ℕ} (st : State) (img : List ℕ) (b : Reference) (ms : L
         event = refl;
         valid = asked-valid;
         durable = durable-kept st img b machine (st .next) (st .writers) _ (λ p l h i. refl) (Q .durable);
+        narrow = record { state = Q .narrow .state; book = Q .narrow .book };
         four = Q .writers .four;
         sixty-four = Q .writers .sixty-four;
         no-writes = λ p l i lp ll li. Q .writers .no-writes 1 p l i (omega arith) lp ll li (none-held p l);

@@ -21,6 +21,6 @@ free-sound v b h =
     let st = v .st in
     let img = v .image in
     let a =
-    consolidation-after free v b (refusal (freeCallRows st img)) (freedPage st) (λ k. refl) h
+    consolidation-after free v b (refusal (freeCallRows st img)) (freedPage st) (λ e k. refl) h
     (λ e. (none-apply (freeCallRows st img) (omega arith) e .1 .1 .0, free-rows st img e)) in
     record { right = tt; sizes = a .sizes; related = a .related }

@@ -16,16 +16,16 @@ use Rattle.state.specs.declared.State.{State}
 use Rattle.state.specs.declared.Op.the-variants.{Prepare, Confirm}
 use Rattle.state.specs.declared.Wide.{Wide}
 use Rattle.state.specs.Wide.{someWide}
-use Rattle.operations.specs.Operations.{needs, confirmRows}
+use Rattle.operations.specs.Operations.{needs, prepareRows, confirmRows}
 use Rattle.validity.specs.Validity.{stateOk}
-use Rattle.operations.proofs.Taken.{CommitTaken, commit-taken, confirm-taken}
+use Rattle.operations.proofs.Taken.{CommitTaken, prepare-taken, confirm-taken}
 use Rattle.refinement.specs.Settled.{withPrepared}
 use Rattle.refinement.specs.Commit.{commitSlots, prepareDone}
 use Rattle.refinement.specs.Stores.{World}
-use Rattle.refinement.specs.Calls.{commitCallRows, confirmCallRows, prepareOf, confirmOf, withdrawOf}
+use Rattle.refinement.specs.Calls.{prepareCallRows, confirmCallRows, prepareOf, confirmOf, withdrawOf}
 use Rattle.refinement.specs.Run.{prepare, confirm, withdraw, exec}
 use Rattle.refinement.specs.Reference.{Reference, idle, committing, nothing}
-use Rattle.refinement.proofs.AskCommit.{op-row, empty-commit, unprepared-quiet}
+use Rattle.refinement.proofs.AskCommit.{empty-commit, unprepared-quiet}
 use Rattle.refinement.proofs.Asked.{all-left, asked-busy, asked-after}
 use Rattle.refinement.proofs.Begun.{unprepared}
 use Rattle.refinement.proofs.CommitValid.{prepare-valid, confirm-can}
@@ -58,6 +58,9 @@ none-confirmed st w e =
     let n : ℕ = length (commitSlots st w) in
     caseOn (eqb n 0) (λ t. eqb-true n 0 t) (λ t. absurd (omega (arith, rw t at e)))
 
+prepare-row : (st : State) (img : List ℕ) (w : ℕ) → refusal (prepareCallRows st img w) ≡ 0 → refusal (prepareRows st w) ≡ 0
+prepare-row st img w e = sym (row-none (prepareRows st w) (none-apply (prepareCallRows st img w) (omega arith) e .1 .1 .1))
+
 pub prepare-sound : {past : List ℕ} (w : ℕ) (v : World) (b : Reference) → Related past v b → Sound past (prepare w) v b
 unfolding exec prepareOf
 prepare-sound w v b h =
@@ -65,14 +68,14 @@ prepare-sound w v b h =
     let img = v .image in
     let rows = none-apply (prepareCallRows st img w) (omega arith) in
     let a =
-    asked-after (prepare w) v b (refusal (prepareCallRows st img w)) (Prepare w) (replicate 8 0) 0 nothing (λ k. refl) h
+    asked-after (prepare w) v b (refusal (prepareCallRows st img w)) (Prepare w) (replicate 8 0) 0 nothing (λ e k. refl) h
     (λ e z.
     let q = is-quiet st img b h (rows e .1 .1 .0) in
-    let T = commit-taken st w (op-row st img w e) in
+    let T = prepare-taken st w (prepare-row st img w e) in
     record { sizes = refl; related = inl (now-prepared st img b w (q .valid) T (q .durable) (q .writers) (λ i l. absurd (omega (arith, l, none-prepared st w z))) (q .work) (q .narrow)) })
     (λ e z.
     let q = is-quiet st img b h (rows e .1 .1 .0) in
-    record { sizes = refl; related = inr (asked-busy st img b (Prepare w) (replicate 8 0) 0 nothing q z (op-row st img w e) (all-left st (Prepare w) (replicate 8 0) 0 nothing)) }) in
+    record { sizes = refl; related = inr (asked-busy st img b (Prepare w) (replicate 8 0) 0 nothing q refl z (prepare-row st img w e) (all-left st (Prepare w) (replicate 8 0) 0 nothing)) }) in
     record { right = tt; sizes = a .sizes; related = a .related }
 
 confirm-row : (st : State) (img : List ℕ) (w : ℕ) → refusal (confirmCallRows st img w) ≡ 0 → refusal (confirmRows st w) ≡ 0
@@ -85,14 +88,14 @@ confirm-sound w v b h =
     let img = v .image in
     let rows = none-apply (confirmCallRows st img w) (omega arith) in
     let a =
-    asked-after (confirm w) v b (refusal (confirmCallRows st img w)) (Confirm w) (replicate 8 0) 0 (committing w) (λ k. refl) h
+    asked-after (confirm w) v b (refusal (confirmCallRows st img w)) (Confirm w) (replicate 8 0) 0 (committing w) (λ e k. refl) h
     (λ e z.
     let q = is-quiet st img b h (rows e .1 .1 .0) in
     let T = confirm-can st w (q .valid) (confirm-taken st w (confirm-row st img w e)) in
     record { sizes = refl; related = inl (empty-commit st img b w T q (none-confirmed st w z)) })
     (λ e z.
     let q = is-quiet st img b h (rows e .1 .1 .0) in
-    record { sizes = refl; related = inr (asked-busy st img b (Confirm w) (replicate 8 0) 0 (committing w) q z (confirm-row st img w e) (all-left st (Confirm w) (replicate 8 0) 0 (committing w))) }) in
+    record { sizes = refl; related = inr (asked-busy st img b (Confirm w) (replicate 8 0) 0 (committing w) q refl z (confirm-row st img w e) (all-left st (Confirm w) (replicate 8 0) 0 (committing w))) }) in
     record { right = tt; sizes = a .sizes; related = a .related }
 
 pub withdraw-sound : {past : List ℕ} (w : ℕ) (v : World) (b : Reference) → Related past v b → Sound past (withdraw w) v b

@@ -50,13 +50,13 @@ asked-busy st img b op line frame t q fits l r doing =
 -- ---- what is answered: refused, complete where no store is needed, or pending
 
 pub asked-after : {past : List ℕ} (c : Call) (v : World) (b : Reference) (row : ℕ) (op : Op) (line : List ℕ) (frame : ℕ) (t : Task)
-    → ((n : ℕ) → taken c n b ≡ starts t n b) → Related past v b
+    → (row ≡ 0 → (n : ℕ) → taken c n b ≡ starts t n b) → Related past v b
     → (row ≡ 0 → needs (v .st) op ≡ 0 → After past v (worldOf (completed (v .st) op) (v .image)) (does t b))
     → (row ≡ 0 → 0 < needs (v .st) op → After past v (worldOf (withPending (v .st) op line frame) (v .image)) (withWork (under t (needs (v .st) op)) b))
     → After past v (worldOf (asked row (v .st) op line frame .state) (v .image)) (turn c row (asked row (v .st) op line frame .stores) b)
 asked-after {past = past} c v b zero op line frame t e h now later =
     let n : ℕ = needs (v .st) op in
-    rw (e n) (by-needs n refl)
+    rw (e refl n) (by-needs n refl)
   where
     by-needs : (n : ℕ) → needs (v .st) op ≡ n
         → After past v (worldOf (cond (eqb (needs (v .st) op) 0) (completed (v .st) op) (withPending (v .st) op line frame)) (v .image)) (starts t (needs (v .st) op) b)

@@ -1,14 +1,16 @@
--- Begin, abort and withdraw keep the state valid: a writer that is not open holds nothing, and a closed one neither; no rule asks for a prepared one.
+-- Begin, a wide one too, abort and withdraw keep the state valid: a writer that is not open holds nothing, and a closed one neither; no rule asks for a
+-- prepared one.
 use Prim.Native.Nat.{ℕ, _<_}
-use mathlib.Core.Bool.{Bool, true, false}
+use mathlib.Core.Bool.{Bool, true, false, not}
 use mathlib.Core.List.{List}
-use mathlib.Core.Path.{_≡_, ap, _∙_}
+use mathlib.Core.Path.{_≡_, refl, ap, _∙_}
 use native.Mathlib.Omega.{arith}
 use lib.Dec.{eqb}
-use lib.ListN.{set, length-set}
-use lib.Seq.{getD-set-other}
-use borrow.Author.Tests.{eqb-true, eqb-false, not-false, ltb-false, lt-ltb}
+use lib.ListN.{length, set, length-set}
+use lib.Seq.{getD-set-same, getD-set-other}
+use borrow.Author.Tests.{eqb-true, eqb-false, eq-eqb, not-false, ltb-false, lt-ltb}
 use Rattle.bounded.specs.Rows.{refusal}
+use Rattle.bounded.proofs.Below.{none-at, none-made}
 use Rattle.bounded.proofs.Rows.{none-apply}
 use Rattle.bounded.proofs.Tests.{caseOn, contradicts, row-keeps}
 use Rattle.layout.specs.declared.Sizes.{Sizes}
@@ -17,8 +19,8 @@ use Rattle.entries.proofs.EntryLaws.{Right, none-right}
 use Rattle.state.specs.declared.State.{State}
 use Rattle.state.specs.declared.Writers.{Writers}
 use Rattle.state.specs.declared.Wide.{Wide}
-use Rattle.state.specs.Held.{isOpen, noWriter}
-use Rattle.state.specs.Wide.{someWide, isWide, noWide, dropped}
+use Rattle.state.specs.Held.{isOpen, noWriter, heldAt, someHold}
+use Rattle.state.specs.Wide.{someWide, isWide, noWide, begunWide, dropped, someOpen}
 use Rattle.operations.specs.Operations.{isIdle}
 use Rattle.validity.specs.Validity.{stateOk}
 use Rattle.refinement.specs.Commit.{closedWriter}
@@ -27,7 +29,7 @@ use Rattle.refinement.proofs.StateValid.{HeldFine, PreparedFine, WideFi
 use Rattle.refinement.proofs.Pending.{idle-ok}
 use Rattle.refinement.proofs.Closed.{closed-fine, closed-prepared}
 use Rattle.refinement.proofs.Sized.{Sized, closed-sized}
-use Rattle.refinement.specs.Calls.{withWriters, withWide, beginRows, abortRows}
+use Rattle.refinement.specs.Calls.{withWriters, withWide, beginRows, beginWideRows, abortRows}
 use Rattle.replay.specs.Table.{slotIn}
 
 -- other writers, nothing pending
@@ -107,6 +109,55 @@ begin-valid st w r =
     (λ l. let p = valid st (h .is-valid) .prepared l in record { opens = stays-open (st .writers .opened) w (st .writers .prepared) (h .closed) (p .opens); fits = p .fits })
     (st .wide) (valid st (h .is-valid) .entries) (λ l. contradicts (lt-ltb (st .wide .writer) 4 l) (h .none-wide))
 
+-- a wide transaction is begun where every writer is closed
+pub record BeginWideTaken (st : State) (w : ℕ) : Type 0 where
+  pub is-valid : stateOk st ≡ true
+  pub quiet : isIdle (st .pending .op) ≡ true
+  pub writer-low : w < 4
+  pub some : st .sizes .entries ≡ 0 → ⊥
+  pub closed : (v : ℕ) → v < 4 → isOpen (st .writers .opened) v ≡ false
+
+pub begin-wide-taken : (st : State) (w : ℕ) → refusal (beginWideRows st w) ≡ 0 → BeginWideTaken st w
+unfolding someOpen
+begin-wide-taken st w r =
+    let h = none-apply (beginWideRows st w) (omega arith) r in
+    record {
+      is-valid = not-false (stateOk st) (h .0);
+      quiet = not-false (isIdle (st .pending .op)) (h .1 .0);
+      writer-low = omega (arith, ltb-false 3 w (h .1 .1 .0));
+      some = eqb-false (st .sizes .entries) 0 (h .1 .1 .1 .0);
+      closed = λ v l. none-at (isOpen (st .writers .opened)) 4 v l (h .1 .1 .1 .1 .0);
+    }
+
+-- so none holds a line
+pub all-unheld : (st : State) → stateOk st ≡ true → ((v : ℕ) → v < 4 → isOpen (st .writers .opened) v ≡ false) → (v s : ℕ) → v < 4 → s < st .sizes .slots
+    → heldAt (st .writers .held) v s ≡ 0
+all-unheld st ok closed v s l m =
+    caseOn (eqb (heldAt (st .writers .held) v s) 0)
+    (λ t. eqb-true (heldAt (st .writers .held) v s) 0 t)
+    (λ t. contradicts (valid st ok .held .opens s v m l (eqb-false (heldAt (st .writers .held) v s) 0 t)) (closed v l))
+
+abbrev pub beginningWide : State → ℕ → State
+beginningWide st w = withWide (withWriters st (opening st w)) (begunWide w)
+
+pub begin-wide-valid : (st : State) (w : ℕ) → length (st .writers .opened) ≡ 4 → refusal (beginWideRows st w) ≡ 0 → stateOk (beginningWide st w) ≡ true
+unfolding someHold
+begin-wide-valid st w four r =
+    let h = begin-wide-taken st w r in
+    let ok = h .is-valid in
+    let opened = st .writers .opened in
+    let held = st .writers .held in
+    writers-valid st (opening st w) ok (h .quiet) (opened-fine st w ok (h .closed w (h .writer-low)))
+    (λ l. contradicts (valid st ok .prepared l .opens) (h .closed (st .writers .prepared) l))
+    (begunWide w) (none-right (st .sizes) noKeys)
+    (λ l.
+    record {
+      opens = getD-set-same opened w true false (omega (arith, four, h .writer-low));
+      closed = λ v m n. getD-set-other opened w v true false n ∙ h .closed v m;
+      unprepared = λ q. let m : st .writers .prepared < 4 = omega (arith, q, h .writer-low) in contradicts (valid st ok .prepared m .opens) (h .closed (st .writers .prepared) m);
+      unheld = λ s m. none-made (λ v. not (eqb (heldAt held v s) 0)) 4 (λ v k. ap not (eq-eqb (heldAt held v s) 0 (all-unheld st ok (h .closed) v s k m)));
+    })
+
 -- the state after an abort
 abbrev pub aborting : State → ℕ → State
 aborting st w = withWide (withWriters st (closedWriter (st .sizes) (st .writers) w)) (dropped (st .wide) w)
@@ -137,10 +188,18 @@ unprepared-valid st e i =
 -- and the lengths and ranges of its arrays
 pub begin-sized : (st : State) (w : ℕ) → Sized st → Sized (withWriters st (opening st w))
 begin-sized st w h =
-    record { table = h .table; writers = record { four = length-set (st .writers .opened) w true ∙ h .writers .four; sixty-four = h .writers .sixty-four; held-low = h .writers .held-low } }
+    record { table = h .table; writers = record { four = length-set (st .writers .opened) w true ∙ h .writers .four; sixty-four = h .writers .sixty-four; held-low = h .writers .held-low }; keys = h .keys }
+
+pub begin-wide-sized : (st : State) (w : ℕ) → Sized st → Sized (beginningWide st w)
+begin-wide-sized st w h = let g = begin-sized st w h in record { table = g .table; writers = g .writers; keys = refl }
 
 pub unprepared-sized : (st : State) → Sized st → Sized (unprepared st)
-unprepared-sized st h = record { table = h .table; writers = record { four = h .writers .four; sixty-four = h .writers .sixty-four; held-low = h .writers .held-low } }
+unprepared-sized st h = record { table = h .table; writers = record { four = h .writers .four; sixty-four = h .writers .sixty-four; held-low = h .writers .held-low }; keys = h .keys }
 
 pub abort-sized : (st : State) (w : ℕ) → Sized st → Sized (aborting st w)
-abort-sized st w h = record { table = h .table; writers = closed-sized (st .sizes) (st .writers) w (h .writers) }
+abort-sized st w h =
+    record {
+      table = h .table;
+      writers = closed-sized (st .sizes) (st .writers) w (h .writers);
+      keys = row-keeps (λ (d : Wide). length (d .keys) ≡ 64) (isWide (st .wide) w) noWide (st .wide) refl (h .keys);
+    }

@@ -37,7 +37,7 @@ module _ (st : State) (line : List ℕ) (frame : ℕ) where
   pending-valid = lines-valid st line (replicate 8 0) frame
 
   pub pending-sized : (op : Op) → Sized st → Sized (withPending st op line frame)
-  pending-sized op h = record { table = h .table; writers = h .writers }
+  pending-sized op h = record { table = h .table; writers = h .writers; keys = h .keys }
 
   -- an operation that needs no store reads no page's frame
   rows-done : (op : Op) → needs st op ≡ 0 → refusal (opRows st op frame) ≡ 0 → refusal (opRows st op (st .pending .frame)) ≡ 0
@@ -54,13 +54,13 @@ module _ (st : State) (line : List ℕ) (frame : ℕ) where
   rows-done Copy n r = r
 
   module _ (op : Op) (r : refusal (opRows st op frame) ≡ 0) where
-    pub asked-valid : stateOk st ≡ true → Sixteen (st .table) → length (st .writers .held) ≡ 64 → length (st .writers .opened) ≡ 4 → stateOk (askedState st op line frame) ≡ true
-    asked-valid e full lines four =
+    pub asked-valid : stateOk st ≡ true → Sized st → opFits (st .wide .writer) op ≡ true → stateOk (askedState st op line frame) ≡ true
+    asked-valid e h fits =
         caseOn (eqb (needs st op) 0)
-        (λ q. rw q (completed-valid st op e full lines four (rows-done op (eqb-true (needs st op) 0 q) r)))
+        (λ q. rw q (completed-valid st op e (h .table .sixteen) (h .writers .sixty-four) (h .writers .four) (h .keys) fits (rows-done op (eqb-true (needs st op) 0 q) r)))
         (λ q.
         let n : needs st op ≡ 0 → ⊥ = eqb-false (needs st op) 0 q in
-        rw q (pending-valid op e r (omega arith)))
+        rw q (pending-valid op e fits r (omega arith)))
 
     pub asked-sized : Sized st → Sized (askedState st op line frame)
     asked-sized h =

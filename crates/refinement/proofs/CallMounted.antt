@@ -10,7 +10,7 @@ use Rattle.state.specs.declared.Op.the-variants.{Copy}
 use Rattle.state.specs.declared.Pending.{Pending}
 use Rattle.state.specs.declared.Wide.{Wide}
 use Rattle.state.specs.declared.State.{State}
-use Rattle.entries.proofs.EntryLaws.{none-right, Right, entries-right}
+use Rattle.entries.proofs.EntryLaws.{length-keys, none-right, Right, entries-right}
 use Rattle.entries.specs.Entries.{noKeys}
 use Prim.Native.Nat.{ℕ, _+_, _*_, _<_, _≤_}
 use mathlib.Core.Bool.{true, cond}
@@ -153,6 +153,7 @@ module _ (img : List ℕ) (v : View) (shows : Shows img v) where
         record {
           table = record { sixteen = view-sixteen; bitmap-low = view-bitmaps b };
           writers = closed-sized;
+          keys = refl;
         }
 
 -- ---- a taken mount, and a fresh image
@@ -176,7 +177,7 @@ module _ (img : List ℕ) (e : mountOf img .row ≡ 0) where
       let h = mount-sized img v refl (mount-taken img v refl e) b in
       subst Sized (sym found)
       (row-keeps Sized (eqb (v .count) 0) (quietState (v .sizes) (v .head) (v .tail) (v .table)) (copyingState (v .sizes) (v .head) (v .tail) (v .table) (v .count) (v .keys))
-      h (record { table = h .table; writers = h .writers }))
+      h (record { table = h .table; writers = h .writers; keys = length-keys (word img) (v .sizes) (v .count) }))
 
 module _ (z : Sizes) (e : sizesOk z ≡ true) where
   abbrev room : List ℕ
@@ -202,4 +203,5 @@ module _ (z : Sizes) (e : sizesOk z ≡ true) where
                   (λ s t l h. set-low (t .bitmap) s 0 h (omega arith)) empty-low;
             };
         writers = closed-sized;
+        keys = refl;
       }

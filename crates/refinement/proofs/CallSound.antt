@@ -6,8 +6,8 @@ use Rattle.refinement.specs.Stores.{World}
 use Rattle.refinement.specs.Run.{Call, mount, checkpoint, free, step, begin, beginWide, abort, commit, prepare, confirm, withdraw, consolidate, run, write, read, recall, event, load}
 use Rattle.refinement.specs.Reference.{Reference}
 use Rattle.refinement.specs.Statement.{Lent}
-use Rattle.refinement.proofs.Invariant.{Related}
-use Rattle.refinement.proofs.Sound.{Sound, related-valid, related-durable}
+use Rattle.refinement.proofs.Invariant.{Related, uncounted}
+use Rattle.refinement.proofs.Sound.{related-valid, related-durable, related-narrow}
 use Rattle.refinement.proofs.Between.{Between, Sounds, sounds}
 use Rattle.refinement.proofs.EventCalls.{event-sound, moving-sound}
 use Rattle.refinement.proofs.Begin.{begin-sound}
@@ -26,7 +26,7 @@ use Rattle.refinement.proofs.StepCall.{step-sound, run-sound}
 
 -- where no event is pending
 related-sound : {past : List ℕ} (c : Call) → Lent c → (v : World) (b : Reference) → Related past v b → Sounds past c v b
-related-sound mount lent v b h = sounds v b (mount-sound v b (related-valid (v .st) (v .image) b h) (related-durable (v .st) (v .image) b h) (related-uncounted (v .st) (v .image) b h))
+related-sound mount lent v b h = sounds v b (mount-sound v b (related-valid (v .st) (v .image) b h) (related-durable (v .st) (v .image) b h) (uncounted (v .st) (v .image) b (related-durable (v .st) (v .image) b h) (related-narrow (v .st) (v .image) b h)))
 related-sound checkpoint lent v b h = sounds v b (checkpoint-sound v b h)
 related-sound free lent v b h = sounds v b (free-sound v b h)
 related-sound step lent v b h = sounds v b (step-sound v b h)

@@ -1,13 +1,13 @@
 -- Every call returns a valid state from a valid one (row 8), and keeps the lengths and ranges of its arrays.
 use Prim.Native.Nat.{ℕ, _+_, _-_, _<_, _≤_, min}
 use mathlib.Core.Bool.{Bool, true, false, cond}
-use mathlib.Core.List.{List, [], _∷_, _++_}
+use mathlib.Core.List.{List}
 use mathlib.Core.Path.{_≡_, refl, sym, ap, subst}
 use native.Mathlib.Omega.{arith}
-use lib.Dec.{eqb, ltb}
+use lib.Dec.{eqb}
 use lib.ListN.{length, replicate}
 use borrow.Author.Tests.{eqb-true, eq-eqb, not-false}
-use Rattle.bounded.specs.Rows.{Row, refusal, Numbered}
+use Rattle.bounded.specs.Rows.{refusal}
 use Rattle.bounded.proofs.Rows.{none-apply}
 use Rattle.bounded.proofs.Tests.{caseOn, row-keeps}
 use Rattle.layout.specs.declared.Sizes.{Sizes}
@@ -17,9 +17,10 @@ use Rattle.fresh.specs.Fresh.{formatRow, formatRows}
 use Rattle.mount.specs.Mount.{mountOf}
 use Rattle.state.specs.declared.State.{State}
 use Rattle.state.specs.declared.Op.{Op}
-use Rattle.state.specs.declared.Op.the-variants.{Write, Commit, Consolidate, Checkpoint, Event, Prepare, Confirm}
-use Rattle.operations.specs.Operations.{isIdle, opRows, writeRows, commitRows, confirmRows, consolidateRows, needs}
-use Rattle.validity.specs.Validity.{stateOk}
+use Rattle.state.specs.declared.Op.the-variants.{Write, Consolidate, Checkpoint, Event, Prepare, Confirm, Log}
+use Rattle.state.specs.Wide.{isWide}
+use Rattle.operations.specs.Operations.{isIdle, opRows, commitRows, prepareRows, confirmRows, consolidateRows, needs}
+use Rattle.validity.specs.Validity.{stateOk, opFits}
 use Rattle.refinement.specs.Commit.{closedWriter}
 use Rattle.refinement.specs.Frames.{pageFrame}
 use Rattle.refinement.specs.Freeing.{freedPage}
@@ -28,14 +29,15 @@ use Rattle.refinement.specs.Stores.{World, steppedBy, stepped, left}
 use Rattle.refinement.proofs.Sized.{Sized}
 use Rattle.refinement.proofs.Steps.{run-valid, run-sized, step-valid, step-sized}
 use Rattle.refinement.specs.Outcome.{answered}
-use Rattle.refinement.specs.Calls.{quietRows, withWriters, beginRows, abortRows, beginOf, abortOf, asked, withPending, finishedLine, changesNothing, writeCallRows, commitCallRows, confirmCallRows, consolidateCallRows, freeCallRows, checkpointCallRows, writeOf, commitOf, prepareOf, confirmOf, withdrawOf, consolidateOf, freeOf, checkpointOf, stepRow, stepRows, worldOf, runOf, stepOf, eventLine, eventSecond, eventCallRows, eventOf}
+use Rattle.refinement.specs.Calls.{quietRows, withWriters, beginRows, beginWideRows, abortRows, beginOf, beginWideOf, abortOf, asked, withPending, finishedLine, changesNothing, writeOp, commitOp, writeCallRows, commitCallRows, prepareCallRows, confirmCallRows, consolidateCallRows, freeCallRows, checkpointCallRows, writeOf, commitOf, prepareOf, confirmOf, withdrawOf, consolidateOf, freeOf, checkpointOf, stepRow, stepRows, worldOf, runOf, stepOf, eventLine, eventSecond, eventCallRows, eventOf}
 use Rattle.refinement.specs.Mount.{mountedState, mountCall, noState, freshState, formatCall}
 use Rattle.refinement.specs.Run.{Call, mount, checkpoint, free, step, begin, beginWide, abort, commit, prepare, confirm, withdraw, consolidate, run, write, read, recall, exec, event, load}
 use Rattle.meters.specs.Meters.{eventNeeds}
 use Rattle.refinement.specs.Settled.{withLines}
 use Rattle.refinement.proofs.EventRows.{event-some, event-needs, event-op-row}
 use Rattle.refinement.proofs.LinesAsked.{lines-valid}
-use Rattle.refinement.proofs.Begun.{opening, begin-valid, begin-sized, aborting, abort-valid, abort-sized, unprepared, unprepared-valid, unprepared-sized}
+use Rattle.refinement.proofs.WriterCalls.{past-rows, write-fits, commit-fits, write-op-row, commit-op-row}
+use Rattle.refinement.proofs.Begun.{opening, begin-valid, begin-sized, beginningWide, begin-wide-valid, begin-wide-sized, aborting, abort-valid, abort-sized, unprepared, unprepared-valid, unprepared-sized}
 use Rattle.refinement.proofs.CallAsked.{askedState, pending-valid, pending-sized, asked-valid, asked-sized}
 use Rattle.refinement.proofs.CallMounted.{mounted-valid, mounted-sized, fresh-valid, fresh-sized}
 
@@ -50,21 +52,13 @@ answered-good row st n after g h =
     (λ e. subst Good (ap (λ (b : Bool). cond b after st) (sym e)) (h (eqb-true row 0 e)))
     (λ e. subst Good (ap (λ (b : Bool). cond b after st) (sym e)) g)
 
--- no row applies, so none of those past the first ones does
-past-row : (b : Bool) (n m : ℕ) → 0 < n → cond b n m ≡ 0 → m ≡ 0
-past-row true n m l e = absurd (omega arith)
-past-row false n m l e = e
-
-past-rows : (rs qs : List Row) → Numbered rs → refusal (rs ++ qs) ≡ 0 → refusal qs ≡ 0
-past-rows [] qs n e = e
-past-rows (r ∷ rs) qs n e = past-rows rs qs (n .1) (past-row (r .0) (r .1) (refusal (rs ++ qs)) (n .0) e)
-
-asked-good : (st : State) (row : ℕ) (op : Op) (line : List ℕ) (frame : ℕ) → Good st → (row ≡ 0 → refusal (opRows st op frame) ≡ 0) → Good (asked row st op line frame .state)
-asked-good st row op line frame g h =
+asked-good : (st : State) (row : ℕ) (op : Op) (line : List ℕ) (frame : ℕ) → Good st → opFits (st .wide .writer) op ≡ true → (row ≡ 0 → refusal (opRows st op frame) ≡ 0)
+    → Good (asked row st op line frame .state)
+asked-good st row op line frame g fits h =
     answered-good row st (needs st op) (askedState st op line frame) g
     (λ e.
     record {
-      is-valid = asked-valid st line frame op (h e) (g .is-valid) (g .sized .table .sixteen) (g .sized .writers .sixty-four) (g .sized .writers .four);
+      is-valid = asked-valid st line frame op (h e) (g .is-valid) (g .sized) fits;
       sized = asked-sized st line frame op (h e) (g .sized);
     })
 
@@ -75,6 +69,12 @@ module _ (st : State) (img : List ℕ) (g : Good st) where
       answered-good (refusal (beginRows st w)) st 0 (withWriters st (opening st w)) g
       (λ e. record { is-valid = begin-valid st w e; sized = begin-sized st w (g .sized) })
 
+  begin-wide-good : (w : ℕ) → Good (beginWideOf st w .state)
+  unfolding beginWideOf
+  begin-wide-good w =
+      answered-good (refusal (beginWideRows st w)) st 0 (beginningWide st w) g
+      (λ e. record { is-valid = begin-wide-valid st w (g .sized .writers .four) e; sized = begin-wide-sized st w (g .sized) })
+
   abort-good : (w : ℕ) → Good (abortOf st w .state)
   unfolding abortOf
   abort-good w =
@@ -84,33 +84,35 @@ module _ (st : State) (img : List ℕ) (g : Good st) where
   write-good : (w p l o n : ℕ) (bytes : List ℕ) → Good (writeOf st img w p l o n bytes .state)
   unfolding writeOf needs
   write-good w p l o n bytes =
+      let op = writeOp st w p l o n in
       let line = finishedLine st img w p l o n bytes in
       let frame = pageFrame st img p in
       let nothing = changesNothing st img w p l o n bytes in
-      answered-good (refusal (writeCallRows st img w p l o n bytes)) st (cond nothing 0 8) (cond nothing st (withPending st (Write w p l o n) line frame)) g
+      let some : 0 < needs st op = row-keeps (λ (x : Op). 0 < needs st x) (isWide (st .wide) w) (Log p l o n) (Write w p l o n) (omega arith) (omega arith) in
+      answered-good (refusal (writeCallRows st img w p l o n bytes)) st (cond nothing 0 (cond (isWide (st .wide) w) 9 8)) (cond nothing st (withPending st op line frame)) g
       (λ e.
-      row-keeps Good nothing st (withPending st (Write w p l o n) line frame) g
+      row-keeps Good nothing st (withPending st op line frame) g
       (record {
-        is-valid = pending-valid st line frame (Write w p l o n) (g .is-valid) (past-rows (quietRows st (length img) ++ ((ltb (length bytes) n, 11) ∷ [])) (writeRows st w p l o n frame) (omega arith) e) (omega arith);
-        sized = pending-sized st line frame (Write w p l o n) (g .sized);
+        is-valid = pending-valid st line frame op (g .is-valid) (write-fits st w p l o n) (write-op-row st img w p l o n bytes e) some;
+        sized = pending-sized st line frame op (g .sized);
       }))
 
   commit-good : (w : ℕ) → Good (commitOf st img w .state)
   unfolding commitOf
   commit-good w =
-      asked-good st (refusal (commitCallRows st img w)) (Commit w) (replicate 8 0) 0 g
-      (λ e. past-rows (quietRows st (length img)) (commitRows st w) (omega arith) e)
+      asked-good st (refusal (commitCallRows st img w)) (commitOp st w) (replicate 8 0) 0 g (commit-fits st w)
+      (λ e. commit-op-row st w 0 (past-rows (quietRows st (length img)) (commitRows st w) (omega arith) e))
 
   prepare-good : (w : ℕ) → Good (prepareOf st img w .state)
   unfolding prepareOf
   prepare-good w =
-      asked-good st (refusal (commitCallRows st img w)) (Prepare w) (replicate 8 0) 0 g
-      (λ e. past-rows (quietRows st (length img)) (commitRows st w) (omega arith) e)
+      asked-good st (refusal (prepareCallRows st img w)) (Prepare w) (replicate 8 0) 0 g refl
+      (λ e. past-rows (quietRows st (length img)) (prepareRows st w) (omega arith) e)
 
   confirm-good : (w : ℕ) → Good (confirmOf st img w .state)
   unfolding confirmOf
   confirm-good w =
-      asked-good st (refusal (confirmCallRows st img w)) (Confirm w) (replicate 8 0) 0 g
+      asked-good st (refusal (confirmCallRows st img w)) (Confirm w) (replicate 8 0) 0 g refl
       (λ e. past-rows (quietRows st (length img)) (confirmRows st w) (omega arith) e)
 
   withdraw-good : (w : ℕ) → Good (withdrawOf st img w .state)
@@ -124,16 +126,16 @@ module _ (st : State) (img : List ℕ) (g : Good st) where
   consolidate-good : (p : ℕ) → Good (consolidateOf st img p .state)
   unfolding consolidateOf
   consolidate-good p =
-      asked-good st (refusal (consolidateCallRows st img p)) (Consolidate p) (replicate 8 0) 0 g
+      asked-good st (refusal (consolidateCallRows st img p)) (Consolidate p) (replicate 8 0) 0 g refl
       (λ e. past-rows (quietRows st (length img)) (consolidateRows st p) (omega arith) e)
 
   free-good : Good (freeOf st img .state)
   unfolding freeOf
-  free-good = asked-good st (refusal (freeCallRows st img)) (Consolidate (freedPage st)) (replicate 8 0) 0 g (free-rows st img)
+  free-good = asked-good st (refusal (freeCallRows st img)) (Consolidate (freedPage st)) (replicate 8 0) 0 g refl (free-rows st img)
 
   checkpoint-good : Good (checkpointOf st img .state)
   unfolding checkpointOf
-  checkpoint-good = asked-good st (refusal (checkpointCallRows st img)) Checkpoint (replicate 8 0) 0 g (λ e. refl)
+  checkpoint-good = asked-good st (refusal (checkpointCallRows st img)) Checkpoint (replicate 8 0) 0 g refl (λ e. refl)
 
   event-good : (ms : List ℕ) (k m a : ℕ) → Good (eventOf st img ms k m a .state)
   unfolding eventOf
@@ -144,8 +146,8 @@ module _ (st : State) (img : List ℕ) (g : Good st) where
       answered-good (refusal (eventCallRows st img ms k m a)) st (eventNeeds k) (withLines st (Event k m a) line second f) g
       (λ e.
       record {
-        is-valid = lines-valid st line second f (Event k m a) (g .is-valid) (event-op-row st img ms k m a e) (omega (arith, event-some k, event-needs st k m a));
-        sized = record { table = g .sized .table; writers = g .sized .writers };
+        is-valid = lines-valid st line second f (Event k m a) (g .is-valid) refl (event-op-row st img ms k m a e) (omega (arith, event-some k, event-needs st k m a));
+        sized = record { table = g .sized .table; writers = g .sized .writers; keys = g .sized .keys };
       })
 
   busy : stepRow st img ≡ 0 → isIdle (st .pending .op) ≡ false
@@ -157,7 +159,7 @@ module _ (st : State) (img : List ℕ) (g : Good st) where
       answered-good (stepRow st img) st 1 (stepped (worldOf st img) .st) g
       (λ e.
       record {
-        is-valid = step-valid (worldOf st img) (g .is-valid) (busy e) (g .sized .table .sixteen) (g .sized .writers .sixty-four) (g .sized .writers .four);
+        is-valid = step-valid (worldOf st img) (g .is-valid) (busy e) (g .sized);
         sized = step-sized (worldOf st img) (g .is-valid) (busy e) (g .sized);
       })
 
@@ -169,7 +171,7 @@ module _ (st : State) (img : List ℕ) (g : Good st) where
       answered-good (stepRow st img) st n (steppedBy n (worldOf st img) .st) g
       (λ e.
       record {
-        is-valid = run-valid (worldOf st img) (g .is-valid) (busy e) (g .sized .table .sixteen) (g .sized .writers .sixty-four) (g .sized .writers .four) n l;
+        is-valid = run-valid (worldOf st img) (g .is-valid) (busy e) (g .sized) n l;
         sized = run-sized (worldOf st img) (g .is-valid) (busy e) (g .sized) n l;
       })
 
@@ -201,6 +203,7 @@ call-good checkpoint v b g = checkpoint-good (v .st) (v .image) g
 call-good free v b g = free-good (v .st) (v .image) g
 call-good step v b g = step-good (v .st) (v .image) g
 call-good (begin w) v b g = begin-good (v .st) (v .image) g w
+call-good (beginWide w) v b g = begin-wide-good (v .st) (v .image) g w
 call-good (abort w) v b g = abort-good (v .st) (v .image) g w
 call-good (commit w) v b g = commit-good (v .st) (v .image) g w
 call-good (prepare w) v b g = prepare-good (v .st) (v .image) g w

@@ -23,7 +23,7 @@ use Rattle.validity.specs.Validity.{stateOk}
 use Rattle.refinement.specs.Stores.{World, completed, left}
 use Rattle.refinement.proofs.Pending.{pends}
 use Rattle.refinement.proofs.Steps.{stepped-last, run-all}
-use Rattle.refinement.specs.Calls.{commitCallRows, commitOf, prepareOf, checkpointCallRows, checkpointOf, stepRow, stepRows, stepOf, runOf}
+use Rattle.refinement.specs.Calls.{commitCallRows, prepareCallRows, commitOf, prepareOf, checkpointCallRows, checkpointOf, stepRow, stepRows, stepOf, runOf}
 use Rattle.refinement.specs.Run.{Call, checkpoint, commit, prepare, step, run, exec}
 use Rattle.refinement.specs.Beside.{HasRoom, MakesRoom, CheckpointMakesRoom}
 use Rattle.refinement.specs.Reference.{Reference, turn}
@@ -49,6 +49,11 @@ room st valid e w =
     le-ltb (z .places) (live st + n) (omega (arith, held-le z (st .writers .held) w, legal-sizes st valid .places-low))
 
 -- so row 19 does not apply
+prepare-fits : (st : State) (img : List ℕ) → stateOk st ≡ true → st .head ≡ st .tail → (w : ℕ) → eqb (refusal (prepareCallRows st img w)) 19 ≡ false
+prepare-fits st img valid e w =
+    lacks (λ n. eqb n 19) (prepareCallRows st img w)
+    (refl, λ a. (refl, λ c. (refl, λ d. (refl, λ f. (refl, λ g. (refl, λ i. (refl, λ j. (room st valid e w, λ k. refl))))))))
+
 rows-fit : (st : State) (img : List ℕ) → stateOk st ≡ true → st .head ≡ st .tail → (w : ℕ) → eqb (refusal (commitCallRows st img w)) 19 ≡ false
 rows-fit st img valid e w =
     lacks (λ n. eqb n 19) (commitCallRows st img w)
@@ -57,8 +62,7 @@ rows-fit st img valid e w =
 fits : (v : World) → stateOk (v .st) ≡ true → v .st .head ≡ v .st .tail → HasRoom v
 unfolding exec commitOf prepareOf
 fits v valid e w =
-    let f = rows-fit (v .st) (v .image) valid e w in
-    (λ n. contradicts (ap (λ (x : ℕ). eqb x 19) n) f, λ n. contradicts (ap (λ (x : ℕ). eqb x 19) n) f)
+    (λ n. contradicts (ap (λ (x : ℕ). eqb x 19) n) (rows-fit (v .st) (v .image) valid e w), λ n. contradicts (ap (λ (x : ℕ). eqb x 19) n) (prepare-fits (v .st) (v .image) valid e w))
 
 -- ---- the calls that complete a checkpoint
 

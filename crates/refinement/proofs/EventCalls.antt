@@ -21,7 +21,7 @@ use Rattle.refinement.specs.Settled.{withLines}
 use Rattle.refinement.specs.Frames.{pageFrame}
 use Rattle.refinement.specs.Stores.{World, stepped, steppedBy, left}
 use Rattle.refinement.specs.Outcome.{answered}
-use Rattle.refinement.specs.Calls.{worldOf, beginRows, abortRows, writeCallRows, commitCallRows, confirmCallRows, consolidateCallRows, freeCallRows, checkpointCallRows, readRows, beginOf, abortOf, writeOf, commitOf, prepareOf, confirmOf, withdrawOf, consolidateOf, freeOf, checkpointOf, eventOf, eventLine, eventSecond, eventCallRows, loadRows, loadOf, readRow, readBytes, stepRow, stepRows, stepOf, stepBytes, runOf, runBytes}
+use Rattle.refinement.specs.Calls.{worldOf, beginRows, beginWideRows, abortRows, writeCallRows, commitCallRows, prepareCallRows, confirmCallRows, consolidateCallRows, freeCallRows, checkpointCallRows, readRows, beginOf, beginWideOf, abortOf, writeOf, commitOf, prepareOf, confirmOf, withdrawOf, consolidateOf, freeOf, checkpointOf, eventOf, eventLine, eventSecond, eventCallRows, loadRows, loadOf, readRow, readBytes, stepRow, stepRows, stepOf, stepBytes, runOf, runBytes}
 use Rattle.refinement.specs.Run.{Call, mount, checkpoint, free, step, begin, beginWide, abort, commit, prepare, confirm, withdraw, consolidate, run, write, read, recall, event, load, exec}
 use Rattle.refinement.specs.Recall.{recallRow}
 use Rattle.refinement.specs.Reference.{Reference, Task, Work, idle, under, moving, withWork, starts, continues, advances, taken, turn}
@@ -29,11 +29,12 @@ use Rattle.refinement.proofs.AskEvent.{event-moving}
 use Rattle.refinement.proofs.Between.{Between, Sounds, sounds, moving-pending}
 use Rattle.refinement.proofs.Copies.{durable-fits}
 use Rattle.refinement.proofs.EventRows.{event-some, event-needs}
-use Rattle.refinement.proofs.Invariant.{Quiet, Related}
+use Rattle.refinement.proofs.Invariant.{Quiet, Related, uncounted}
 use Rattle.refinement.proofs.MountCall.{mount-sound}
 use Rattle.refinement.proofs.Moving.{Moving}
 use Rattle.refinement.proofs.Pending.{pends}
 use Rattle.refinement.proofs.RecallCall.{recall-answer, recall-right}
+use Rattle.refinement.proofs.Viewed.{Viewed, durable-viewed}
 use Rattle.refinement.proofs.Sound.{is-quiet}
 use Rattle.refinement.proofs.StepCall.{many, idle-apart, stepped-sizes, steppedBy-sizes}
 use Rattle.refinement.proofs.StepEvent.{Goes, step-event}
@@ -177,11 +178,14 @@ module _ {past : List ℕ} (v : World) (b : Reference) (M : Moving past (v .st) 
   kept p l target zero = inr M
   kept p l target (suc n) = inr M
 
+  viewed : Viewed past st img b
+  viewed = durable-viewed st img b (M .valid) (M .durable) (M .narrow)
+
   recall-goes : (p l : ℕ) (target : List ℕ) → Sounds past (recall p l target) v b
   unfolding exec
   recall-goes p l target =
       record {
-        right = (recall-answer st img b (M .valid) (M .durable) p l target, recall-right st img b (M .valid) (M .durable) p l target);
+        right = (recall-answer img b viewed p l target, recall-right img b viewed p l target);
         sizes = refl;
         between = kept p l target (recallRow img p l target);
       }
@@ -189,8 +193,8 @@ module _ {past : List ℕ} (v : World) (b : Reference) (M : Moving past (v .st) 
   -- ---- the others
 
   pub moving-sound-at : (c : Call) → Sounds past c v b
-  unfolding exec beginOf abortOf writeOf commitOf prepareOf confirmOf withdrawOf consolidateOf freeOf checkpointOf eventOf
-  moving-sound-at mount = sounds v b (mount-sound v b (M .valid) (M .durable))
+  unfolding exec beginOf beginWideOf abortOf writeOf commitOf prepareOf confirmOf withdrawOf consolidateOf freeOf checkpointOf eventOf
+  moving-sound-at mount = sounds v b (mount-sound v b (M .valid) (M .durable) (uncounted st img b (M .durable) (M .narrow)))
   moving-sound-at step = step-goes
   moving-sound-at (run k) = run-goes k
   moving-sound-at (read w p l target) = read-goes w p l target
@@ -199,9 +203,10 @@ module _ {past : List ℕ} (v : World) (b : Reference) (M : Moving past (v .st) 
   moving-sound-at checkpoint = let r = refused checkpoint (refusal (checkpointCallRows st img)) _ _ (sym (row-at (checkpointCallRows st img) 2 (omega arith) (valid-row, (fits-row, tt)) pending-row)) in record { right = tt; sizes = r .sizes; between = r .between }
   moving-sound-at free = let r = refused free (refusal (freeCallRows st img)) _ _ (sym (row-at (freeCallRows st img) 2 (omega arith) (valid-row, (fits-row, tt)) pending-row)) in record { right = tt; sizes = r .sizes; between = r .between }
   moving-sound-at (begin w) = let r = refused (begin w) (refusal (beginRows st w)) _ _ (sym (row-at (beginRows st w) 1 (omega arith) (valid-row, tt) pending-row)) in record { right = tt; sizes = r .sizes; between = r .between }
+  moving-sound-at (beginWide w) = let r = refused (beginWide w) (refusal (beginWideRows st w)) _ _ (sym (row-at (beginWideRows st w) 1 (omega arith) (valid-row, tt) pending-row)) in record { right = tt; sizes = r .sizes; between = r .between }
   moving-sound-at (abort w) = let r = refused (abort w) (refusal (abortRows st w)) _ _ (sym (row-at (abortRows st w) 1 (omega arith) (valid-row, tt) pending-row)) in record { right = tt; sizes = r .sizes; between = r .between }
   moving-sound-at (commit w) = let r = refused (commit w) (refusal (commitCallRows st img w)) _ _ (sym (row-at (commitCallRows st img w) 2 (omega arith) (valid-row, (fits-row, tt)) pending-row)) in record { right = tt; sizes = r .sizes; between = r .between }
-  moving-sound-at (prepare w) = let r = refused (prepare w) (refusal (commitCallRows st img w)) _ _ (sym (row-at (commitCallRows st img w) 2 (omega arith) (valid-row, (fits-row, tt)) pending-row)) in record { right = tt; sizes = r .sizes; between = r .between }
+  moving-sound-at (prepare w) = let r = refused (prepare w) (refusal (prepareCallRows st img w)) _ _ (sym (row-at (prepareCallRows st img w) 2 (omega arith) (valid-row, (fits-row, tt)) pending-row)) in record { right = tt; sizes = r .sizes; between = r .between }
   moving-sound-at (confirm w) = let r = refused (confirm w) (refusal (confirmCallRows st img w)) _ _ (sym (row-at (confirmCallRows st img w) 2 (omega arith) (valid-row, (fits-row, tt)) pending-row)) in record { right = tt; sizes = r .sizes; between = r .between }
   moving-sound-at (withdraw w) = let r = refused (withdraw w) (refusal (confirmCallRows st img w)) _ _ (sym (row-at (confirmCallRows st img w) 2 (omega arith) (valid-row, (fits-row, tt)) pending-row)) in record { right = tt; sizes = r .sizes; between = r .between }
   moving-sound-at (consolidate p) = let r = refused (consolidate p) (refusal (consolidateCallRows st img p)) _ _ (sym (row-at (consolidateCallRows st img p) 2 (omega arith) (valid-row, (fits-row, tt)) pending-row)) in record { right = tt; sizes = r .sizes; between = r .between }

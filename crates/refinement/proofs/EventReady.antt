@@ -1,5 +1,5 @@
 -- The states of an event's transaction: each write and the commit is one that no row turns back, and each state is valid.
-use Rattle.state.specs.Wide.{someWide, isWide}
+use Rattle.state.specs.Wide.{someWide}
 use Prim.Native.Nat.{ℕ, zero, suc, _+_, _*_, _<_, _≤_}
 use mathlib.Core.Bool.{Bool, true, false, _&&_, _||_, not, cond}
 use mathlib.Core.List.{List}
@@ -42,6 +42,7 @@ use Rattle.refinement.proofs.CommitValid.{commit-valid}
 use Rattle.refinement.proofs.Invariant.{holds}
 use Rattle.refinement.proofs.LinePut.{held-slot}
 use Rattle.refinement.proofs.LinesAsked.{lines-valid}
+use Rattle.refinement.proofs.WriterCalls.{unwide}
 use Rattle.refinement.proofs.Pending.{idle-ok}
 use Rattle.refinement.proofs.StateValid.{valid, valid-ok}
 use Rattle.refinement.proofs.Valid.{good}
@@ -121,19 +122,15 @@ module _ (s : State) (k m f l : ℕ) (words : List ℕ) (R : Ready s k m f) (low
       sym (row-none (writeRows s 1 0 l 0 8 f)
       (rw (lt-leb (z .pages) 0 (omega (arith, legal .pages-low)), le-ltb 63 l (omega arith)), (rw (R .opened), (ne-eqb (s .writers .prepared) 1 (λ e. omega (arith, e, ltb-false (s .writers .prepared) 4 (R .none-prepared))), (free, (R .some-free, (R .frame-good, tt)))))))
 
-  -- writer 1 is no wide one
-  other : isWide (s .wide) 1 ≡ false
-  other = ne-eqb (s .wide .writer) 1 (λ e. omega (arith, e, ltb-false (s .wide .writer) 4 (R .none-wide)))
-
   pub asked-ok : stateOk asked ≡ true
   unfolding needs
-  asked-ok = lines-valid s words _ f (Write 1 0 l 0 8) (R .ok) (ap not other) write-row (omega arith)
+  asked-ok = lines-valid s words _ f (Write 1 0 l 0 8) (R .ok) (ap not (unwide s 1 (R .none-wide) (omega arith))) write-row (omega arith)
 
   T : WriteTaken asked 1 0 l 0 8 f
   T = write-taken asked 1 0 l 0 8 f write-row
 
   done-ok : stateOk done ≡ true
-  done-ok = written-valid asked 1 0 l 0 8 asked-ok (R .full) T other (R .lines)
+  done-ok = written-valid asked 1 0 l 0 8 asked-ok (R .full) T (unwide s 1 (R .none-wide) (omega arith)) (R .lines)
 
   apart : pagesApart z (writeTable asked 0 .page) ≡ true
   apart = good done done-ok .pages
@@ -333,7 +330,7 @@ module _ (st : State) (k m a : ℕ) (e : stateOk st ≡ true) (full : Sixteen (s
   unfolding eventDone
   done-valid =
       let s = linesDone st k m in
-      commit-valid s 1 (lines-wrote .ready .ok) (lines-wrote .ready .full) (commit-row s k m f lines-wrote)
+      commit-valid s 1 (lines-wrote .ready .ok) (lines-wrote .ready .full) (unwide s 1 (lines-wrote .ready .none-wide) (omega arith)) (commit-row s k m f lines-wrote)
 
 pub event-valid : (st : State) (k m a : ℕ) → stateOk st ≡ true → Sixteen (st .table) → length (st .writers .held) ≡ 64 → length (st .writers .opened) ≡ 4
     → refusal (opRows st (Event k m a) (st .pending .frame)) ≡ 0 → stateOk (eventDone st k m) ≡ true

@@ -11,6 +11,7 @@ use Rattle.bounded.proofs.Tab.{tab-ext}
 use Rattle.bounded.proofs.Tests.{caseOn, row-keeps}
 use Rattle.meters.specs.Meters.{movesCredit, firstMeter, ownMeter}
 use Rattle.state.specs.declared.State.{State}
+use Rattle.state.specs.Held.{noWriter}
 use Rattle.refinement.specs.Reference.{Reference, Cell, none, byte, laidOver, idle, withWork, written, laid, emptied, withMeter, firstMoved, moved}
 use Rattle.refinement.proofs.Invariant.{Quiet}
 use Rattle.refinement.proofs.Keeps.{quiet-pages}
@@ -106,18 +107,21 @@ module _ (ms : List ℕ) (k m a : ℕ) (b : Reference) (P : ℕ) (nothing : (p l
 -- the state that the commit leaves, held against the pages with the meters moved
 pub moved-quiet : {past : List ℕ} (st : State) (img : List ℕ) (b : Reference) (ms : List ℕ) (k m a : ℕ)
     → ((p l i : ℕ) → p < st .sizes .pages → l < 64 → i < 64 → b .writes 1 p l i ≡ none)
-    → Quiet past st img (emptied 1 (laid 1 (withWork idle (linesReference ms k m a b)))) → Quiet past st img (moved ms k m a (withWork idle b))
-moved-quiet {past = past} st img b ms k m a nothing q =
+    → b .wide ≡ noWriter → Quiet past st img (emptied 1 (laid 1 (withWork idle (linesReference ms k m a b)))) → Quiet past st img (moved ms k m a (withWork idle b))
+moved-quiet {past = past} st img b ms k m a nothing narrow q =
     let P : ℕ = st .sizes .pages in
     let c : Reference = emptied 1 (laid 1 (withWork idle (linesReference ms k m a b))) in
-    let d : Reference = moved ms k m a (withWork idle b) in
     let r : Quiet past st img (record { pages = moved ms k m a b .pages; writes = c .writes; work = idle; wide = c .wide }) =
     quiet-pages st img c (moved ms k m a b .pages) (λ p l i lp ll li. pages-laid ms k m a b P nothing p l i lp ll li) q in
     let s : Quiet past st img (record { pages = moved ms k m a b .pages; writes = moved ms k m a b .writes; work = idle; wide = c .wide }) =
     quiet-writes st img (record { pages = moved ms k m a b .pages; writes = c .writes; work = idle; wide = c .wide }) (moved ms k m a b .writes) (λ v p l i lv lp ll li. writes-emptied ms k m a b P nothing v p l i lp ll li) r in
-    subst (Quiet past st img) same s
+    subst (Quiet past st img) same
+    (subst (λ (x : ℕ). Quiet past st img (record { pages = moved ms k m a b .pages; writes = moved ms k m a b .writes; work = idle; wide = x })) (q .narrow .book ∙ sym wide-same) s)
   where
-    same : record { pages = moved ms k m a b .pages; writes = moved ms k m a b .writes; work = idle; wide = c .wide } ≡ moved ms k m a (withWork idle b)
+    wide-same : moved ms k m a b .wide ≡ noWriter
+    wide-same = row-keeps (λ (x : Reference). x .wide ≡ noWriter) (movesCredit k) _ (firstMoved ms k m a b) narrow narrow
+
+    same : record { pages = moved ms k m a b .pages; writes = moved ms k m a b .writes; work = idle; wide = moved ms k m a b .wide } ≡ moved ms k m a (withWork idle b)
     same =
         rows-keep (λ (x y : Reference). _≡_ {A = Reference} (record { pages = x .pages; writes = x .writes; work = idle; wide = x .wide }) y) (movesCredit k)
         _ (firstMoved ms k m a b) _ (firstMoved ms k m a (withWork idle b)) refl refl

@@ -13,6 +13,7 @@ use Rattle.meters.specs.Meters.{modulusOf, fixedModulus, fixedModuli, eventKnow
 use Rattle.meters.proofs.MeterLaws.{fixed-ok, fixed-modulus, of-count, own-range}
 use Rattle.state.specs.declared.State.{State}
 use Rattle.state.specs.declared.Op.the-variants.{Event}
+use Rattle.state.specs.Wide.{someWide}
 use Rattle.operations.specs.Operations.{isIdle}
 use Rattle.validity.specs.Validity.{stateOk}
 use Rattle.refinement.specs.Frames.{pageFrame}
@@ -59,7 +60,10 @@ module _ (st : State) (img : List ℕ) (k m a : ℕ) where
       (λ s.
       caseOn (ltb (length img) (imageLength (st .sizes)))
       (λ l. rw (s, l))
-      (λ l. caseOn (isIdle (st .pending .op)) (λ p. rw (s, l, p, u)) (λ p. rw (s, l, p))))
+      (λ l.
+      caseOn (isIdle (st .pending .op))
+      (λ p. caseOn (someWide (st .wide .writer)) (λ w. rw (s, l, p, w)) (λ w. rw (s, l, p, w, u)))
+      (λ p. rw (s, l, p))))
       (λ s. rw s)
 
 pub event-as-fixed : EventAsFixed

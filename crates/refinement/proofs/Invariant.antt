@@ -1,7 +1,5 @@
 -- What holds of the store and the reference machine between two calls.
 use Rattle.state.specs.declared.Wide.{Wide}
-use borrow.Author.Tests.{ne-eqb}
-use native.Mathlib.Omega.{arith}
 use Prim.Native.Nat.{ℕ, _-_, _^_, _<_, _≤_}
 use mathlib.Core.Bool.{true, false}
 use mathlib.Core.List.{List}
@@ -29,6 +27,7 @@ use Rattle.refinement.specs.Frames.{otherFrame, pageFrame}
 use Rattle.refinement.specs.Settled.{noPending}
 use Rattle.refinement.specs.Stores.{World, storeAt, storeValue}
 use Rattle.refinement.specs.Recall.{frameOf}
+use Rattle.refinement.proofs.WriterCalls.{unwide}
 use Rattle.refinement.proofs.Records.{Stored}
 use Rattle.refinement.specs.Reference.{Reference, none, idle, under, writing, committing, nothing, written, readLine, recallLine}
 pub use Rattle.refinement.specs.Frames.{holds}
@@ -82,11 +81,11 @@ pub uncounted : {past : List ℕ} (st : State) (img : List ℕ) (b : Reference) 
 uncounted st img b D n = D .count-same ∙ ap (λ (d : Wide). d .count) (n .state)
 
 -- and no writer is a wide one
-pub not-wide : (st : State) (b : Reference) (w : ℕ) → Narrow st b → w < 4 → isWide (st .wide) w ≡ false
-not-wide st b w n l = ap (λ (d : Wide). isWide d w) (n .state) ∙ ne-eqb noWriter w (λ e. omega arith)
-
 pub none-wide : (st : State) (b : Reference) → Narrow st b → someWide (st .wide .writer) ≡ false
 none-wide st b n = ap (λ (d : Wide). someWide (d .writer)) (n .state)
+
+pub not-wide : (st : State) (b : Reference) (w : ℕ) → Narrow st b → w < 4 → isWide (st .wide) w ≡ false
+not-wide st b w n l = unwide st w (none-wide st b n) l
 
 -- nothing is pending
 abbrev pub Never : ℕ → ℕ → ℕ → Type 0

@@ -1,4 +1,5 @@
 pub mod SeenFrames
+pub mod WriterCalls
 pub mod WritePlaces
 pub mod CommitPlaces
 pub mod ConsolidatePlaces
@@ -46,6 +47,7 @@ pub mod Seen
 pub mod ReadCall
 pub mod Mounted
 pub mod MountCall
+pub mod Viewed
 pub mod RecallCall
 pub mod LoadCall
 pub mod Start

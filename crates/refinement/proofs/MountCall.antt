@@ -7,14 +7,15 @@ use mathlib.Core.Bool.{true, Bool, cond}
 use mathlib.Core.List.{List}
 use mathlib.Core.Logic.{inl}
 use mathlib.Core.Path.{_≡_, refl, sym, ap, _∙_, subst}
-use lib.ListN.{drop}
+use lib.ListN.{length, drop}
 use Rattle.layout.specs.declared.Sizes.{Sizes}
 use Rattle.layout.specs.Layout.{imageLength}
 use Rattle.image.specs.Lines.{lineBytes}
 use Rattle.words.specs.Words.{word}
 use Rattle.mount.specs.declared.Mounted.{Mounted}
 use Rattle.mount.specs.Mount.{mountOf}
-use Rattle.mount.proofs.Verdict.{foundIn, taken-mount}
+use Rattle.mount.proofs.Verdict.{Taken, foundIn, taken-mount}
+use Rattle.mount.proofs.View.{View, Shows}
 use Rattle.state.specs.declared.State.{State}
 use Rattle.validity.specs.Validity.{stateOk}
 use Rattle.refinement.specs.Stores.{World}
@@ -45,10 +46,14 @@ unfolding exec mountCall
 mount-result v m e = ap (λ (x : Mounted). replaces (answered (x .row) noState 0 (mountedState x)) v) e
 
 -- it is taken, and the state is what the image shows
+pub mount-viewed : (v : World) (view : View) → Shows (v .image) view → Taken (length (v .image)) view → exec mount v ≡ replaces (answered 0 noState 0 (mountedState (foundIn view))) v
+mount-viewed v view shows mounts = mount-result v (foundIn view) (taken-mount (v .image) view shows mounts)
+
+-- where no entry is counted, with nothing pending
 pub mount-found : {past : List ℕ} (v : World) (b : Reference) (D : Durable past (v .st) (v .image) b) → D .view .count ≡ 0
     → exec mount v ≡ replaces (answered 0 noState 0 (stateOf (D .view))) v
 mount-found v b D empty =
-    mount-result v (foundIn (D .view)) (taken-mount (v .image) (D .view) (D .shows) (D .mounts))
+    mount-viewed v (D .view) (D .shows) (D .mounts)
     ∙ ap (λ (x : Bool). replaces (answered 0 noState 0 (cond x (stateOf (D .view)) (copyingState (D .view .sizes) (D .view .head) (D .view .tail) (D .view .table) (D .view .count) (D .view .keys)))) v)
     (eq-eqb (D .view .count) 0 empty)
 

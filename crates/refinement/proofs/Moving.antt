@@ -19,7 +19,7 @@ use Rattle.refinement.specs.Event.{firstAsked, secondAsked, linesDone, l
 use Rattle.refinement.specs.Stores.{World, completed, withMade, storeMade, stepped}
 use Rattle.refinement.specs.Calls.{worldOf}
 use Rattle.refinement.specs.Reference.{Reference, Task, none, idle, under, writing, committing, moving, withWork, written, does, advances, meterOn, readLine}
-use Rattle.refinement.proofs.Invariant.{Durable, Quiet, Busy, Related}
+use Rattle.refinement.proofs.Invariant.{Durable, Narrow, Quiet, Busy, Related}
 use Rattle.refinement.proofs.Pending.{needs-made}
 use Rattle.refinement.proofs.Sound.{is-quiet, is-busy}
 use Rattle.refinement.proofs.StepCall.{one-store}
@@ -118,6 +118,7 @@ pub record Moving (past : List ℕ) (st : State) (img : List ℕ) (b : Reference
   pub event : st .pending .op ≡ Event kind meter amount
   pub valid : stateOk st ≡ true
   pub durable : Durable past st img b
+  pub narrow : Narrow st b
   pub four : length (st .writers .opened) ≡ 4
   pub sixty-four : length (st .writers .held) ≡ 64
   -- writer 1, who is closed, has no unfinished writes

@@ -2,7 +2,7 @@
 use Prim.Native.Nat.{ℕ, zero, suc, _<_}
 use mathlib.Core.Bool.{false, _||_}
 use mathlib.Core.List.{List}
-use mathlib.Core.Path.{_≡_, refl, sym, ap, subst}
+use mathlib.Core.Path.{_≡_, refl, sym, ap, _∙_, subst}
 use native.Mathlib.Omega.{arith}
 use lib.Dec.{ltb, leb}
 use lib.ListN.{length}
@@ -15,9 +15,10 @@ use Rattle.refinement.specs.Stores.{World}
 use Rattle.refinement.specs.Calls.{readRows, readRow, readBytes}
 use Rattle.refinement.specs.Run.{Call, read, exec}
 use Rattle.refinement.specs.Reference.{Reference, taken, turn, readLine}
-use Rattle.refinement.proofs.Invariant.{Never, Related}
+use Rattle.refinement.proofs.Invariant.{Never, Related, not-wide}
 use Rattle.refinement.proofs.Sound.{Sound, is-quiet}
 use Rattle.refinement.proofs.Seen.{seen-line}
+use Rattle.refinement.proofs.WriterCalls.{seen-narrow}
 
 -- a call that changes nothing in the reference machine where it is taken
 pub turn-kept : (c : Call) (row n : ℕ) (b : Reference) → taken c n b ≡ b → turn c row n b ≡ b
@@ -42,7 +43,7 @@ read-right st img b w p l target h e =
     let rows = none-apply (readRows st img w p l target) (omega arith) e in
     let q = is-quiet st img b h (rows .1 .1 .0) in
     let a = read-args st w p l target (rows .1 .1 .1 .0) in
-    rw (e) (ap (over target 0) (seen-line st img b Never (q .durable) (q .writers) w p l (a .0) (a .1) (a .2) (λ n. n)))
+    rw e (ap (over target 0) (seen-narrow st img w (not-wide st b w (q .narrow) (a .0)) p l ∙ seen-line st img b Never (q .durable) (q .writers) w p l (a .0) (a .1) (a .2) (λ n. n)))
 
 pub read-sound : {past : List ℕ} (w p l : ℕ) (target : List ℕ) (v : World) (b : Reference) → Related past v b → Sound past (read w p l target) v b
 unfolding exec

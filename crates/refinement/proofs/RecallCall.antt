@@ -1,5 +1,5 @@
 -- A recall mounts and copies a committed line: it is refused for its arguments alone, and changes nothing.
-use Prim.Native.Nat.{ℕ}
+use Prim.Native.Nat.{ℕ, _<_}
 use mathlib.Core.Bool.{Bool, true, false, _||_, cond}
 use mathlib.Core.List.{List, [], _∷_, _++_}
 use mathlib.Core.Logic.{_⊎_, inl, inr}
@@ -15,18 +15,17 @@ use Rattle.words.specs.Words.{word, over}
 use Rattle.mount.specs.declared.Mounted.{Mounted}
 use Rattle.mount.specs.Mount.{mountOf, mountRead, mountRows, sizesFrom}
 use Rattle.mount.proofs.Verdict.{taken-mount}
-use Rattle.mount.proofs.View.{View, viewOf}
+use Rattle.mount.proofs.View.{View}
 use Rattle.state.specs.declared.State.{State}
-use Rattle.validity.specs.Validity.{stateOk}
 use Rattle.refinement.specs.Stores.{World}
+use Rattle.refinement.specs.Wide.{shownLine}
 use Rattle.refinement.specs.Recall.{recallRow, recallBytes}
 use Rattle.refinement.specs.Run.{recall, exec}
 use Rattle.refinement.specs.Reference.{Reference, recallLine}
-use Rattle.refinement.proofs.Invariant.{Durable, Related}
-use Rattle.refinement.proofs.Mounted.{Committed}
-use Rattle.refinement.proofs.MountCall.{mounted-committed}
+use Rattle.refinement.proofs.Invariant.{Related}
 use Rattle.refinement.proofs.ReadCall.{turn-kept}
-use Rattle.refinement.proofs.Sound.{Sound, related-valid, related-durable}
+use Rattle.refinement.proofs.Sound.{Sound}
+use Rattle.refinement.proofs.Viewed.{Viewed, related-viewed}
 
 -- rows of which none applies, before others
 refusal-past : (rs ss : List Row) → Past rs (length rs) → refusal (rs ++ ss) ≡ refusal ss
@@ -43,12 +42,12 @@ no-row img e =
 abbrev pub argsBad : List ℕ → ℕ → ℕ → List ℕ → Bool
 argsBad img p l target = leb (sizesFrom (word img) .pages) p || ltb 63 l || ltb (length target) 64
 
-module _ {past : List ℕ} (st : State) (img : List ℕ) (b : Reference) (valid : stateOk st ≡ true) (D : Durable past st img b) (p l : ℕ) (target : List ℕ) where
+module _ {past : List ℕ} {st : State} (img : List ℕ) (b : Reference) (seen : Viewed past st img b) (p l : ℕ) (target : List ℕ) where
   pub row-is : recallRow img p l target ≡ cond (argsBad img p l target) 11 0
   unfolding recallRow
   row-is =
       refusal-past (mountRows (length img) (word img)) ((argsBad img p l target, 11) ∷ [])
-      (none-apply (mountRows (length img) (word img)) (omega arith) (no-row img (ap (λ (m : Mounted). m .row) (taken-mount img (D .view) (D .shows) (D .mounts)))))
+      (none-apply (mountRows (length img) (word img)) (omega arith) (no-row img (ap (λ (m : Mounted). m .row) (taken-mount img (seen .view) (seen .shows) (seen .mounts)))))
 
   pub recall-answer : (recallRow img p l target ≡ 0) ⊎ (recallRow img p l target ≡ 11)
   recall-answer =
@@ -65,19 +64,19 @@ module _ {past : List ℕ} (st : State) (img : List ℕ) (b : Reference) (valid 
   pub recall-right : recallRow img p l target ≡ 0 → recallBytes img p l target ≡ over target 0 (recallLine b p l)
   unfolding recallBytes
   recall-right e =
-      let c : Committed img (viewOf (word img)) b = subst (λ (v : View). Committed img v b) (sym (D .shows)) (mounted-committed st img b valid D) in
+      let shown =
+      subst (λ (v : View). (p l : ℕ) → p < v .sizes .pages → l < 64 → shownLine img (v .sizes) (v .table) (v .count) (v .keys) p l ≡ recallLine b p l) (sym (seen .shows)) (seen .shown) in
       let low : Bool = leb (sizesFrom (word img) .pages) p in
       let a = or-left (low || ltb 63 l) (ltb (length target) 64) (args-good e) in
       rw e
-      (ap (over target 0) (c p l (leb-false (sizesFrom (word img) .pages) p (or-left low (ltb 63 l) a)) (omega (arith, ltb-false 63 l (or-right low (ltb 63 l) a)))))
+      (ap (over target 0) (shown p l (leb-false (sizesFrom (word img) .pages) p (or-left low (ltb 63 l) a)) (omega (arith, ltb-false 63 l (or-right low (ltb 63 l) a)))))
 
 pub recall-sound : {past : List ℕ} (p l : ℕ) (target : List ℕ) (v : World) (b : Reference) → Related past v b → Sound past (recall p l target) v b
 unfolding exec
 recall-sound {past = past} p l target v b h =
-    let ok = related-valid (v .st) (v .image) b h in
-    let D = related-durable (v .st) (v .image) b h in
+    let seen = related-viewed (v .st) (v .image) b h in
     record {
-      right = (recall-answer (v .st) (v .image) b ok D p l target, recall-right (v .st) (v .image) b ok D p l target);
+      right = (recall-answer (v .image) b seen p l target, recall-right (v .image) b seen p l target);
       sizes = refl;
       related = subst (Related past v) (sym (turn-kept (recall p l target) (recallRow (v .image) p l target) 0 b refl)) h;
     }

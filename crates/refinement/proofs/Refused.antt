@@ -8,7 +8,7 @@ use borrow.Author.Tests.{ne-eqb}
 use Rattle.state.specs.declared.State.{State}
 use Rattle.refinement.specs.Stores.{World}
 use Rattle.refinement.specs.Outcome.{answered}
-use Rattle.refinement.specs.Calls.{beginOf, abortOf, writeOf, commitOf, prepareOf, confirmOf, withdrawOf, consolidateOf, freeOf, checkpointOf, eventOf, loadOf, readBytes, stepOf, stepBytes, runOf, runBytes}
+use Rattle.refinement.specs.Calls.{beginOf, beginWideOf, abortOf, writeOf, commitOf, prepareOf, confirmOf, withdrawOf, consolidateOf, freeOf, checkpointOf, eventOf, loadOf, readBytes, stepOf, stepBytes, runOf, runBytes}
 use Rattle.refinement.specs.Mount.{mountCall}
 use Rattle.refinement.specs.Recall.{recallBytes}
 use Rattle.refinement.specs.Run.{Call, result, mount, checkpoint, free, step, begin, beginWide, abort, commit, prepare, confirm, withdraw, consolidate, run, write, read, recall, event, load, exec}
@@ -27,7 +27,7 @@ plain : (row n : ℕ) (after : State) (img : List ℕ) (v : World) → (row ≡ 
 plain row n after img v h e = record { world = world v _ _ (kept row after (v .st) h) e; stores = kept row n 0 h; target-kept = refl }
 
 pub refused-unchanged : RefusedUnchanged
-unfolding exec beginOf abortOf writeOf commitOf prepareOf confirmOf withdrawOf consolidateOf freeOf checkpointOf eventOf loadOf readBytes stepOf stepBytes runOf runBytes mountCall recallBytes
+unfolding exec beginOf beginWideOf abortOf writeOf commitOf prepareOf confirmOf withdrawOf consolidateOf freeOf checkpointOf eventOf loadOf readBytes stepOf stepBytes runOf runBytes mountCall recallBytes
 refused-unchanged (begin w) v h = plain _ _ _ _ v h refl
 refused-unchanged (beginWide w) v h = plain _ _ _ _ v h refl
 refused-unchanged (abort w) v h = plain _ _ _ _ v h refl

@@ -1,7 +1,7 @@
 -- A write that changes no byte of a line that its writer holds: if its eight stores were made, each would put back the word that is there, as the
 -- line is seen in the frame that they go to, and the state at their end would be the one before them.
 use Prim.Native.Nat.{ℕ, _+_, _*_, _^_, _<_, _≤_}
-use mathlib.Core.Bool.{true, not}
+use mathlib.Core.Bool.{Bool, true, false, not, _&&_}
 use mathlib.Core.List.{List}
 use mathlib.Core.Path.{_≡_, refl, sym, ap, _∙_}
 use native.Mathlib.Omega.{arith}
@@ -23,6 +23,7 @@ use Rattle.masks.specs.Lines.{inMask, withLine}
 use Rattle.state.specs.declared.State.{State}
 use Rattle.state.specs.declared.Op.the-variants.{Write}
 use Rattle.state.specs.Held.{heldAt}
+use Rattle.state.specs.Wide.{isWide}
 use Rattle.operations.specs.Operations.{slotFor, slotted, writeRows, needs}
 use Rattle.operations.proofs.Taken.{WriteTaken, write-taken}
 use Rattle.validity.specs.Validity.{stateOk}
@@ -30,15 +31,17 @@ use Rattle.refinement.specs.Frames.{pageFrame, seenFrame, holds}
 use Rattle.refinement.specs.Settled.{noPending}
 use Rattle.refinement.specs.Write.{writeSlot, writeAt, writeValue}
 use Rattle.refinement.specs.Stores.{storeMade, storesMade, completed, steppedBy, left}
-use Rattle.refinement.specs.Calls.{withPending, worldOf, seenLine, finishedLine, changesNothing}
+use Rattle.refinement.specs.Calls.{withPending, worldOf, finishedLine, changesNothing}
 use Rattle.refinement.proofs.Going.{ranges-of, shapes-of}
 use Rattle.refinement.proofs.LinePut.{with-again}
 use Rattle.refinement.proofs.SeenFrames.{seen-low}
 use Rattle.refinement.proofs.Steps.{run-all, run-image}
 use Rattle.refinement.proofs.WriteMid.{line-word}
+use Rattle.refinement.proofs.WriterCalls.{frameLine, changes-narrow, finished-narrow}
 
 module _ (st : State) (img : List ℕ) (w p l o n : ℕ) (bytes : List ℕ) (ok : stateOk st ≡ true) (long : imageLength (st .sizes) ≤ length img) (sound : Bytes img)
-    (row : refusal (writeRows st w p l o n (pageFrame st img p)) ≡ 0) (given : n ≤ length bytes) (idle : changesNothing st img w p l o n bytes ≡ true) where
+    (row : refusal (writeRows st w p l o n (pageFrame st img p)) ≡ 0) (given : n ≤ length bytes)
+    (other : isWide (st .wide) w ≡ false) (idle : changesNothing st img w p l o n bytes ≡ true) where
   abbrev z : Sizes
   z = st .sizes
 
@@ -52,9 +55,14 @@ module _ (st : State) (img : List ℕ) (w p l o n : ℕ) (bytes : List ℕ) (ok 
   T : WriteTaken st w p l o n (pageFrame st img p)
   T = write-taken st w p l o n (pageFrame st img p) row
 
+  abbrev same : Bool
+  same = not (mergeChanges (frameLine st img w p l) o n bytes)
+
+  both : holds st w p l && same ≡ true
+  both = sym (changes-narrow st img w other p l o n bytes) ∙ idle
+
   line-held : holds st w p l ≡ true
-  unfolding changesNothing
-  line-held = and-left (holds st w p l) _ idle
+  line-held = and-left (holds st w p l) same both
 
   pub has-slot : slotted st p ≡ true
   has-slot = and-left (slotted st p) (inMask (heldAt (st .writers .held) w (slotFor st p)) l) line-held
@@ -70,12 +78,12 @@ module _ (st : State) (img : List ℕ) (w p l o n : ℕ) (bytes : List ℕ) (ok 
 
   -- ---- the stores
 
-  finished : finishedLine st img w p l o n bytes ≡ lineWords (seenLine st img w p l)
-  unfolding changesNothing
+  finished : finishedLine st img w p l o n bytes ≡ lineWords (frameLine st img w p l)
   finished =
-      ap lineWords
-      (merge-same (seenLine st img w p l) o n bytes (length-line img z f l frame-low (T .args .line-low) long) (T .args .fits) given
-      (not-true (mergeChanges (seenLine st img w p l) o n bytes) (and-right (holds st w p l) (not (mergeChanges (seenLine st img w p l) o n bytes)) idle)))
+      finished-narrow st img w other p l o n bytes
+      ∙ ap lineWords
+      (merge-same (frameLine st img w p l) o n bytes (length-line img z f l frame-low (T .args .line-low) long) (T .args .fits) given
+      (not-true (mergeChanges (frameLine st img w p l) o n bytes) (and-right (holds st w p l) same both)))
 
   goes : (i : ℕ) → writeAt asks p l i ≡ lineWord z f l + i
   unfolding writeSlot seenFrame
@@ -85,7 +93,7 @@ module _ (st : State) (img : List ℕ) (w p l o n : ℕ) (bytes : List ℕ) (ok 
   value i m =
       let e : 8 * lineWord z f l + 8 * i ≡ 8 * (lineWord z f l + i) = omega arith in
       ap (λ (ws : List ℕ). getD ws i 0) finished
-      ∙ line-word (seenLine st img w p l) i m
+      ∙ line-word (frameLine st img w p l) i m
       ∙ word-part img (8 * lineWord z f l) 64 (8 * i) (omega arith) line-low
       ∙ ap (wordAt img) e
 
@@ -115,7 +123,7 @@ module _ (st : State) (img : List ℕ) (w p l o n : ℕ) (bytes : List ℕ) (ok 
     completed-back =
         rw has-slot
         (λ i.
-        record { sizes = st .sizes; head = st .head; tail = st .tail; next = st .next; table = st .table; writers = record { opened = st .writers .opened; held = held-back i; prepared = st .writers .prepared }; pending = sym none i })
+        record { sizes = st .sizes; head = st .head; tail = st .tail; next = st .next; table = st .table; writers = record { opened = st .writers .opened; held = held-back i; prepared = st .writers .prepared }; wide = st .wide; pending = sym none i })
 
     -- after all eight the world is as it was
     pub world-back : steppedBy 8 (worldOf asks img) ≡ worldOf st img

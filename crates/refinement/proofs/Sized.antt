@@ -2,7 +2,7 @@
 use Prim.Native.Nat.{ℕ, _+_, _*_, _^_, _<_}
 use mathlib.Core.Bool.{true, false}
 use mathlib.Core.List.{List}
-use mathlib.Core.Path.{_≡_, _∙_}
+use mathlib.Core.Path.{_≡_, refl, _∙_}
 use native.Mathlib.Omega.{arith}
 use lib.Dec.{ltb, eqb}
 use lib.ListN.{length, getD, set, length-set, List·getD-eq-default}
@@ -26,7 +26,9 @@ use Rattle.state.specs.declared.State.{State}
 use Rattle.state.specs.declared.Writers.{Writers}
 use Rattle.state.specs.declared.Op.{Op}
 use Rattle.state.specs.declared.Op.the-variants.{Idle, Write, Commit, Consolidate, Checkpoint, Event, Prepare, Confirm, Log, Copy}
+use Rattle.entries.specs.Entries.{keyOf}
 use Rattle.state.specs.Held.{heldAt}
+use Rattle.state.specs.Wide.{entryFor}
 use Rattle.operations.specs.Operations.{slotted, opRows}
 use Rattle.meters.specs.Meters.{eventKnown, movesCredit, firstMeter, ownMeter}
 use Rattle.meters.proofs.MeterLaws.{first-low, own-range}
@@ -54,6 +56,7 @@ pub record SizedWriters (ws : Writers) : Type 0 where
 pub record Sized (st : State) : Type 0 where
   pub table : SizedTable (st .table)
   pub writers : SizedWriters (st .writers)
+  pub keys : length (st .wide .keys) ≡ 64
 
 pub set-low : (l : List ℕ) (i x : ℕ) → Low l → x < 2 ^ 64 → Low (set l i x)
 set-low l i x h m j =
@@ -114,6 +117,7 @@ module _ (st : State) (h : Sized st) where
               sixty-four = length-set held (16 * w + s) m ∙ h .writers .sixty-four;
               held-low = set-low held (16 * w + s) m (h .writers .held-low) (with-lt (heldAt held w s) l (h .writers .held-low (16 * w + s)) line);
             };
+        keys = h .keys;
       }
 
   committed-sized : (w : ℕ) → Sized (commitDone st w)
@@ -127,16 +131,17 @@ module _ (st : State) (h : Sized st) where
               bitmap-low = replay-low (st .sizes) (st .head) n (commitRecord st w) (st .table) (h .table .bitmap-low) (commit-low w);
             };
         writers = record { four = c .four; sixty-four = c .sixty-four; held-low = c .held-low };
+        keys = h .keys;
       }
 
 -- the states of an event
 open-sized : (st : State) → Sized st → Sized (withOpen st 1)
 open-sized st h =
-    record { table = h .table; writers = record { four = length-set (st .writers .opened) 1 true ∙ h .writers .four; sixty-four = h .writers .sixty-four; held-low = h .writers .held-low } }
+    record { table = h .table; writers = record { four = length-set (st .writers .opened) 1 true ∙ h .writers .four; sixty-four = h .writers .sixty-four; held-low = h .writers .held-low }; keys = h .keys }
 
 line-sized : (st : State) (l : ℕ) (words : List ℕ) (f : ℕ) → Sized st → l < 64 → Sized (lineDone st l words f)
 unfolding lineDone
-line-sized st l words f h low = written-sized (lineAsked st l words f) (record { table = h .table; writers = h .writers }) 1 0 l low
+line-sized st l words f h low = written-sized (lineAsked st l words f) (record { table = h .table; writers = h .writers; keys = h .keys }) 1 0 l low
 
 event-sized : (st : State) (k m : ℕ) → Sized st → eventKnown k m ≡ true → Sized (eventDone st k m)
 unfolding eventDone
@@ -152,10 +157,10 @@ module _ (st : State) (h : Sized st) where
   completed-sized Idle r = h
   completed-sized (Write w p l o n) r = written-sized st h w p l (write-taken st w p l o n (st .pending .frame) r .args .line-low)
   completed-sized (Commit w) r = committed-sized st h w
-  completed-sized (Prepare w) r = record { table = h .table; writers = record { four = h .writers .four; sixty-four = h .writers .sixty-four; held-low = h .writers .held-low } }
+  completed-sized (Prepare w) r = record { table = h .table; writers = record { four = h .writers .four; sixty-four = h .writers .sixty-four; held-low = h .writers .held-low }; keys = h .keys }
   completed-sized (Confirm w) r = committed-sized st h w
-  completed-sized (Log p l o n) r = record { table = h .table; writers = h .writers }
-  completed-sized Copy r = record { table = h .table; writers = closed-sized (st .sizes) (st .writers) (st .wide .writer) (h .writers) }
+  completed-sized (Log p l o n) r = record { table = h .table; writers = h .writers; keys = length-set (st .wide .keys) (entryFor (st .wide) p l) (keyOf p l) ∙ h .keys }
+  completed-sized Copy r = record { table = h .table; writers = closed-sized (st .sizes) (st .writers) (st .wide .writer) (h .writers); keys = refl }
   completed-sized (Event k m a) r = event-sized st k m h (event-taken st k m a (st .pending .frame) r .known)
   completed-sized (Consolidate p) r =
       record {
@@ -165,6 +170,7 @@ module _ (st : State) (h : Sized st) where
               bitmap-low = replay-low (st .sizes) (st .head) 1 (freeingRecord st p) (st .table) (h .table .bitmap-low) (freeing-low st h p);
             };
         writers = h .writers;
+        keys = h .keys;
       }
   completed-sized Checkpoint r =
       let t = h .table .sixteen in
@@ -175,7 +181,8 @@ module _ (st : State) (h : Sized st) where
               bitmap-low = h .table .bitmap-low;
             };
         writers = h .writers;
+        keys = h .keys;
       }
 
   pub made-sized : (m : ℕ) → Sized (withMade st m)
-  made-sized m = record { table = h .table; writers = h .writers }
+  made-sized m = record { table = h .table; writers = h .writers; keys = h .keys }

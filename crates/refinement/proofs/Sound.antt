@@ -18,7 +18,7 @@ use Rattle.refinement.specs.Calls.{worldOf}
 use Rattle.refinement.specs.Run.{Call, exec}
 use Rattle.refinement.specs.Reference.{Reference, taken, turn}
 use Rattle.refinement.specs.Statement.{Right}
-use Rattle.refinement.proofs.Invariant.{Durable, Quiet, Busy, Doing, Related}
+use Rattle.refinement.proofs.Invariant.{Durable, Narrow, Quiet, Busy, Doing, Related}
 
 -- the answer is right, the sizes stay, and what holds between two calls holds again
 pub record Sound (past : List ℕ) (c : Call) (v : World) (b : Reference) : Type 0 where
@@ -87,3 +87,7 @@ module _ {past : List ℕ} (st : State) (img : List ℕ) (b : Reference) where
   pub related-durable : Related past (worldOf st img) b → Durable past st img b
   related-durable (inl q) = q .durable
   related-durable (inr q) = q .durable
+
+  pub related-narrow : Related past (worldOf st img) b → Narrow st b
+  related-narrow (inl q) = q .narrow
+  related-narrow (inr q) = q .narrow

@@ -1,7 +1,7 @@
 -- One step of a pending event is one of its transaction: a store of a write, which may be its last, or of the commit. With the last store of all, that of
 -- head, the meters have moved.
 use Prim.Native.Nat.{ℕ, _+_, _-_, _*_, _<_, _≤_}
-use mathlib.Core.Bool.{Bool, true, false, _&&_, cond}
+use mathlib.Core.Bool.{Bool, true, false, not, _&&_, cond}
 use mathlib.Core.List.{List}
 use mathlib.Core.Logic.{_⊎_, inl, inr}
 use mathlib.Core.Path.{_≡_, refl, sym, ap, ap₂, _∙_, subst}
@@ -37,7 +37,7 @@ use Rattle.refinement.proofs.EventKept.{durable-beside}
 use Rattle.refinement.proofs.EventReady.{Ready, Wrote, write-row, first-wrote, second-wrote, lines-wrote, wrote-frame, one-slot, commit-five, commit-row}
 use Rattle.refinement.proofs.EventRows.{event-needs, first-sizes, lines-sizes, done-sizes}
 use Rattle.refinement.proofs.EventStores.{lines-eight, at-first, value-first, at-second, value-second, at-commit, value-commit}
-use Rattle.refinement.proofs.Invariant.{Durable, Quiet, Busy}
+use Rattle.refinement.proofs.Invariant.{Durable, Quiet, Busy, not-wide}
 use Rattle.refinement.proofs.Moving.{Facts, Under, under-on, under-ends, Stage, in-first, in-second, in-commit, Moving, commitAsked, ownBytes, firstBytes, firstReference, secondReference, linesReference, firstTask, secondTask}
 use Rattle.refinement.proofs.Pending.{pends, made-valid}
 use Rattle.refinement.proofs.Stepping.{Mid, durable-made, step-on, step-ends, advance-on, advance-ends}
@@ -126,6 +126,7 @@ module _ (past : List ℕ) (st : State) (img : List ℕ) (b : Reference) (M : Mo
           event = M .event;
           valid = made-valid st (n + 1) (M .valid) (ap isIdle (M .event)) (omega (arith, l, needed));
           durable = durable-made past st i b (n + 1) left D;
+          narrow = record { state = M .narrow .state; book = M .narrow .book };
           four = M .four;
           sixty-four = M .sixty-four;
           no-writes = M .no-writes;
@@ -177,7 +178,7 @@ module _ (past : List ℕ) (st : State) (img : List ℕ) (b : Reference) (M : Mo
       record {
         low = omega arith;
         busy =
-            asked-busy s i (firstReference ms k m a base) (Write 1 0 o 0 8) (st .pending .second) f (secondTask ms k m a base) Q (omega arith)
+            asked-busy s i (firstReference ms k m a base) (Write 1 0 o 0 8) (st .pending .second) f (secondTask ms k m a base) Q (ap not (not-wide s (firstReference ms k m a base) 1 (Q .narrow) (omega arith))) (omega arith)
             (write-row s k m f o (st .pending .second) (W₁ .ready) (omega (arith, own-range k m (E .known) .1)) (W₁ .ready .own-free))
             (bytes, bytes-bytesOf 8 _, omega (arith, length-bytes 8 (rolled ms o (meterOn b o) a)), all-left s (Write 1 0 o 0 8) (st .pending .second) f (secondTask ms k m a base), second-words t, wrote-frame s k m f W₁ i o (st .pending .second), second-bytes t);
       }
@@ -188,7 +189,7 @@ module _ (past : List ℕ) (st : State) (img : List ℕ) (b : Reference) (M : Mo
       let s = linesDone st k m in
       let some : 0 < needs s (Commit 1) = omega (arith, commit-five s k m f W) in
       let e = all-left s (Commit 1) (replicate 8 0) 0 (committing 1) in
-      let B = asked-busy s i (linesReference ms k m a base) (Commit 1) (replicate 8 0) 0 (committing 1) Q some (commit-row s k m f W) e in
+      let B = asked-busy s i (linesReference ms k m a base) (Commit 1) (replicate 8 0) 0 (committing 1) Q (ap not (not-wide s (linesReference ms k m a base) 1 (Q .narrow) (omega arith))) some (commit-row s k m f W) e in
       record { low = rw (needs-asked s (replicate 8 0) 0 (Commit 1) (Commit 1)) some; busy = subst (λ (w : Work). Busy past (withMade (commitAsked st k m) 0) i (withWork w (linesReference ms k m a base))) e B }
 
   -- ---- a store of an operation of the transaction
@@ -306,7 +307,7 @@ module _ (past : List ℕ) (st : State) (img : List ℕ) (b : Reference) (M : Mo
 
     done₃ : j + 1 ≡ 5 → Quiet past (eventDone st k m) i₃ (moved ms k m a (withWork idle b))
     done₃ q =
-        moved-quiet (eventDone st k m) i₃ base ms k m a (subst (λ (z : Sizes). (p l i : ℕ) → p < z .pages → l < 64 → i < 64 → b .writes 1 p l i ≡ none) (sym (done-sizes st k m)) (M .no-writes))
+        moved-quiet (eventDone st k m) i₃ base ms k m a (subst (λ (z : Sizes). (p l i : ℕ) → p < z .pages → l < 64 → i < 64 → b .writes 1 p l i ≡ none) (sym (done-sizes st k m)) (M .no-writes)) (M .narrow .book)
         (subst (λ (s : State). Quiet past s i₃ (emptied 1 (laid 1 (withWork idle (linesReference ms k m a base))))) (event-is st k m)
         (under-ends past (commitAsked st k m) img (committing 1) (linesReference ms k m a base) j U refl (q ∙ sym five) refl))
 

@@ -168,11 +168,12 @@ module _ (v : World) (e : stateOk (v .st) ≡ true) (i : isIdle (v .st .pending 
       let a : n ≡ left st → ⊥ = eqb-false n (left st) q in
       subst P (sym (run-kept n v (omega arith))) (mid (st .pending .made + n) (omega arith)))
 
-  pub run-valid : Sixteen (v .st .table) → length (v .st .writers .held) ≡ 64 → length (v .st .writers .opened) ≡ 4 → (n : ℕ) → n ≤ left (v .st) → stateOk (steppedBy n v .st) ≡ true
-  run-valid full lines four =
+  pub run-valid : Sized (v .st) → (n : ℕ) → n ≤ left (v .st) → stateOk (steppedBy n v .st) ≡ true
+  run-valid h =
       let st = v .st in
+      let p = pends st (st .pending .op) e refl i in
       after-steps (λ (x : State). stateOk x ≡ true)
-      (completed-valid st (st .pending .op) e full lines four (pends st (st .pending .op) e refl i .taken)) (λ m l. made-valid st m e i l)
+      (completed-valid st (st .pending .op) e (h .table .sixteen) (h .writers .sixty-four) (h .writers .four) (h .keys) (p .fits) (p .taken)) (λ m l. made-valid st m e i l)
 
   pub run-sized : Sized (v .st) → (n : ℕ) → n ≤ left (v .st) → Sized (steppedBy n v .st)
   run-sized h =
@@ -185,8 +186,8 @@ module _ (v : World) (e : stateOk (v .st) ≡ true) (i : isIdle (v .st .pending 
       let p = pends (v .st) (v .st .pending .op) e refl i in
       (run-step 0 v ∙ ap stepped (run-none v), omega arith)
 
-  pub step-valid : Sixteen (v .st .table) → length (v .st .writers .held) ≡ 64 → length (v .st .writers .opened) ≡ 4 → stateOk (stepped v .st) ≡ true
-  step-valid full lines four = subst (λ (u : World). stateOk (u .st) ≡ true) (step-run .0) (run-valid full lines four 1 (step-run .1))
+  pub step-valid : Sized (v .st) → stateOk (stepped v .st) ≡ true
+  step-valid h = subst (λ (u : World). stateOk (u .st) ≡ true) (step-run .0) (run-valid h 1 (step-run .1))
 
   pub step-sized : Sized (v .st) → Sized (stepped v .st)
   step-sized h = subst (λ (u : World). Sized (u .st)) (step-run .0) (run-sized h 1 (step-run .1))

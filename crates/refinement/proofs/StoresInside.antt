@@ -28,7 +28,7 @@ needing st Checkpoint i l = refl
 needing st (Event k m a) i l = refl
 needing st (Prepare w) i l = refl
 needing st (Confirm w) i l = refl
-needing st (Log p l o n) i l = refl
+needing st (Log p m o n) i l = refl
 needing st Copy i l = refl
 
 inside : {past : List ℕ} (z : Sizes) (v : World) (b : Reference) → Reached z past v b → (i : ℕ) → i < needs (v .st) (v .st .pending .op)

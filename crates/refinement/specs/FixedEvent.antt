@@ -9,6 +9,7 @@ use Rattle.bounded.specs.Rows.{Row, refusal}
 use Rattle.meters.specs.Meters.{fixedModulus, fixedModuli, eventKnown, movesCredit, firstMeter, ownMeter, eventNeeds, adds, creditAfter}
 use Rattle.state.specs.declared.State.{State}
 use Rattle.state.specs.declared.Op.the-variants.{Event}
+use Rattle.state.specs.Wide.{someWide}
 use Rattle.operations.specs.Operations.{journalFull, eventNextRows}
 use Rattle.refinement.specs.Frames.{pageFrame}
 use Rattle.refinement.specs.Outcome.{Outcome, answered}
@@ -30,10 +31,11 @@ abbrev pub fixedAmountBad : ℕ → ℕ → ℕ → ℕ → Bool
 fixedAmountBad kind meter stored amount =
     leb (fixedModulus (ownMeter kind meter)) amount || (movesCredit kind && fixedCreditBad kind stored amount)
 
--- 20, 12, 14, 15, 16, 21, 19
+-- 29 (document 02, L14), 20, 12, 14, 15, 16, 21, 19
 abbrev pub fixedEventRows : State → List ℕ → ℕ → ℕ → ℕ → List Row
 fixedEventRows st img k m a =
     rowState st ∷ rowShort st (length img) ∷ rowPending st
+    ∷ (someWide (st .wide .writer), 29)
     ∷ (not (eventKnown k m), 20)
     ∷ (eventNextRows st k m (pageFrame st img 0) ++ ((fixedAmountBad k m (meterIn st img (firstMeter k m)) a, 21) ∷ (journalFull st 1, 19) ∷ []))
 

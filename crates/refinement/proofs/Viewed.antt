@@ -1,0 +1,71 @@
+-- What a mount and a recall see of the image: the view is one that a mount takes, the durable part is the state's, and the lines shown, each that of its
+-- entry where one is counted, are the reference machine's.
+use Prim.Native.Nat.{ℕ, _<_}
+use mathlib.Core.Bool.{Bool, true, _&&_, cond}
+use mathlib.Core.List.{List}
+use mathlib.Core.Path.{_≡_, refl, ap, _∙_}
+use native.Mathlib.Omega.{arith}
+use lib.Dec.{ltb}
+use lib.ListN.{length, drop}
+use borrow.Author.Tests.{le-ltb}
+use Rattle.bounded.proofs.Tests.{row-keeps}
+use Rattle.layout.specs.declared.Sizes.{Sizes}
+use Rattle.layout.specs.Layout.{imageLength}
+use Rattle.words.specs.Words.{Bytes, word}
+use Rattle.image.specs.Lines.{lineBytes}
+use Rattle.entries.specs.Entries.{keyOf, entryOf}
+use Rattle.replay.specs.declared.Table.{Table}
+use Rattle.mount.proofs.Verdict.{Taken}
+use Rattle.mount.proofs.View.{View, Shows}
+use Rattle.state.specs.declared.State.{State}
+use Rattle.state.specs.declared.Wide.{Wide}
+use Rattle.validity.specs.Validity.{stateOk}
+use Rattle.refinement.specs.Recall.{frameOf}
+use Rattle.refinement.specs.Wide.{entryBytes, isCopy, shownLine}
+use Rattle.refinement.specs.Beside.{counted, lineOf}
+use Rattle.refinement.specs.Reference.{Reference, recallLine}
+use Rattle.refinement.proofs.Invariant.{Behind, Durable, Narrow, Related, uncounted}
+use Rattle.refinement.proofs.Sound.{related-valid, related-durable, related-narrow}
+use Rattle.refinement.specs.Calls.{worldOf}
+use Rattle.refinement.proofs.MountCall.{mounted-committed}
+
+pub record Viewed (past : List ℕ) (st : State) (img : List ℕ) (b : Reference) : Type 0 where
+  pub bytes : Bytes img
+  pub past-kept : drop (imageLength (st .sizes)) img ≡ past
+  pub view : View
+  pub shows : Shows img view
+  pub mounts : Taken (length img) view
+  pub sizes-same : view .sizes ≡ st .sizes
+  pub head-same : view .head ≡ st .head
+  pub tail-same : view .tail ≡ st .tail
+  pub behind : Behind (word img) (st .sizes) (view .table) (st .table)
+  pub shown : (p l : ℕ) → p < view .sizes .pages → l < 64 → shownLine img (view .sizes) (view .table) (view .count) (view .keys) p l ≡ recallLine b p l
+  pub own : (p l : ℕ) → p < st .sizes .pages → l < 64 → lineOf img st p l ≡ recallLine b p l
+
+-- where no entry is counted the committed copy is shown
+pub shown-copy : (img : List ℕ) (z : Sizes) (t : Table) (n : ℕ) (keys : List ℕ) (p l : ℕ) → n ≡ 0
+    → shownLine img z t n keys p l ≡ lineBytes img z (frameOf (word img) z t p l) l
+shown-copy img z t n keys p l e =
+    ap (λ (x : Bool). cond x (entryBytes img z (entryOf keys n (keyOf p l))) (lineBytes img z (frameOf (word img) z t p l) l)) (le-ltb (entryOf keys n (keyOf p l)) n (omega (arith, e)))
+
+-- so it is where there is no wide transaction
+pub durable-viewed : {past : List ℕ} (st : State) (img : List ℕ) (b : Reference) → stateOk st ≡ true → Durable past st img b → Narrow st b → Viewed past st img b
+durable-viewed st img b ok D N =
+    let v = D .view in
+    let none : counted st ≡ 0 = row-keeps (λ (x : ℕ). x ≡ 0) (isCopy (st .pending .op) && ltb 0 (st .pending .made)) (st .wide .count) 0 (ap (λ (d : Wide). d .count) (N .state)) refl in
+    record {
+      bytes = D .bytes;
+      past-kept = D .past-kept;
+      view = v;
+      shows = D .shows;
+      mounts = D .mounts;
+      sizes-same = D .sizes-same;
+      head-same = D .head-same;
+      tail-same = D .tail-same;
+      behind = D .behind;
+      shown = λ p l lp ll. shown-copy img (v .sizes) (v .table) (v .count) (v .keys) p l (uncounted st img b D N) ∙ mounted-committed st img b ok D p l lp ll;
+      own = λ p l lp ll. shown-copy img (st .sizes) (st .table) (counted st) (st .wide .keys) p l none ∙ D .committed p l lp ll;
+    }
+
+pub related-viewed : {past : List ℕ} (st : State) (img : List ℕ) (b : Reference) → Related past (worldOf st img) b → Viewed past st img b
+related-viewed st img b h = durable-viewed st img b (related-valid st img b h) (related-durable st img b h) (related-narrow st img b h)
