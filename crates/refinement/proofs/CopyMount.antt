@@ -13,7 +13,6 @@ use Rattle.words.specs.Words.{word}
 use Rattle.entries.specs.Entries.{keyOf, keyPage, keyLine, keysFrom, entryOf}
 use Rattle.replay.proofs.Tables.{one-value}
 use Rattle.mount.proofs.View.{View}
-use Rattle.mount.proofs.Verdict.{foundIn, taken-mount}
 use Rattle.state.specs.declared.State.{State}
 use Rattle.state.specs.Held.{noWriter}
 use Rattle.validity.specs.Validity.{stateOk}
@@ -26,7 +25,7 @@ use Rattle.refinement.specs.Wide.{entryBytes}
 use Rattle.refinement.proofs.CallMounted.{view-sixteen, copying-valid}
 use Rattle.refinement.proofs.Invariant.{Durable}
 use Rattle.refinement.proofs.Mounted.{stateOf}
-use Rattle.refinement.proofs.MountCall.{mount-result, mounted-committed}
+use Rattle.refinement.proofs.MountCall.{mount-viewed, mounted-committed}
 use Rattle.refinement.proofs.Keys.{view-keys}
 use Rattle.refinement.proofs.Copying.{copyOf, inPlace, placed, Copying}
 use Rattle.refinement.proofs.StepCopy.{counts}
@@ -106,7 +105,9 @@ module _ {past : List ℕ} (st : State) (img : List ℕ) (b : Reference) (C : Co
         book = refl;
       }
 
-  pub mount-copying : (u : World) → u .image ≡ img → exec mount u ≡ replaces (answered 0 noState 0 (copyingOf v)) u
-  mount-copying u e =
-      mount-result u (foundIn v) (ap _ e ∙ taken-mount img v (D .shows) (D .mounts))
-      ∙ ap (λ (x : Bool). replaces (answered 0 noState 0 (cond x (stateOf v) (copyingOf v))) u) (ne-eqb (v .count) 0 counted)
+-- it is taken, and returns that state
+pub mount-copying : {past : List ℕ} (u : World) (b : Reference) (C : Copying past (u .st) (u .image) b) → exec mount u ≡ replaces (answered 0 noState 0 (copyingOf (C .durable .view))) u
+mount-copying u b C =
+    let v : View = C .durable .view in
+    mount-viewed u v (C .durable .shows) (C .durable .mounts)
+    ∙ ap (λ (x : Bool). replaces (answered 0 noState 0 (cond x (stateOf v) (copyingOf v))) u) (ne-eqb (v .count) 0 (counted (u .st) (u .image) b C))
