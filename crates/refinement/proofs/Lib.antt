@@ -93,6 +93,7 @@ pub mod LogMid
 pub mod LogEnds
 pub mod StepLog
 pub mod CopyBegins
+pub mod StepBeside
 pub mod Moving
 pub mod EventKept
 pub mod AskEvent
