@@ -94,6 +94,7 @@ pub mod LogEnds
 pub mod StepLog
 pub mod CopyBegins
 pub mod StepBeside
+pub mod WideRuns
 pub mod Moving
 pub mod EventKept
 pub mod AskEvent

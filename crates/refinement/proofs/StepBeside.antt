@@ -87,6 +87,12 @@ module _ (st : State) where
   doing-nothing img b (Consolidate p) s d = d
   doing-nothing img b Checkpoint s d = d
 
+pub beside-work : {past : List ℕ} (st : State) (img : List ℕ) (b : Reference) (op : Op) → st .pending .op ≡ op → Beside op → Busy past (shut st) img (emptied (st .wide .writer) b)
+    → b .work ≡ under nothing (needs st op - st .pending .made)
+beside-work st img b op is s B =
+    let w : ℕ = st .wide .writer in
+    doing-nothing (shut st) img (emptied w b) op s (subst (Doing (shut st) img (emptied w b)) is (B .doing)) ∙ ap (λ (n : ℕ). under nothing (n - st .pending .made)) (same-needs st op s)
+
 -- so with so many stores left only those are fewer
 left-work : ℕ → Work
 left-work zero = idle
@@ -148,11 +154,8 @@ module _ {past : List ℕ} (st : State) (img : List ℕ) (b : Reference) (G : Lo
   abbrev c : Reference
   c = withWork (left-work left) b
 
-  work : b .work ≡ under nothing (needs st op - m)
-  work = doing-nothing (shut st) img (emptied w b) op s (subst (Doing (shut st) img (emptied w b)) is (B .doing)) ∙ ap (λ (n : ℕ). under nothing (n - m)) (same-needs st op s)
-
   book : (x : Reference) → advances 1 (b .work) x ≡ withWork (left-work left) x
-  book x = ap (λ (k : Work). advances 1 k x) work ∙ continues-nothing left x
+  book x = ap (λ (k : Work). advances 1 k x) (beside-work st img b op is s B) ∙ continues-nothing left x
 
   -- one store without the wide transaction
   next : Related past (stepped (worldOf (shut st) img)) (emptied w c)
