@@ -1,4 +1,4 @@
--- Every store of an operation that no row turns back goes to a word of the image.
+-- Every store of an operation that no row turns back goes to a word of the image; but for a wide write's, to one before the entries.
 use Prim.Native.Nat.{ℕ, _+_, _-_, _*_, _/_, _%_, _<_, _≤_}
 use mathlib.Core.Bool.{Bool, true, false, not, _&&_, _||_}
 use mathlib.Core.List.{List}
@@ -12,7 +12,7 @@ use Rattle.bounded.specs.Rows.{refusal}
 use Rattle.bounded.proofs.Tests.{caseOn, row-keeps, and-right}
 use Rattle.bounded.proofs.Those.{chosen, length-those}
 use Rattle.layout.specs.declared.Sizes.{Sizes}
-use Rattle.layout.specs.Layout.{Legal, frames, headWord, tailWord, countWord, pageWord, slotWord, recordWord, lineWord, imageWords, imageLength}
+use Rattle.layout.specs.Layout.{Legal, frames, headWord, tailWord, countWord, pageWord, slotWord, recordWord, lineWord, entryWord, imageWords, imageLength}
 use Rattle.layout.proofs.LayoutLaws.{record-end, frame-start, line-end}
 use Rattle.words.specs.Words.{word}
 use Rattle.entries.specs.Entries.{keyOf, keyPage, keyLine}
@@ -50,19 +50,19 @@ pub use Rattle.refinement.proofs.ConsolidatePlaces.{copy-line}
 -- ---- words of the image by what they are
 
 module _ (z : Sizes) (g : Legal z) where
-  record-in : (q k : ℕ) → k < 4 → recordWord z q + k < imageWords z
+  record-in : (q k : ℕ) → k < 4 → recordWord z q + k < entryWord z 0
   record-in q k l = omega (arith, record-end z g q, frame-start z)
 
-  slot-in : (s k : ℕ) → s < z .slots → k < 3 → slotWord z s + k < imageWords z
+  slot-in : (s k : ℕ) → s < z .slots → k < 3 → slotWord z s + k < entryWord z 0
   slot-in s k l m = omega (arith, frame-start z)
 
-  page-in : (p : ℕ) → p < z .pages → pageWord p < imageWords z
+  page-in : (p : ℕ) → p < z .pages → pageWord p < entryWord z 0
   page-in p l = omega (arith, frame-start z)
 
-  header-in : (a : ℕ) → a < 8 → a < imageWords z
+  header-in : (a : ℕ) → a < 8 → a < entryWord z 0
   header-in a l = omega (arith, frame-start z)
 
-  line-in : (f l k : ℕ) → f < frames z → l < 64 → k < 8 → lineWord z f l + k < imageWords z
+  line-in : (f l k : ℕ) → f < frames z → l < 64 → k < 8 → lineWord z f l + k < entryWord z 0
   line-in f l k a b c = omega (arith, line-end z f l a b)
 
 -- ---- the operations
@@ -71,7 +71,7 @@ module _ (st : State) (e : stateOk st ≡ true) where
   abbrev z : Sizes
   z = st .sizes
 
-  write-in : Sixteen (st .table) → (w p l o n i : ℕ) → refusal (opRows st (Write w p l o n) (st .pending .frame)) ≡ 0 → i < 8 → writeAt st p l i < imageWords z
+  write-in : Sixteen (st .table) → (w p l o n i : ℕ) → refusal (opRows st (Write w p l o n) (st .pending .frame)) ≡ 0 → i < 8 → writeAt st p l i < entryWord z 0
   write-in full w p l o n i r m =
       let v = valid st e in
       let h = write-taken st w p l o n (st .pending .frame) r in
@@ -79,14 +79,14 @@ module _ (st : State) (e : stateOk st ≡ true) where
       line-in z (v .legal) (otherFrame (slotIn (st .table) (writeSlot st p)) l) l i
       (other-low z (slotIn (st .table) (writeSlot st p)) l (v .slots .shapes (writeSlot st p) low)) (h .args .line-low) m
 
-  commit-in : (w i : ℕ) → commitAt st w i < imageWords z
+  commit-in : (w i : ℕ) → commitAt st w i < entryWord z 0
   unfolding commitAtOf
   commit-in w i =
       let v = valid st e in
-      row-keeps (λ (x : ℕ). x < imageWords z) (ltb i (4 * length (commitSlots st w))) (recordWord z (position z (st .head) (i / 4)) + i % 4) headWord
+      row-keeps (λ (x : ℕ). x < entryWord z 0) (ltb i (4 * length (commitSlots st w))) (recordWord z (position z (st .head) (i / 4)) + i % 4) headWord
       (record-in z (v .legal) (position z (st .head) (i / 4)) (i % 4) (omega arith)) (header-in z (v .legal) headWord (omega arith))
 
-  consolidate-in : Sixteen (st .table) → (p i : ℕ) → refusal (opRows st (Consolidate p) (st .pending .frame)) ≡ 0 → consolidateAt st p i < imageWords z
+  pub consolidate-in : Sixteen (st .table) → (p i : ℕ) → refusal (opRows st (Consolidate p) (st .pending .frame)) ≡ 0 → consolidateAt st p i < entryWord z 0
   unfolding consolidateAt
   consolidate-in full p i r =
       let v = valid st e in
@@ -112,7 +112,7 @@ module _ (st : State) (e : stateOk st ≡ true) where
       rw (a, b, d) (record-in z (v .legal) (st .head) (i - (c + 1)) (omega arith)))
       (λ d. rw (a, b, d) (header-in z (v .legal) headWord (omega arith)))))
 
-  checkpoint-in : (i : ℕ) → checkpointAt st i < imageWords z
+  pub checkpoint-in : (i : ℕ) → checkpointAt st i < entryWord z 0
   unfolding checkpointAtOf recordedSlots
   checkpoint-in i =
       let v = valid st e in
@@ -136,9 +136,9 @@ module _ (st : State) (k m a : ℕ) (e : stateOk st ≡ true) (full : Sixteen (s
   E = event-taken st k m a f r
 
   abbrev Inside : ℕ → Type 0
-  Inside x = x < imageWords (st .sizes)
+  Inside x = x < entryWord (st .sizes) 0
 
-  event-in : (i : ℕ) → eventAt st k m i < imageWords (st .sizes)
+  event-in : (i : ℕ) → eventAt st k m i < entryWord (st .sizes) 0
   unfolding eventAt
   event-in i =
       let R = event-begun st k m a e full lines four E in
@@ -150,12 +150,12 @@ module _ (st : State) (k m a : ℕ) (e : stateOk st ≡ true) (full : Sixteen (s
       (write-row (withOpen st 1) k m f (firstMeter k m) (st .pending .line) R (omega (arith, first-low k m (E .known))) (R .first-free)) (ltb-true i 8 t) in
       let two : ltb i 8 ≡ false → movesCredit k && ltb i 16 ≡ true → Inside (writeAt (secondAsked st k m) 0 (ownMeter k m) (i - 8)) =
       λ s t.
-      subst (λ (z : Sizes). writeAt (secondAsked st k m) 0 (ownMeter k m) (i - 8) < imageWords z) (first-sizes st k m)
+      subst (λ (z : Sizes). writeAt (secondAsked st k m) 0 (ownMeter k m) (i - 8) < entryWord z 0) (first-sizes st k m)
       (write-in (secondAsked st k m) (second-asked-ok st k m a e full lines four E) (W .ready .full) 1 0 (ownMeter k m) 0 8 (i - 8)
       (write-row (firstDone st k m) k m f (ownMeter k m) (st .pending .second) (W .ready) (omega (arith, own-range k m (E .known) .1)) (W .ready .own-free))
       (omega (arith, ltb-false i 8 s, ltb-true i 16 (and-right (movesCredit k) (ltb i 16) t)))) in
       let three : Inside (commitAt (linesDone st k m) 1 (i - lineStores k)) =
-      subst (λ (z : Sizes). commitAt (linesDone st k m) 1 (i - lineStores k) < imageWords z) (lines-sizes st k m)
+      subst (λ (z : Sizes). commitAt (linesDone st k m) 1 (i - lineStores k) < entryWord z 0) (lines-sizes st k m)
       (commit-in (linesDone st k m) (L .ready .ok) 1 (i - lineStores k)) in
       caseOn (ltb i 8)
       (λ t. rw t (one t))
@@ -176,7 +176,7 @@ module _ (st : State) (e : stateOk st ≡ true) where
       omega (arith, entry-le (d .keys) (d .count) (keyOf p l), leb-false (st .sizes .entries) (d .count) full)) in
       omega arith
 
-  copy-in : (img : List ℕ) (i : ℕ) → copyAt st img i < imageWords (st .sizes)
+  copy-in : (img : List ℕ) (i : ℕ) → copyAt st img i < entryWord (st .sizes) 0
   unfolding copyAtOf
   copy-in img i =
       let z = st .sizes in
@@ -184,23 +184,27 @@ module _ (st : State) (e : stateOk st ≡ true) where
       let k = getD (st .wide .keys) ((i - 1) / 8) 0 in
       let f = copiedFrame z (st .table) img k in
       let low : f < frames z = mod-lt (frameOf (word img) z (st .table) (keyPage k) (keyLine k)) (omega (arith, v .legal .slots-low)) in
-      let inside : lineWord z f (keyLine k) + (i - 1) % 8 < imageWords z = line-in z (v .legal) f (keyLine k) ((i - 1) % 8) low (omega arith) (omega arith) in
-      row-keeps (λ (x : ℕ). x < imageWords z) (eqb i 0 || ltb (8 * st .wide .count) i) countWord (lineWord z f (keyLine k) + (i - 1) % 8) (header-in z (v .legal) countWord (omega arith)) inside
+      let inside : lineWord z f (keyLine k) + (i - 1) % 8 < entryWord z 0 = line-in z (v .legal) f (keyLine k) ((i - 1) % 8) low (omega arith) (omega arith) in
+      row-keeps (λ (x : ℕ). x < entryWord z 0) (eqb i 0 || ltb (8 * st .wide .count) i) countWord (lineWord z f (keyLine k) + (i - 1) % 8) (header-in z (v .legal) countWord (omega arith)) inside
+
+-- what is before the entries is in the image
+in-image : (z : Sizes) (a : ℕ) → a < entryWord z 0 → a < imageWords z
+in-image z a l = omega arith
 
 module _ (st : State) (e : stateOk st ≡ true) where
   -- store i of an operation that needs more than i
   pub op-in-range : Sixteen (st .table) → length (st .writers .held) ≡ 64 → length (st .writers .opened) ≡ 4 → (op : Op) → refusal (opRows st op (st .pending .frame)) ≡ 0 → (img : List ℕ) (i : ℕ) → i < needs st op → storeAt st img op i < imageWords (st .sizes)
   unfolding needs
   op-in-range full lines four Idle r img i l = absurd (omega arith)
-  op-in-range full lines four (Write w p l o n) r img i m = write-in st e full w p l o n i r m
-  op-in-range full lines four (Commit w) r img i l = commit-in st e w i
-  op-in-range full lines four (Consolidate p) r img i l = consolidate-in st e full p i r
-  op-in-range full lines four Checkpoint r img i l = checkpoint-in st e i
-  op-in-range full lines four (Event k m a) r img i l = event-in st k m a e full lines four r i
-  op-in-range full lines four (Prepare w) r img i l = commit-in st e w i
-  op-in-range full lines four (Confirm w) r img i l = header-in (st .sizes) (valid st e .legal) headWord (omega arith)
+  op-in-range full lines four (Write w p l o n) r img i m = in-image (st .sizes) _ (write-in st e full w p l o n i r m)
+  op-in-range full lines four (Commit w) r img i l = in-image (st .sizes) _ (commit-in st e w i)
+  op-in-range full lines four (Consolidate p) r img i l = in-image (st .sizes) _ (consolidate-in st e full p i r)
+  op-in-range full lines four Checkpoint r img i l = in-image (st .sizes) _ (checkpoint-in st e i)
+  op-in-range full lines four (Event k m a) r img i l = in-image (st .sizes) _ (event-in st k m a e full lines four r i)
+  op-in-range full lines four (Prepare w) r img i l = in-image (st .sizes) _ (commit-in st e w i)
+  op-in-range full lines four (Confirm w) r img i l = in-image (st .sizes) _ (header-in (st .sizes) (valid st e .legal) headWord (omega arith))
   op-in-range full lines four (Log p l o n) r img i m = log-in st e p l o n i r m
-  op-in-range full lines four Copy r img i l = copy-in st e img i
+  op-in-range full lines four Copy r img i l = in-image (st .sizes) _ (copy-in st e img i)
 
   -- store i of the pending operation: its eight bytes, on a word, lie inside the image
   pub store-in-range : Sixteen (st .table) → length (st .writers .held) ≡ 64 → length (st .writers .opened) ≡ 4 → isIdle (st .pending .op) ≡ false → (img : List ℕ) (i : ℕ) → i < needs st (st .pending .op) → 8 * storeAt st img (st .pending .op) i + 8 ≤ imageLength (st .sizes)

@@ -63,7 +63,12 @@ pub mod AskConsolidate
 pub mod AskFree
 pub mod Stepping
 pub mod StepLast
+pub mod Keys
+pub mod Silent
+pub mod Counted
 pub mod Copying
+pub mod CopyMid
+pub mod CopyEnds
 pub mod HeaderStore
 pub mod WriteHeld
 pub mod WriteTable
@@ -83,6 +88,13 @@ pub mod CommitMid
 pub mod StepCommit
 pub mod StepPrepare
 pub mod StepCall
+pub mod StepCopy
+pub mod CopyMount
+pub mod Logging
+pub mod LogMid
+pub mod LogEnds
+pub mod StepLog
+pub mod CopyBegins
 pub mod Moving
 pub mod EventKept
 pub mod AskEvent

@@ -41,7 +41,7 @@ module _ {past : List ℕ} (st : State) (img : List ℕ) (b : Reference) (valid 
       ∙ D .committed p l h k)
 
 -- mount's result where the judgement is known
-mount-result : (v : World) (m : Mounted) → mountOf (v .image) ≡ m → exec mount v ≡ replaces (answered (m .row) noState 0 (mountedState m)) v
+pub mount-result : (v : World) (m : Mounted) → mountOf (v .image) ≡ m → exec mount v ≡ replaces (answered (m .row) noState 0 (mountedState m)) v
 unfolding exec mountCall
 mount-result v m e = ap (λ (x : Mounted). replaces (answered (x .row) noState 0 (mountedState x)) v) e
 
