@@ -12,9 +12,9 @@ use Rattle.refinement.specs.Stores.{World}
 use Rattle.refinement.specs.Run.{Call, exec}
 use Rattle.refinement.specs.Reference.{Reference, idle, turn}
 use Rattle.refinement.specs.Statement.{Right}
-use Rattle.refinement.proofs.Invariant.{Durable, Quiet, Related}
+use Rattle.refinement.proofs.Invariant.{Durable, Narrow, Quiet, Related}
 use Rattle.refinement.proofs.Moving.{Moving}
-use Rattle.refinement.proofs.Sound.{Sound, related-valid, related-durable, is-quiet, busy-pending}
+use Rattle.refinement.proofs.Sound.{Sound, related-valid, related-durable, related-narrow, is-quiet, busy-pending}
 
 abbrev pub Between : List ℕ → World → Reference → Type 0
 Between past v b = Related past v b ⊎ Moving past (v .st) (v .image) b
@@ -27,6 +27,10 @@ module _ {past : List ℕ} (v : World) (b : Reference) where
   pub between-durable : Between past v b → Durable past (v .st) (v .image) b
   between-durable (inl r) = related-durable (v .st) (v .image) b r
   between-durable (inr m) = m .durable
+
+  pub between-narrow : Between past v b → Narrow (v .st) b
+  between-narrow (inl r) = related-narrow (v .st) (v .image) b r
+  between-narrow (inr m) = m .narrow
 
   pub between-held : Between past v b → length (v .st .writers .held) ≡ 64
   between-held (inl (inl q)) = q .writers .sixty-four

@@ -28,11 +28,11 @@ use Rattle.refinement.specs.Run.{Call, checkpoint, commit, prepare, step
 use Rattle.refinement.specs.Beside.{HasRoom, MakesRoom, CheckpointMakesRoom}
 use Rattle.refinement.specs.Reference.{Reference, turn}
 use Rattle.refinement.specs.Statement.{Lent}
-use Rattle.refinement.proofs.Copies.{durable-fits}
+use Rattle.refinement.proofs.Cases.{standing-of}
 use Rattle.refinement.proofs.Lacks.{lacks}
 use Rattle.refinement.proofs.Reached.{Reached, reached-next, always}
-use Rattle.refinement.proofs.Between.{between-valid, between-durable}
 use Rattle.refinement.proofs.Valid.{legal-sizes}
+use Rattle.refinement.proofs.Viewed.{viewed-fits}
 
 -- a writer holds lines of at most S slots
 held-le : (z : Sizes) (held : List ℕ) (w : ℕ) → length (heldSlots z held w) ≤ z .slots
@@ -99,12 +99,13 @@ module _ {past : List ℕ} (z : Sizes) (v : World) (b : Reference) (h : Reached 
       let d = exec c v in
       let u : World = d .world in
       let r = reached-next c lent v b h in
-      fits u (between-valid u (turn c (d .number) (d .stores) b) (r .related)) (subst (λ (s : State). s .head ≡ s .tail) (sym e) refl)
+      fits u (standing-of u (turn c (d .number) (d .stores) b) (r .related) .valid) (subst (λ (s : State). s .head ≡ s .tail) (sym e) refl)
 
   pub makes-room : MakesRoom v
   makes-room =
-      let ok = between-valid v b (h .related) in
-      let fits = durable-fits past (v .st) (v .image) b (between-durable v b (h .related)) in
+      let s = standing-of v b (h .related) in
+      let ok = s .valid in
+      let fits = viewed-fits (v .st) (v .image) b (s .viewed) in
       record {
         at-once = λ taken none. has-room checkpoint tt (ask-ends v taken none);
         by-step = λ e one. has-room step tt (step-ends v ok fits e one);

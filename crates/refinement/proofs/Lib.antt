@@ -52,7 +52,9 @@ pub mod RecallCall
 pub mod LoadCall
 pub mod Start
 pub mod Asked
+pub mod PutBack
 pub mod Rewritten
+pub mod RewrittenEntry
 pub mod AskWrite
 pub mod AskCommit
 pub mod AskPrepare
@@ -103,7 +105,10 @@ pub mod EventStores
 pub mod StepEvent
 pub mod Between
 pub mod EventCalls
+pub mod Standing
 pub mod CallSound
+pub mod Cases
+pub mod CaseSound
 pub mod Reached
 pub mod Theorem
 pub mod MountReadsBack

@@ -8,12 +8,12 @@ use native.Mathlib.Nat.{zero-mod, mod-eq-of-lt}
 use native.Mathlib.Omega.{arith}
 use lib.Dec.{leb, eqb, eqb·suc-zero}
 use lib.ListN.{length, drop}
-use borrow.Author.Tests.{leb-true, leb-false, eq-eqb}
+use borrow.Author.Tests.{leb-true, leb-false, lt-ltb, eq-eqb}
 use Rattle.bounded.specs.Rows.{refusal}
 use Rattle.bounded.specs.Tab.{tab}
 use Rattle.bounded.proofs.Rows.{none-apply}
 use Rattle.bounded.proofs.Tab.{tab-ext}
-use Rattle.bounded.proofs.Tests.{caseOn, row-keeps, row-yes, row-no}
+use Rattle.bounded.proofs.Tests.{caseOn, contradicts, row-keeps, row-yes, row-no}
 use Rattle.layout.specs.declared.Sizes.{Sizes}
 use Rattle.layout.specs.Layout.{sizesOk, imageLength}
 use Rattle.layout.proofs.LayoutLaws.{legal}
@@ -24,23 +24,23 @@ use Rattle.operations.specs.Operations.{isIdle}
 use Rattle.operations.proofs.Taken.{event-taken}
 use Rattle.refinement.specs.Frames.{pageFrame}
 use Rattle.refinement.specs.Stores.{World}
-use Rattle.refinement.specs.Calls.{commitCallRows, commitOf, prepareOf, confirmCallRows, confirmOf, withdrawOf, consolidateCallRows, consolidateOf, freeCallRows, freeOf, checkpointCallRows, checkpointOf, writeCallRows, writeOf, eventCallRows, eventOf, loadRows, loadOf}
+use Rattle.refinement.specs.Calls.{commitCallRows, commitOf, prepareCallRows, prepareOf, confirmCallRows, confirmOf, withdrawOf, consolidateCallRows, consolidateOf, freeCallRows, freeOf, checkpointCallRows, checkpointOf, writeCallRows, writeOf, eventCallRows, eventOf, loadRows, loadOf}
 use Rattle.refinement.specs.Run.{Call, Result, mount, checkpoint, free, step, begin, beginWide, abort, commit, prepare, confirm, withdraw, consolidate, run, write, read, recall, event, load, exec, formattedWorld, after}
-use Rattle.refinement.specs.Reference.{Reference, Cell, none, laidOver, Task, Work, idle, under, writing, committing, moving, nothing, blank, withWork, emptied, written, laid, meterOn, firstMoved, moved, does, starts, continues, advances, taken, turn}
+use Rattle.refinement.specs.Reference.{Reference, Cell, none, laidOver, Task, Work, idle, under, copying, writing, committing, moving, nothing, blank, withWork, emptied, written, laid, meterOn, firstMoved, moved, does, starts, startsCopy, continues, copies, advances, taken, turn}
 use Rattle.refinement.specs.Statement.{AllLent}
 use Rattle.refinement.specs.Beside.{follows}
 use Rattle.refinement.specs.Totals.{Move, finishes, completes, history, total, Spares, AllSpare, loads, found, Account, opened, gained, loaded, next, account, Lends, AllLend, NoLoad, AddUp, MetersAddUp, FixedMetersAddUp}
 use Rattle.refinement.proofs.AskEvent.{facts}
-use Rattle.refinement.proofs.Between.{Between, between-valid, between-durable, between-quiet}
+use Rattle.refinement.proofs.Cases.{Invariant, standing-of}
+use Rattle.refinement.proofs.CaseSound.{call-sound}
 use Rattle.refinement.proofs.EventCalls.{starts-some}
 use Rattle.refinement.proofs.EventRows.{event-some, event-op-row, event-moduli}
-use Rattle.refinement.proofs.Invariant.{Quiet}
-use Rattle.refinement.proofs.LoadCall.{load-right}
 use Rattle.refinement.proofs.MountReadsBack.{reached-finds}
 use Rattle.refinement.proofs.Reached.{Reached, reached-first, reached-next, reached}
 use Rattle.refinement.proofs.StepCall.{work-same}
 use Rattle.refinement.proofs.Totals.{moved-adds-up}
 use Rattle.refinement.proofs.WriteHeld.{writes-kept}
+use Rattle.refinement.proofs.WriterCalls.{write-first}
 
 -- the meters told otherwise
 adds-ext : (f g : ℕ → ℕ) (h : Account) → ((i : ℕ) → i ≤ 23 → f i ≡ g i) → AddUp f h → AddUp g h
@@ -64,6 +64,7 @@ Fits ms meter nothing = Unit
 abbrev WorkFits : List ℕ → (ℕ → ℕ) → Work → Type 0
 WorkFits ms meter idle = Unit
 WorkFits ms meter (under t left) = Fits ms meter t
+WorkFits ms meter (copying w left) = Unit
 
 record Tally (b : Reference) (h : Account) : Type 0 where
   clean : (w l i : ℕ) → b .writes w 0 l i ≡ none
@@ -115,6 +116,10 @@ starts-tally : (t : Task) (n : ℕ) (b : Reference) (h : Account) → moves t �
 starts-tally t zero b h q i f T = subst (λ (es : List Move). Tally (does t b) (gained h es)) q (subst (λ (c : Reference). Tally (does t c) (gained h (moves t))) (work-same b idle i) (does-tally t b h T f))
 starts-tally t (suc n) b h q i f T = no-move (withWork (under t (suc n)) b) h (record { clean = T .clean; adds = T .adds; fits = f })
 
+copy-starts-tally : (w n : ℕ) (b : Reference) (h : Account) → b .work ≡ idle → Tally b h → Tally (startsCopy w n b) (gained h [])
+copy-starts-tally w zero b h i T = starts-tally (committing w) 0 b h refl i tt T
+copy-starts-tally w (suc n) b h i T = no-move (withWork (copying w (suc n)) b) h (record { clean = T .clean; adds = T .adds; fits = tt })
+
 -- stores made of what is under way
 finishes-is : (k left : ℕ) (t : Task) → finishes k (under t left) ≡ cond (leb left k) (moves t) []
 finishes-is k left (moving ms e m a) = refl
@@ -137,6 +142,16 @@ advance k (under t left) b h f T =
     (λ e.
     let s : 0 < left - min k left = omega (arith, leb-false left k e) in
     rw e (no-move (continues t (left - min k left) b) h (goes-on t (left - min k left) b h s f T))))
+advance k (copying w left) b h f T = copies-tally (min k left)
+  where
+    -- the commit with the first store, and nothing with the others
+    rest-tally : (n : ℕ) → Tally (continues nothing n (does (committing w) b)) (gained h [])
+    rest-tally zero = does-tally (committing w) b h T tt
+    rest-tally (suc n) = let D = does-tally (committing w) b h T tt in record { clean = D .clean; adds = D .adds; fits = tt }
+
+    copies-tally : (n : ℕ) → Tally (copies w left n b) (gained h [])
+    copies-tally zero = no-move b h T
+    copies-tally (suc n) = rest-tally (left - suc n)
 
 -- ---- one call
 
@@ -190,19 +205,20 @@ by-number c zero n ms v b h T f = f refl
 by-number c (suc x) n ms v b h T f =
     rw (none-loaded c x) (subst (λ (es : List Move). Tally b (gained h es)) (sym (none-completed c x b)) (no-move b h T))
 
-module _ {past : List ℕ} (v : World) (b : Reference) (h : Account) (R : Between past v b) (finds : (m : ℕ) → m ≤ 23 → found v m ≡ meterOn b m) (T : Tally b h) where
+module _ {past : List ℕ} (v : World) (b : Reference) (h : Account) (R : Invariant past v b) (finds : (m : ℕ) → m ≤ 23 → found v m ≡ meterOn b m) (T : Tally b h) where
   -- nothing is under way where an operation is asked for
   quiet : not (isIdle (v .st .pending .op)) ≡ false → b .work ≡ idle
-  quiet e = between-quiet v b R e .work
+  quiet = standing-of v b R .work-idle
 
   event-tally : (ms : List ℕ) (k m a : ℕ) → ms ≡ h .moduli → refusal (eventCallRows (v .st) (v .image) ms k m a) ≡ 0 → Tally (starts (moving ms k m a) (eventNeeds k) b) (gained h [])
   event-tally ms k m a s e =
       let st = v .st in
       let img = v .image in
-      let q = between-quiet v b R (none-apply (eventCallRows st img ms k m a) (omega arith) e .1 .1 .0) in
+      let E = event-taken st k m a (pageFrame st img 0) (event-op-row st img ms k m a e) in
+      let q = standing-of v b R .quiet (none-apply (eventCallRows st img ms k m a) (omega arith) e .1 .1 .0) (λ l. contradicts (lt-ltb (st .wide .writer) 4 l) (E .none-wide)) in
       let machine = withWork (under (moving ms k m a) (eventNeeds k)) b in
       let T′ : Tally machine h =
-      record { clean = T .clean; adds = T .adds; fits = (s, event-taken st k m a (pageFrame st img 0) (event-op-row st img ms k m a e) .known, event-moduli st img ms k m a e, facts st img b ms k m a q e .amount) } in
+      record { clean = T .clean; adds = T .adds; fits = (s, E .known, event-moduli st img ms k m a e, facts st img b ms k m a q e .amount) } in
       subst (λ (c : Reference). Tally c (gained h [])) (sym (starts-some (moving ms k m a) (eventNeeds k) b (event-some k))) (no-move machine h T′)
 
   -- a load: every meter starts from its number
@@ -210,7 +226,7 @@ module _ {past : List ℕ} (v : World) (b : Reference) (h : Account) (R : Betwee
   unfolding exec loadOf total
   load-tally text e =
       let ms : List ℕ = exec (load text) v .target in
-      let below = load-right (v .st) (v .image) b (between-valid v b R) (between-durable v b R) text e in
+      let below = call-sound (load text) tt v b R .right e in
       let idle-work = quiet (none-apply (loadRows (v .st) (v .image) text) (omega arith) e .1 .1 .0) in
       record {
         clean = T .clean;
@@ -233,6 +249,7 @@ module _ {past : List ℕ} (v : World) (b : Reference) (h : Account) (R : Betwee
   taken-tally step s t e = advance 1 (b .work) b h (T .fits) T
   taken-tally (run k) s t e = advance k (b .work) b h (T .fits) T
   taken-tally (begin w) s t e = no-move b h T
+  taken-tally (beginWide w) s t e = no-move (taken (beginWide w) 0 b) h (record { clean = T .clean; adds = T .adds; fits = T .fits })
   taken-tally (abort w) s t e =
       no-move (emptied w b) h (record { clean = λ u l i. row-keeps (λ (c : Cell). c ≡ none) (eqb u w) none (b .writes u 0 l i) refl (T .clean u l i); adds = T .adds; fits = T .fits })
   taken-tally (read w p l target) s t e = no-move b h T
@@ -243,16 +260,18 @@ module _ {past : List ℕ} (v : World) (b : Reference) (h : Account) (R : Betwee
   taken-tally free s t e =
       starts-tally nothing (exec free v .stores) b h refl (quiet (none-apply (freeCallRows (v .st) (v .image)) (omega arith) e .1 .1 .0)) tt T
   taken-tally (commit w) s t e =
-      starts-tally (committing w) (exec (commit w) v .stores) b h refl (quiet (none-apply (commitCallRows (v .st) (v .image) w) (omega arith) e .1 .1 .0)) tt T
+      let n : ℕ = exec (commit w) v .stores in
+      let i = quiet (none-apply (commitCallRows (v .st) (v .image) w) (omega arith) e .1 .1 .0) in
+      row-keeps (λ (c : Reference). Tally c (gained h [])) (eqb (b .wide) w) (startsCopy w n b) (starts (committing w) n b) (copy-starts-tally w n b h i T) (starts-tally (committing w) n b h refl i tt T)
   taken-tally (prepare w) s t e =
-      starts-tally nothing (exec (prepare w) v .stores) b h refl (quiet (none-apply (commitCallRows (v .st) (v .image) w) (omega arith) e .1 .1 .0)) tt T
+      starts-tally nothing (exec (prepare w) v .stores) b h refl (quiet (none-apply (prepareCallRows (v .st) (v .image) w) (omega arith) e .1 .1 .0)) tt T
   taken-tally (confirm w) s t e =
       starts-tally (committing w) (exec (confirm w) v .stores) b h refl (quiet (none-apply (confirmCallRows (v .st) (v .image) w) (omega arith) e .1 .1 .0)) tt T
   taken-tally (withdraw w) s t e = no-move b h T
   taken-tally (consolidate p) s t e =
       starts-tally nothing (exec (consolidate p) v .stores) b h refl (quiet (none-apply (consolidateCallRows (v .st) (v .image) p) (omega arith) e .1 .1 .0)) tt T
   taken-tally (write w p l o n bytes) s t e =
-      starts-tally (writing w p l o n bytes) (exec (write w p l o n bytes) v .stores) b h refl (quiet (none-apply (writeCallRows (v .st) (v .image) w p l o n bytes) (omega arith) e .1 .1 .0)) (s e) T
+      starts-tally (writing w p l o n bytes) (exec (write w p l o n bytes) v .stores) b h refl (quiet (write-first (v .st) (v .image) w p l o n bytes e .1 .1 .0)) (s e) T
   taken-tally (event ms k m a) s t e =
       subst (λ (n : ℕ). Tally (starts (moving ms k m a) n b) (gained h [])) (row-yes (eqb (refusal (eventCallRows (v .st) (v .image) ms k m a)) 0) (eventNeeds k) 0 (eq-eqb _ 0 e)) (event-tally ms k m a (t e) e)
 

@@ -1,64 +1,100 @@
 -- Demand 2: a mount finds the durable part of the state, and with it the committed lines.
 use Prim.Native.Nat.{ℕ, _<_}
 use mathlib.Core.List.{List}
-use mathlib.Core.Logic.{inl, inr, ⊎-elim}
-use mathlib.Core.Bool.{true}
-use mathlib.Core.Path.{_≡_, sym, ap, _∙_, subst}
+use mathlib.Core.Logic.{_⊎_, inl, inr, ⊎-elim}
+use mathlib.Core.Path.{_≡_, refl, sym, ap, _∙_, subst}
+use lib.Dec.{eqb}
+use borrow.Author.Tests.{eqb-true}
+use Rattle.bounded.proofs.Tests.{caseOn, row-keeps}
 use Rattle.layout.specs.declared.Sizes.{Sizes}
+use Rattle.entries.specs.Entries.{noKeys}
+use Rattle.replay.specs.Table.{slotIn, lastIn}
+use Rattle.mount.proofs.Verdict.{foundIn}
+use Rattle.mount.proofs.View.{View}
 use Rattle.state.specs.declared.State.{State}
-use Rattle.validity.specs.Validity.{stateOk}
+use Rattle.refinement.specs.Mount.{mountedState, copyingState}
 use Rattle.refinement.specs.Stores.{World}
+use Rattle.refinement.specs.Wide.{shownLine}
 use Rattle.refinement.specs.Run.{Result, mount, exec}
-use Rattle.refinement.specs.Beside.{lineOf, Finds, ReadsBack, MountReadsBack}
+use Rattle.refinement.specs.Beside.{lineOf, Finds, Uncommitted, ReadsBack, MountReadsBack}
 use Rattle.refinement.specs.Reference.{Reference, recallLine}
-use Rattle.refinement.proofs.Between.{between-valid, between-durable}
-use Rattle.refinement.proofs.Invariant.{Durable}
-use Rattle.refinement.proofs.MountCall.{mount-found, mounted-committed}
+use Rattle.refinement.proofs.Cases.{standing-of}
+use Rattle.refinement.proofs.MountCall.{mount-viewed}
 use Rattle.refinement.proofs.Mounted.{stateOf}
 use Rattle.refinement.proofs.Reached.{Reached, always}
+use Rattle.refinement.proofs.Viewed.{Viewed, shown-copy}
 
-module _ {past : List ℕ} (v : World) (b : Reference) (ok : stateOk (v .st) ≡ true) (D : Durable past (v .st) (v .image) b) where
+module _ {past : List ℕ} (v : World) (b : Reference) (seen : Viewed past (v .st) (v .image) b) where
+  abbrev st : State
+  st = v .st
+
+  abbrev view : View
+  view = seen .view
+
+  -- what it finds: a quiet state, or one with a copying pending
+  abbrev mounted : State
+  mounted = mountedState (foundIn view)
+
   -- it is taken
   pub mount-taken : exec mount v .number ≡ 0
-  mount-taken = ap (λ (d : Result). d .number) (mount-found v b D)
+  mount-taken = ap (λ (d : Result). d .number) (mount-viewed v view (seen .shows) (seen .mounts))
 
   -- and gives what the image shows
-  mount-state : exec mount v .world .st ≡ stateOf (D .view)
-  mount-state = ap (λ (d : Result). d .world .st) (mount-found v b D)
+  mount-state : exec mount v .world .st ≡ mounted
+  mount-state = ap (λ (d : Result). d .world .st) (mount-viewed v view (seen .shows) (seen .mounts))
 
-  finds-page : (p l : ℕ) → p < v .st .sizes .pages → l < 64 → lineOf (v .image) (exec mount v .world .st) p l ≡ recallLine b p l
+  -- the lines that the mounted state says are those that the image shows
+  mounted-line : (p l : ℕ) → lineOf (v .image) mounted p l ≡ shownLine (v .image) (view .sizes) (view .table) (view .count) (view .keys) p l
+  mounted-line p l =
+      let img = v .image in
+      let z = view .sizes in
+      let t = view .table in
+      caseOn (eqb (view .count) 0)
+      (λ e. rw e (shown-copy img z t 0 noKeys p l refl ∙ sym (shown-copy img z t (view .count) (view .keys) p l (eqb-true (view .count) 0 e))))
+      (λ e. rw e)
+
+  finds-page : (p l : ℕ) → p < st .sizes .pages → l < 64 → lineOf (v .image) (exec mount v .world .st) p l ≡ recallLine b p l
   finds-page p l lp ll =
       ap (λ (m : State). lineOf (v .image) m p l) mount-state
-      ∙ mounted-committed (v .st) (v .image) b ok D p l (subst (λ (z : Sizes). p < z .pages) (sym (D .sizes-same)) lp) ll
+      ∙ mounted-line p l
+      ∙ seen .shown p l (subst (λ (z : Sizes). p < z .pages) (sym (seen .sizes-same)) lp) ll
 
-  found-back : ReadsBack (v .image) (v .st) (stateOf (D .view))
-  found-back =
-      record {
-        sizes = D .sizes-same;
-        head = D .head-same;
-        tail = D .tail-same;
-        last = λ s l. sym (D .behind .last-same s l);
-        slot =
-            λ s l.
-            ⊎-elim
-            (λ e. inl (sym e))
-            (λ t. inr (record { page-low = t .page-low; original = t .original; bitmap = t .bitmap; free = t .was-free }))
-            (D .behind .slot-same s l);
-        line = λ p l lp ll. sym (ap (λ (m : State). lineOf (v .image) m p l) mount-state) ∙ finds-page p l lp ll ∙ sym (D .committed p l lp ll);
-      }
+  -- either state has the view's durable part
+  either : (P : State → Type 0) → P (stateOf view) → P (copyingState (view .sizes) (view .head) (view .tail) (view .table) (view .count) (view .keys)) → P mounted
+  either P quiet copying = row-keeps P (eqb (view .count) 0) _ _ quiet copying
 
-  pub reads-back : ReadsBack (v .image) (v .st) (exec mount v .world .st)
-  reads-back = subst (ReadsBack (v .image) (v .st)) (sym mount-state) found-back
+  slot-back : (s : ℕ) → s < st .sizes .slots → (slotIn (view .table) s ≡ slotIn (st .table) s) ⊎ Uncommitted (v .image) st (stateOf view) s
+  slot-back s l =
+      ⊎-elim
+      (λ e. inl (sym e))
+      (λ t. inr (record { page-low = t .page-low; original = t .original; bitmap = t .bitmap; free = t .was-free }))
+      (seen .behind .slot-same s l)
+
+  pub reads-back : ReadsBack (v .image) st (exec mount v .world .st)
+  reads-back =
+      subst (ReadsBack (v .image) st) (sym mount-state)
+      (record {
+        sizes = either (λ m. m .sizes ≡ st .sizes) (seen .sizes-same) (seen .sizes-same);
+        head = either (λ m. m .head ≡ st .head) (seen .head-same) (seen .head-same);
+        tail = either (λ m. m .tail ≡ st .tail) (seen .tail-same) (seen .tail-same);
+        last = λ s l. let e = sym (seen .behind .last-same s l) in either (λ m. lastIn (m .table) s ≡ lastIn (st .table) s) e e;
+        slot = λ s l. either (λ m. (slotIn (m .table) s ≡ slotIn (st .table) s) ⊎ Uncommitted (v .image) st m s) (slot-back s l) (other-state s (slot-back s l));
+        line = λ p l lp ll. sym (ap (λ (m : State). lineOf (v .image) m p l) mount-state) ∙ finds-page p l lp ll ∙ sym (seen .own p l lp ll);
+      })
+    where
+      other-state : (s : ℕ) → (slotIn (view .table) s ≡ slotIn (st .table) s) ⊎ Uncommitted (v .image) st (stateOf view) s
+          → (slotIn (view .table) s ≡ slotIn (st .table) s) ⊎ Uncommitted (v .image) st (copyingState (view .sizes) (view .head) (view .tail) (view .table) (view .count) (view .keys)) s
+      other-state s (inl e) = inl e
+      other-state s (inr u) = inr (record { page-low = u .page-low; original = u .original; bitmap = u .bitmap; free = u .free })
 
 -- at any time a mount finds the reference machine's pages
 pub reached-finds : {past : List ℕ} (z : Sizes) (v : World) (b : Reference) → Reached z past v b → Finds z v (recallLine b)
 reached-finds z v b h =
-    let ok = between-valid v b (h .related) in
-    let D = between-durable v b (h .related) in
-    record { taken = mount-taken v b ok D; found = λ p l lp. finds-page v b ok D p l (subst (λ (y : Sizes). p < y .pages) (sym (h .sizes)) lp) }
+    let seen = standing-of v b (h .related) .viewed in
+    record { taken = mount-taken v b seen; found = λ p l lp. finds-page v b seen p l (subst (λ (y : Sizes). p < y .pages) (sym (h .sizes)) lp) }
 
 both : {past : List ℕ} (z : Sizes) (v : World) (b : Reference) → Reached z past v b → Finds z v (recallLine b) × ReadsBack (v .image) (v .st) (exec mount v .world .st)
-both z v b h = (reached-finds z v b h, reads-back v b (between-valid v b (h .related)) (between-durable v b (h .related)))
+both z v b h = (reached-finds z v b h, reads-back v b (standing-of v b (h .related) .viewed))
 
 pub mount-reads-back : MountReadsBack
 mount-reads-back = always _ (λ z buffer v b h. both z v b h)

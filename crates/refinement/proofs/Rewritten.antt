@@ -10,13 +10,12 @@ use lib.ListN.{length, getD, set}
 use lib.Seq.{set-getD}
 use borrow.Author.Tests.{not-true}
 use Rattle.bounded.specs.Rows.{refusal}
-use Rattle.bounded.proofs.Below.{up-keeps}
 use Rattle.bounded.proofs.Tests.{and-left, and-right}
 use Rattle.layout.specs.declared.Sizes.{Sizes}
 use Rattle.layout.specs.Layout.{frames, lineWord, imageLength}
 use Rattle.layout.proofs.LayoutLaws.{line-end}
-use Rattle.words.specs.Words.{Bytes, word, wordAt, store}
-use Rattle.words.proofs.WordLaws.{store-same, word-part}
+use Rattle.words.specs.Words.{Bytes, word}
+use Rattle.words.proofs.WordLaws.{store-same}
 use Rattle.image.specs.Lines.{lineWords, mergeChanges}
 use Rattle.image.proofs.LineLaws.{length-line, merge-same}
 use Rattle.masks.specs.Lines.{inMask, withLine}
@@ -30,13 +29,12 @@ use Rattle.validity.specs.Validity.{stateOk}
 use Rattle.refinement.specs.Frames.{pageFrame, seenFrame, holds}
 use Rattle.refinement.specs.Settled.{noPending}
 use Rattle.refinement.specs.Write.{writeSlot, writeAt, writeValue}
-use Rattle.refinement.specs.Stores.{storeMade, storesMade, completed, steppedBy, left}
+use Rattle.refinement.specs.Stores.{storeMade, completed, steppedBy, left}
 use Rattle.refinement.specs.Calls.{withPending, worldOf, finishedLine, changesNothing}
 use Rattle.refinement.proofs.Going.{ranges-of, shapes-of}
 use Rattle.refinement.proofs.LinePut.{with-again}
 use Rattle.refinement.proofs.SeenFrames.{seen-low}
-use Rattle.refinement.proofs.Steps.{run-all, run-image}
-use Rattle.refinement.proofs.WriteMid.{line-word}
+use Rattle.refinement.proofs.PutBack.{line-at, all-back}
 use Rattle.refinement.proofs.WriterCalls.{frameLine, changes-narrow, finished-narrow}
 
 module _ (st : State) (img : List ℕ) (w p l o n : ℕ) (bytes : List ℕ) (ok : stateOk st ≡ true) (long : imageLength (st .sizes) ≤ length img) (sound : Bytes img)
@@ -90,25 +88,11 @@ module _ (st : State) (img : List ℕ) (w p l o n : ℕ) (bytes : List ℕ) (ok 
   goes i = rw (has-slot, mine)
 
   value : (i : ℕ) → i < 8 → writeValue asks i ≡ word img (lineWord z f l + i)
-  value i m =
-      let e : 8 * lineWord z f l + 8 * i ≡ 8 * (lineWord z f l + i) = omega arith in
-      ap (λ (ws : List ℕ). getD ws i 0) finished
-      ∙ line-word (frameLine st img w p l) i m
-      ∙ word-part img (8 * lineWord z f l) 64 (8 * i) (omega arith) line-low
-      ∙ ap (wordAt img) e
+  value i m = ap (λ (ws : List ℕ). getD ws i 0) finished ∙ line-at img (lineWord z f l) i m line-low
 
-  back : (i : ℕ) → i < 8 → store img (writeAt asks p l i) (writeValue asks i) ≡ img
-  back i m = rw (goes i, value i m) (store-same img (lineWord z f l + i) sound (omega (arith, line-low)))
-
-  -- after any of them the image is as it was
-  pub stores-back : (k : ℕ) → k ≤ 8 → storesMade asks k img ≡ img
-  stores-back k h =
-      up-keeps (λ (x : List ℕ). x ≡ img) (λ i x. storeMade asks x (Write w p l o n) (0 + i)) k img
-      (λ i x m e. let j : 0 + i ≡ i = omega arith in ap (λ (y : List ℕ). storeMade asks y (Write w p l o n) (0 + i)) e ∙ ap (storeMade asks img (Write w p l o n)) j ∙ back i (omega arith)) refl
-
-  pub run-back : (k : ℕ) → k ≤ 8 → steppedBy k (worldOf asks img) .image ≡ img
+  pub back : (i : ℕ) → i < needs st (Write w p l o n) → storeMade asks img (Write w p l o n) i ≡ img
   unfolding needs
-  run-back k h = run-image k (worldOf asks img) h ∙ stores-back k h
+  back i m = rw (goes i, value i m) (store-same img (lineWord z f l + i) sound (omega (arith, line-low)))
 
   -- ---- the state
 
@@ -118,7 +102,7 @@ module _ (st : State) (img : List ℕ) (w p l o n : ℕ) (bytes : List ℕ) (ok 
         ap (set (st .writers .held) (16 * w + slotFor st p)) (with-again (heldAt (st .writers .held) w (slotFor st p)) l low (T .args .line-low) mine)
         ∙ set-getD (st .writers .held) (16 * w + slotFor st p) 0
 
-    completed-back : completed asks (Write w p l o n) ≡ st
+    pub completed-back : completed asks (Write w p l o n) ≡ st
     unfolding writeSlot
     completed-back =
         rw has-slot
@@ -126,8 +110,6 @@ module _ (st : State) (img : List ℕ) (w p l o n : ℕ) (bytes : List ℕ) (ok 
         record { sizes = st .sizes; head = st .head; tail = st .tail; next = st .next; table = st .table; writers = record { opened = st .writers .opened; held = held-back i; prepared = st .writers .prepared }; wide = st .wide; pending = sym none i })
 
     -- after all eight the world is as it was
-    pub world-back : steppedBy 8 (worldOf asks img) ≡ worldOf st img
+    pub world-back : steppedBy (left asks) (worldOf asks img) ≡ worldOf st img
     unfolding needs
-    world-back =
-        let e : steppedBy 8 (worldOf asks img) .st ≡ st = run-all (worldOf asks img) refl (omega arith) ∙ completed-back in
-        λ i. record { st = e i; image = run-back 8 (omega arith) i }
+    world-back = all-back st img (Write w p l o n) (finishedLine st img w p l o n bytes) (pageFrame st img p) back refl (omega arith) completed-back

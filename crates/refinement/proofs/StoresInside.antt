@@ -15,7 +15,7 @@ use Rattle.refinement.proofs.InRange.{store-in-range}
 use Rattle.refinement.specs.Beside.{StoresInside, PastKept}
 use Rattle.refinement.specs.Reference.{Reference}
 use Rattle.refinement.proofs.Reached.{Reached, past-same, always}
-use Rattle.refinement.proofs.Between.{between-valid, between-durable, between-held, between-opened}
+use Rattle.refinement.proofs.Cases.{standing-of}
 
 -- what needs a store is pending
 needing : (st : State) (op : Op) (i : ℕ) → i < needs st op → isIdle op ≡ false
@@ -35,8 +35,9 @@ inside : {past : List ℕ} (z : Sizes) (v : World) (b : Reference) → Reached z
     → 8 * storeAt (v .st) (v .image) (v .st .pending .op) i + 8 ≤ imageLength z
 inside z v b h i l =
     let st = v .st in
+    let s = standing-of v b (h .related) in
     subst (λ (y : Sizes). 8 * storeAt st (v .image) (st .pending .op) i + 8 ≤ imageLength y) (h .sizes)
-    (store-in-range st (between-valid v b (h .related)) (between-durable v b (h .related) .behind .sixteen) (between-held v b (h .related)) (between-opened v b (h .related)) (needing st (st .pending .op) i l) i l)
+    (store-in-range st (s .valid) (s .sixteen) (s .sixty-four) (s .four) (needing st (st .pending .op) i l) (v .image) i l)
 
 pub stores-inside : StoresInside
 stores-inside = always _ (λ z buffer v b h. inside z v b h)

@@ -7,7 +7,7 @@ use Rattle.refinement.specs.Stores.{World}
 use Rattle.refinement.specs.Run.{Call, Result, exec, formattedWorld}
 use Rattle.refinement.specs.Reference.{Reference, blank, turn}
 use Rattle.refinement.specs.Statement.{Agrees, AllLent, Demand3}
-use Rattle.refinement.proofs.CallSound.{call-sound}
+use Rattle.refinement.proofs.CaseSound.{call-sound}
 use Rattle.refinement.proofs.Reached.{Reached, past-same, reached-first, reached-next}
 
 agrees-from : {z : Sizes} {past : List ℕ} (calls : List Call) → AllLent calls → (v : World) (b : Reference) → Reached z past v b

@@ -1,9 +1,9 @@
 -- What a mount and a recall see of the image: the view is one that a mount takes, the durable part is the state's, and the lines shown, each that of its
 -- entry where one is counted, are the reference machine's.
-use Prim.Native.Nat.{ℕ, _<_}
+use Prim.Native.Nat.{ℕ, _<_, _≤_}
 use mathlib.Core.Bool.{Bool, true, _&&_, cond}
 use mathlib.Core.List.{List}
-use mathlib.Core.Path.{_≡_, refl, ap, _∙_}
+use mathlib.Core.Path.{_≡_, refl, ap, _∙_, subst}
 use native.Mathlib.Omega.{arith}
 use lib.Dec.{ltb}
 use lib.ListN.{length, drop}
@@ -41,6 +41,9 @@ pub record Viewed (past : List ℕ) (st : State) (img : List ℕ) (b : Reference
   pub behind : Behind (word img) (st .sizes) (view .table) (st .table)
   pub shown : (p l : ℕ) → p < view .sizes .pages → l < 64 → shownLine img (view .sizes) (view .table) (view .count) (view .keys) p l ≡ recallLine b p l
   pub own : (p l : ℕ) → p < st .sizes .pages → l < 64 → lineOf img st p l ≡ recallLine b p l
+
+pub viewed-fits : {past : List ℕ} (st : State) (img : List ℕ) (b : Reference) → Viewed past st img b → imageLength (st .sizes) ≤ length img
+viewed-fits st img b h = subst (λ (z : Sizes). imageLength z ≤ length img) (h .sizes-same) (h .mounts .fits)
 
 -- where no entry is counted the committed copy is shown
 pub shown-copy : (img : List ℕ) (z : Sizes) (t : Table) (n : ℕ) (keys : List ℕ) (p l : ℕ) → n ≡ 0
