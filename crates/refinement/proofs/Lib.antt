@@ -108,6 +108,12 @@ pub mod EventCalls
 pub mod Standing
 pub mod CallSound
 pub mod Cases
+pub mod BeginWide
+pub mod LogQuiet
+pub mod LogSeen
+pub mod LogAbort
+pub mod LogCommit
+pub mod LogWrite
 pub mod CaseSound
 pub mod Reached
 pub mod Theorem
