@@ -110,7 +110,6 @@ pub mod CallSound
 pub mod Cases
 pub mod BeginWide
 pub mod LogQuiet
-pub mod LogSeen
 pub mod LogAbort
 pub mod LogCommit
 pub mod LogWrite
