@@ -95,6 +95,8 @@ pub mod LogMid
 pub mod LogEnds
 pub mod StepLog
 pub mod CopyBegins
+pub mod StepBeside
+pub mod WideRuns
 pub mod Moving
 pub mod EventKept
 pub mod AskEvent

@@ -96,7 +96,7 @@ idle-apart t k w e i = contradicts (ap no-work i) (ap no-work e)
 -- ---- n stores
 
 -- the reference machine with m stores left, told from any work
-continues-work : (t : Task) (m : ℕ) (k : Work) (b : Reference) → continues t m (withWork k b) ≡ continues t m b
+pub continues-work : (t : Task) (m : ℕ) (k : Work) (b : Reference) → continues t m (withWork k b) ≡ continues t m b
 continues-work t zero k b = refl
 continues-work t (suc m) k b = refl
 
