@@ -108,6 +108,7 @@ pub mod Nine
 pub mod EventCalls
 pub mod Standing
 pub mod CopyingStanding
+pub mod Remount
 pub mod LoggingStanding
 pub mod CallSound
 pub mod Cases
