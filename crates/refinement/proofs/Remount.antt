@@ -26,7 +26,7 @@ use Rattle.refinement.proofs.CopyMount.{copyingOf, remounted}
 use Rattle.refinement.proofs.Invariant.{Durable, Quiet}
 use Rattle.refinement.proofs.Keys.{view-keys}
 use Rattle.refinement.proofs.Mounted.{stateOf, mounted-quiet}
-use Rattle.refinement.proofs.Names.{owned-low, committed-owned}
+use Rattle.refinement.proofs.Names.{owned-low, owned-apart, committed-owned}
 use Rattle.refinement.proofs.Viewed.{shown-copy}
 
 -- the lines that an image shows are the reference machine's
@@ -42,6 +42,12 @@ module _ (img : List ℕ) (v : View) (shows : Shows img v) (mounts : Taken (leng
   copy-low p l low =
       owned-low (word img) (v .sizes) (v .table) (mounts .legal) once p (frameOf (word img) (v .sizes) (v .table) p l) low
       (committed-owned (word img) (v .sizes) (v .table) (mounts .legal) once p l)
+
+  -- two in one frame are of one page
+  pub one-page : (p l q m : ℕ) → p < v .sizes .pages → q < v .sizes .pages → frameOf (word img) (v .sizes) (v .table) p l ≡ frameOf (word img) (v .sizes) (v .table) q m → p ≡ q
+  one-page p l q m lp lq e =
+      owned-apart (word img) (v .sizes) (v .table) (mounts .legal) once p q _ _ lp lq
+      (committed-owned (word img) (v .sizes) (v .table) (mounts .legal) once p l) (committed-owned (word img) (v .sizes) (v .table) (mounts .legal) once q m) e
 
 module _ (img : List ℕ) (v : View) (b : Reference) (bytes : Bytes img) (shows : Shows img v) (mounts : Taken (length img) v) (shown : Shown img v b) where
   abbrev z : Sizes
