@@ -1,23 +1,53 @@
--- STUB of narrow (wide's Cases.antt replaces it)
+-- What holds between two calls: no wide transaction, one that is open, or one that is copied to its pages.
 use Prim.Native.Nat.{ℕ, zero, suc}
+use mathlib.Core.Bool.{cond}
 use mathlib.Core.List.{List}
+use mathlib.Core.Path.{_≡_, refl}
+use lib.Dec.{eqb, eqb·suc-zero}
+use Rattle.state.specs.declared.State.{State}
+use Rattle.refinement.specs.Outcome.{answered}
 use Rattle.refinement.specs.Stores.{World}
+use Rattle.refinement.specs.Calls.{worldOf}
 use Rattle.refinement.specs.Run.{Call, exec}
-use Rattle.refinement.specs.Reference.{Reference, turn}
-use Rattle.refinement.specs.Statement.{Lent, Right}
-use mathlib.Core.Path.{_≡_}
-use Rattle.refinement.proofs.Between.{Between}
-use Rattle.refinement.proofs.Standing.{Standing}
+use Rattle.refinement.specs.Reference.{Reference, taken, turn}
+use Rattle.refinement.specs.Statement.{Right}
+use Rattle.refinement.proofs.Between.{Between, Sounds}
+use Rattle.refinement.proofs.Copying.{Copying}
+use Rattle.refinement.proofs.Logging.{Logging}
 
-abbrev pub Till : ℕ → List ℕ → World → Reference → Type 0
-Till zero past v b = Standing past v b
-Till (suc n) past v b = Standing past v b × ((c : Call) → Lent c → Right c (exec c v) b × (exec c v .world .st .sizes ≡ v .st .sizes) × Till n past (exec c v .world) (turn c (exec c v .number) (exec c v .stores) b))
+pub data Invariant (past : List ℕ) (v : World) (b : Reference) : Type 0 where
+  narrow : Between past v b → Invariant past v b
+  logging : Logging past (v .st) (v .image) b → Invariant past v b
+  copying : Copying past (v .st) (v .image) b → Invariant past v b
 
-abbrev pub Invariant : List ℕ → World → Reference → Type 0
-Invariant past v b = (n : ℕ) → Till n past v b
+-- what every call's proof has to show: the answer is right, the sizes stay, and what holds between two calls holds again
+pub record Kept (past : List ℕ) (c : Call) (v : World) (b : Reference) : Type 0 where
+  pub right : Right c (exec c v) b
+  pub sizes : exec c v .world .st .sizes ≡ v .st .sizes
+  pub related : Invariant past (exec c v .world) (turn c (exec c v .number) (exec c v .stores) b)
 
-pub standing-of : {past : List ℕ} (v : World) (b : Reference) → Invariant past v b → Standing past v b
-standing-of v b i = i 0
+-- where it is shown without a wide transaction
+pub kept : {past : List ℕ} {c : Call} (v : World) (b : Reference) → Sounds past c v b → Kept past c v b
+kept v b s = record { right = s .right; sizes = s .sizes; related = narrow (s .between) }
 
-pub narrow : {past : List ℕ} {v : World} {b : Reference} → Between past v b → Invariant past v b
-narrow h = ?
+-- ---- what is answered, by its row: with row 0 the taken call's, with any other none
+
+pub record Then (past : List ℕ) (v u : World) (b : Reference) : Type 0 where
+  pub sizes : u .st .sizes ≡ v .st .sizes
+  pub related : Invariant past u b
+
+pub stays : {past : List ℕ} (v : World) (b : Reference) → Invariant past v b → Then past v v b
+stays v b h = record { sizes = refl; related = h }
+
+pub answered-then : {past : List ℕ} (c : Call) (v : World) (b : Reference) (row n : ℕ) (after : State) (img : List ℕ)
+    → Invariant past v b → (row ≡ 0 → Then past v (worldOf after img) (taken c n b))
+    → Then past v (worldOf (answered row (v .st) n after .state) (cond (eqb row 0) img (v .image))) (turn c row (answered row (v .st) n after .stores) b)
+answered-then c v b zero n after img h f = f refl
+answered-then c v b (suc k) n after img h f = rw (eqb·suc-zero k) (stays v b h)
+
+-- of a call that leaves the image alone
+pub answered-still : {past : List ℕ} (c : Call) (v : World) (b : Reference) (row n : ℕ) (after : State)
+    → Invariant past v b → (row ≡ 0 → Then past v (worldOf after (v .image)) (taken c n b))
+    → Then past v (worldOf (answered row (v .st) n after .state) (v .image)) (turn c row (answered row (v .st) n after .stores) b)
+answered-still c v b zero n after h f = f refl
+answered-still c v b (suc k) n after h f = rw (eqb·suc-zero k) (stays v b h)

@@ -112,6 +112,12 @@ pub mod Remount
 pub mod LoggingStanding
 pub mod CallSound
 pub mod Cases
+pub mod BeginWide
+pub mod LogQuiet
+pub mod LogSeen
+pub mod LogAbort
+pub mod LogCommit
+pub mod LogWrite
 pub mod CaseSound
 pub mod Reached
 pub mod Theorem
