@@ -1,16 +1,68 @@
--- The world right after a mount: its state is what the image shows.
-use Prim.Native.Nat.{ℕ}
+-- The world right after a mount: its state is what the image shows, with nothing pending or, where entries are counted, with their copying pending.
+use Prim.Native.Nat.{ℕ, _<_}
+use mathlib.Core.Bool.{Bool, cond}
 use mathlib.Core.List.{List}
-use mathlib.Core.Path.{sym, ap, subst}
+use mathlib.Core.Path.{_≡_, refl, sym, ap, _∙_, subst}
+use native.Mathlib.Omega.{arith}
+use lib.Dec.{eqb}
+use lib.ListN.{getD}
+use borrow.Author.Tests.{eqb-true, eqb-false, eq-eqb, ne-eqb}
+use Rattle.bounded.proofs.Tests.{caseOn}
+use Rattle.mount.proofs.Verdict.{foundIn}
+use Rattle.mount.proofs.View.{View}
+use Rattle.state.specs.declared.State.{State}
+use Rattle.state.specs.declared.Wide.{Wide}
+use Rattle.state.specs.declared.Pending.{Pending}
+use Rattle.state.specs.Held.{noWriter}
+use Rattle.state.specs.Wide.{noWide, wideOf}
+use Rattle.refinement.specs.Settled.{noPending}
+use Rattle.refinement.specs.Mount.{allClosed, mountedState, copying}
 use Rattle.refinement.specs.Stores.{World}
 use Rattle.refinement.specs.Calls.{worldOf}
 use Rattle.refinement.specs.Run.{Result, mount, exec}
+use Rattle.refinement.specs.Beside.{counted}
 use Rattle.refinement.specs.Reference.{Reference}
-use Rattle.refinement.proofs.Between.{Between, between-durable}
-use Rattle.refinement.proofs.MountCall.{mount-found}
-use Rattle.refinement.proofs.Mounted.{stateOf}
+use Rattle.refinement.proofs.MountCall.{mount-viewed}
+use Rattle.refinement.proofs.Viewed.{Viewed}
+
+-- a state with what the view shows
+abbrev pub foundState : View → Wide → Pending → State
+foundState v d p =
+    record { sizes = v .sizes; head = v .head; tail = v .tail; next = 0; table = v .table; writers = allClosed; wide = d; pending = p }
+
+-- it is the one that a mount returns, and tells the entries that are counted
+pub record Found (v : View) (d : Wide) (p : Pending) : Type 0 where
+  pub is : mountedState (foundIn v) ≡ foundState v d p
+  pub count : counted (foundState v d p) ≡ v .count
+  pub keys : (e : ℕ) → e < v .count → getD (d .keys) e 0 ≡ getD (v .keys) e 0
+
+abbrev copies : View → Wide
+copies v = wideOf noWriter (v .count) (v .keys)
+
+quiet-found : (v : View) → v .count ≡ 0 → Found v noWide noPending
+quiet-found v e =
+    record {
+      is = ap (λ (x : Bool). cond x (foundState v noWide noPending) (foundState v (copies v) copying)) (eq-eqb (v .count) 0 e);
+      count = sym e;
+      keys = λ i l. absurd (omega arith);
+    }
+
+copying-found : (v : View) → (v .count ≡ 0 → ⊥) → Found v (copies v) copying
+copying-found v n =
+    record {
+      is = ap (λ (x : Bool). cond x (foundState v noWide noPending) (foundState v (copies v) copying)) (ne-eqb (v .count) 0 n);
+      count = refl;
+      keys = λ i l. refl;
+    }
 
 -- a sentence on it
-pub after-mount : {past : List ℕ} (P : World → Type 0) (w : World) (b : Reference) (h : Between past w b)
-    → P (worldOf (stateOf (between-durable w b h .view)) (w .image)) → P (exec mount w .world)
-after-mount P w b h = subst P (sym (ap (λ (d : Result). d .world) (mount-found w b (between-durable w b h))))
+pub after-mount : {past : List ℕ} (P : World → Type 0) (w : World) (b : Reference) (s : Viewed past (w .st) (w .image) b)
+    → ((d : Wide) (p : Pending) → Found (s .view) d p → P (worldOf (foundState (s .view) d p) (w .image))) → P (exec mount w .world)
+after-mount P w b s f =
+    let v = s .view in
+    let at : (d : Wide) (p : Pending) → Found v d p → P (exec mount w .world) =
+    λ d p F.
+    subst P (sym (ap (λ (x : Result). x .world) (mount-viewed w v (s .shows) (s .mounts)) ∙ ap (λ (t : State). worldOf t (w .image)) (F .is))) (f d p F) in
+    caseOn (eqb (v .count) 0)
+    (λ t. at noWide noPending (quiet-found v (eqb-true (v .count) 0 t)))
+    (λ t. at (copies v) copying (copying-found v (eqb-false (v .count) 0 t)))

@@ -5,9 +5,10 @@ use Prim.Native.Nat.{ℕ, _+_, _<_, _≤_}
 use mathlib.Core.List.{List, [], _∷_}
 use mathlib.Core.Logic.{_⊎_}
 use mathlib.Core.Path.{_≡_}
-use lib.ListN.{length}
+use lib.ListN.{length, getD}
 use Rattle.words.specs.Words.{Bytes, word, store}
-use Rattle.layout.specs.Layout.{frames, placeOf, pageWord, slotWord, recordWord, paddingWord, frameWord, lineWord, imageWords}
+use Rattle.layout.specs.Layout.{frames, placeOf, pageWord, slotWord, recordWord, paddingWord, frameWord, lineWord, entryWord, imageWords}
+use Rattle.entries.specs.Entries.{keyOf, keyPage, keyLine, entryOf}
 use Rattle.journal.specs.Records.{position, liveCount}
 use Rattle.replay.specs.Table.{noPosition, lastIn, slotOf}
 use Rattle.refinement.specs.Stores.{World}
@@ -15,7 +16,12 @@ use Rattle.refinement.specs.Calls.{worldOf}
 use Rattle.refinement.specs.Recall.{frameOf}
 use Rattle.refinement.specs.Run.{Call, Result, mount, exec}
 use Rattle.refinement.specs.Statement.{AllLent}
-use Rattle.refinement.specs.Beside.{Always}
+use Rattle.refinement.specs.Beside.{Always, counted}
+
+-- the first word of the committed copy of the line with this key
+abbrev pub copiedWord : World → ℕ → ℕ
+copiedWord v key =
+    lineWord (v .st .sizes) (frameOf (word (v .image)) (v .st .sizes) (v .st .table) (keyPage key) (keyLine key)) (keyLine key)
 
 -- word a of the image is left over, v being a world right after a mount: its state has the header and the slots after replay
 pub data Leftover (v : World) (a : ℕ) : Type 0 where
@@ -37,6 +43,10 @@ pub data Leftover (v : World) (a : ℕ) : Type 0 where
   other-copy : (f l k : ℕ) → f < frames (v .st .sizes) → l < 64 → k < 8
       → ((p : ℕ) → p < v .st .sizes .pages → frameOf (word (v .image)) (v .st .sizes) (v .st .table) p l ≡ f → ⊥)
       → a ≡ lineWord (v .st .sizes) f l + k → Leftover v a
+  -- one of the nine words of an entry that is not counted (document 02, L14)
+  past-entries : (e k : ℕ) → counted (v .st) ≤ e → e < v .st .sizes .entries → k < 9 → a ≡ entryWord (v .st .sizes) e + k → Leftover v a
+  -- one of the eight words of the committed copy of a line whose entry is counted: the entry is copied over it
+  under-entry : (e k : ℕ) → e < counted (v .st) → k < 8 → a ≡ copiedWord v (getD (v .st .wide .keys) e 0) + k → Leftover v a
 
 -- other bytes in place of a world's: as many, and every word of the image that is not left over is kept. Nothing is asked of the bytes past
 -- the image
@@ -70,15 +80,16 @@ LeftoversNeverShow =
 
 -- ---- beside it: the list is as long as it can be, and any word may stand there
 
--- word a is one that a mount or a recall goes by: of the header (which has two that are not read), of a live record, of a slot without one, of
--- the page table for a page without a slot, of the committed copy of a line
+-- word a is one that a mount or a recall goes by: of the header (which under layout 1 has two that are not read), of a live record, of a slot without one,
+-- of the page table for a page without a slot, of an entry that is counted, of the committed copy of a line without such an entry
 pub data Needed (v : World) (a : ℕ) : Type 0 where
   header : a < 8 → Needed v a
   live-record : (i k : ℕ) → i < liveCount (v .st .sizes) (v .st .head) (v .st .tail) → k < 4
       → a ≡ recordWord (v .st .sizes) (position (v .st .sizes) (v .st .tail) i) + k → Needed v a
   slot-table : (s k : ℕ) → s < v .st .sizes .slots → k < 3 → lastIn (v .st .table) s ≡ noPosition → a ≡ slotWord (v .st .sizes) s + k → Needed v a
   page-table : (p : ℕ) → p < v .st .sizes .pages → slotOf (v .st .sizes) (v .st .table) p ≡ v .st .sizes .slots → a ≡ pageWord p → Needed v a
-  committed-copy : (p l k : ℕ) → p < v .st .sizes .pages → l < 64 → k < 8
+  counted-entry : (e k : ℕ) → e < counted (v .st) → k < 9 → a ≡ entryWord (v .st .sizes) e + k → Needed v a
+  committed-copy : (p l k : ℕ) → p < v .st .sizes .pages → l < 64 → k < 8 → entryOf (v .st .wide .keys) (counted (v .st)) (keyOf p l) ≡ counted (v .st)
       → a ≡ lineWord (v .st .sizes) (frameOf (word (v .image)) (v .st .sizes) (v .st .table) p l) l + k → Needed v a
 
 -- every word of the image is left over or needed

@@ -76,8 +76,6 @@ module _ {past : List ℕ} (st : State) (img : List ℕ) (b : Reference) (G : Lo
   line-taken : (p l : ℕ) → recallLine c p l ≡ readLine b w p l
   line-taken p l = refl
 
-
-
   -- of the state as it was, the entries counted
   counted : Durable past st image b
   counted =

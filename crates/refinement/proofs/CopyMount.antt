@@ -48,7 +48,7 @@ module _ {past : List ℕ} (st : State) (img : List ℕ) (b : Reference) (C : Co
   counted : v .count ≡ 0 → ⊥
   counted e = omega (arith, D .count-same, counts past st img b C .0)
 
-  keys-same : v .keys ≡ st .wide .keys
+  pub keys-same : v .keys ≡ st .wide .keys
   keys-same = view-keys img v (D .shows) (st .sizes) (st .wide .count) (D .sizes-same) (D .count-same) ∙ sym (C .keys)
 
   ok : stateOk (copyingOf v) ≡ true

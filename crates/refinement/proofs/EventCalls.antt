@@ -1,27 +1,23 @@
 -- The calls, where an event is asked for or pending: an event that is taken is pending; a step or a run makes its stores; a mount finds the pages without it;
 -- and row 9 turns any other call back but recall, which changes nothing.
 use Prim.Native.Nat.{ℕ, zero, suc, _-_, _<_, _≤_, min}
-use mathlib.Core.Bool.{Bool, true, false, cond, not}
+use mathlib.Core.Bool.{cond}
 use mathlib.Core.List.{List}
 use mathlib.Core.Logic.{_⊎_, inl, inr, ⊎-elim}
 use mathlib.Core.Path.{_≡_, refl, sym, ap, _∙_, subst}
 use native.Mathlib.Omega.{arith}
-use lib.Dec.{ltb, eqb, eqb·suc-zero}
-use lib.ListN.{length}
-use borrow.Author.Tests.{le-ltb}
+use lib.Dec.{eqb, eqb·suc-zero}
 use Rattle.bounded.specs.Rows.{refusal}
-use Rattle.bounded.proofs.Rows.{none-apply, row-at}
-use Rattle.layout.specs.Layout.{imageLength}
+use Rattle.bounded.proofs.Rows.{none-apply}
 use Rattle.meters.specs.Meters.{eventNeeds}
 use Rattle.state.specs.declared.State.{State}
 use Rattle.state.specs.declared.Op.the-variants.{Event}
-use Rattle.operations.specs.Operations.{isIdle, needs}
-use Rattle.validity.specs.Validity.{stateOk}
+use Rattle.operations.specs.Operations.{needs}
 use Rattle.refinement.specs.Settled.{withLines}
 use Rattle.refinement.specs.Frames.{pageFrame}
 use Rattle.refinement.specs.Stores.{World, stepped, steppedBy, left}
 use Rattle.refinement.specs.Outcome.{answered}
-use Rattle.refinement.specs.Calls.{worldOf, beginRows, beginWideRows, abortRows, writeCallRows, commitCallRows, prepareCallRows, confirmCallRows, consolidateCallRows, freeCallRows, checkpointCallRows, readRows, beginOf, beginWideOf, abortOf, writeOf, commitOf, prepareOf, confirmOf, withdrawOf, consolidateOf, freeOf, checkpointOf, eventOf, eventLine, eventSecond, eventCallRows, loadRows, loadOf, readRow, readBytes, stepRow, stepRows, stepOf, stepBytes, runOf, runBytes}
+use Rattle.refinement.specs.Calls.{worldOf, eventOf, eventLine, eventSecond, eventCallRows, stepRow, stepOf, stepBytes, runOf, runBytes}
 use Rattle.refinement.specs.Run.{Call, mount, checkpoint, free, step, begin, beginWide, abort, commit, prepare, confirm, withdraw, consolidate, run, write, read, recall, event, load, exec}
 use Rattle.refinement.specs.Recall.{recallRow}
 use Rattle.refinement.specs.Reference.{Reference, Task, Work, idle, under, moving, withWork, starts, continues, advances, taken, turn}
@@ -32,6 +28,7 @@ use Rattle.refinement.proofs.EventRows.{event-some, event-needs}
 use Rattle.refinement.proofs.Invariant.{Quiet, Related, uncounted}
 use Rattle.refinement.proofs.MountCall.{mount-sound}
 use Rattle.refinement.proofs.Moving.{Moving}
+use Rattle.refinement.proofs.Nine.{Asks, nine-stays, nine-keeps, nine-right}
 use Rattle.refinement.proofs.Pending.{pends}
 use Rattle.refinement.proofs.RecallCall.{recall-answer, recall-right}
 use Rattle.refinement.proofs.Viewed.{Viewed, durable-viewed}
@@ -94,20 +91,16 @@ module _ {past : List ℕ} (v : World) (b : Reference) (M : Moving past (v .st) 
   abbrev img : List ℕ
   img = v .image
 
-  valid-row : not (stateOk st) ≡ false
-  valid-row = ap not (M .valid)
-
-  fits-row : ltb (length img) (imageLength (st .sizes)) ≡ false
-  fits-row = le-ltb (length img) (imageLength (st .sizes)) (durable-fits past st img b (M .durable))
-
-  pending-row : not (isIdle (st .pending .op)) ≡ true
-  pending-row = ap not (moving-pending v b M)
-
-  -- a call so turned back
-  refused : (c : Call) (row n : ℕ) (after : State) → row ≡ 9
-      → Then past v (worldOf (answered row st n after .state) img) (turn c row (answered row st n after .stores) b)
-  refused c row n after e =
-      subst (λ (r : ℕ). Then past v (worldOf (answered r st n after .state) img) (turn c r (answered r st n after .stores) b)) (sym e) (record { sizes = refl; between = inr M })
+  -- row 9 turns any other call back
+  others : (c : Call) → Asks c → Sounds past c v b
+  others c a =
+      let fits = durable-fits past st img b (M .durable) in
+      let pending = moving-pending v b M in
+      record {
+        right = nine-right v (M .valid) fits pending b c a;
+        sizes = ap (λ (u : World). u .st .sizes) (nine-stays v (M .valid) fits pending c a);
+        between = nine-keeps v (M .valid) fits pending (Between past) b c a (inr M);
+      }
 
   -- ---- step and run
 
@@ -144,35 +137,7 @@ module _ {past : List ℕ} (v : World) (b : Reference) (M : Moving past (v .st) 
       let r = answered-then (run k) v b (stepRow st img) n (steppedBy n v .st) (steppedBy n v .image) (inr M) (λ e. record { sizes = steppedBy-sizes n v; between = run-stores k }) in
       record { right = tt; sizes = r .sizes; between = r .between }
 
-  -- ---- read, load and recall
-
-  read-nine : (w p l : ℕ) (target : List ℕ) → readRow st img w p l target ≡ 9
-  unfolding readRow
-  read-nine w p l target = sym (row-at (readRows st img w p l target) 2 (omega arith) (valid-row, (fits-row, tt)) pending-row)
-
-  load-nine : (text : List ℕ) → loadOf st img text .number ≡ 9
-  unfolding loadOf
-  load-nine text = sym (row-at (loadRows st img text) 2 (omega arith) (valid-row, (fits-row, tt)) pending-row)
-
-  load-goes : (text : List ℕ) → Sounds past (load text) v b
-  unfolding exec
-  load-goes text =
-      let e = load-nine text in
-      record {
-        right = λ q. let x : _≡_ {A = ℕ} 9 0 = sym e ∙ q in absurd (omega arith);
-        sizes = refl;
-        between = subst (λ (r : ℕ). Between past v (turn (load text) r 0 b)) (sym e) (inr M);
-      }
-
-  read-goes : (w p l : ℕ) (target : List ℕ) → Sounds past (read w p l target) v b
-  unfolding exec
-  read-goes w p l target =
-      let e = read-nine w p l target in
-      record {
-        right = λ q. let x : _≡_ {A = ℕ} 9 0 = sym e ∙ q in absurd (omega arith);
-        sizes = refl;
-        between = subst (λ (r : ℕ). Between past v (turn (read w p l target) r 0 b)) (sym e) (inr M);
-      }
+  -- ---- recall
 
   kept : (p l : ℕ) (target : List ℕ) (row : ℕ) → Between past v (turn (recall p l target) row 0 b)
   kept p l target zero = inr M
@@ -190,28 +155,27 @@ module _ {past : List ℕ} (v : World) (b : Reference) (M : Moving past (v .st) 
         between = kept p l target (recallRow img p l target);
       }
 
-  -- ---- the others
+  -- ---- every call
 
   pub moving-sound-at : (c : Call) → Sounds past c v b
-  unfolding exec beginOf beginWideOf abortOf writeOf commitOf prepareOf confirmOf withdrawOf consolidateOf freeOf checkpointOf eventOf
   moving-sound-at mount = sounds v b (mount-sound v b (M .valid) (M .durable) (uncounted st img b (M .durable) (M .narrow)))
   moving-sound-at step = step-goes
   moving-sound-at (run k) = run-goes k
-  moving-sound-at (read w p l target) = read-goes w p l target
   moving-sound-at (recall p l target) = recall-goes p l target
-  moving-sound-at (load text) = load-goes text
-  moving-sound-at checkpoint = let r = refused checkpoint (refusal (checkpointCallRows st img)) _ _ (sym (row-at (checkpointCallRows st img) 2 (omega arith) (valid-row, (fits-row, tt)) pending-row)) in record { right = tt; sizes = r .sizes; between = r .between }
-  moving-sound-at free = let r = refused free (refusal (freeCallRows st img)) _ _ (sym (row-at (freeCallRows st img) 2 (omega arith) (valid-row, (fits-row, tt)) pending-row)) in record { right = tt; sizes = r .sizes; between = r .between }
-  moving-sound-at (begin w) = let r = refused (begin w) (refusal (beginRows st w)) _ _ (sym (row-at (beginRows st w) 1 (omega arith) (valid-row, tt) pending-row)) in record { right = tt; sizes = r .sizes; between = r .between }
-  moving-sound-at (beginWide w) = let r = refused (beginWide w) (refusal (beginWideRows st w)) _ _ (sym (row-at (beginWideRows st w) 1 (omega arith) (valid-row, tt) pending-row)) in record { right = tt; sizes = r .sizes; between = r .between }
-  moving-sound-at (abort w) = let r = refused (abort w) (refusal (abortRows st w)) _ _ (sym (row-at (abortRows st w) 1 (omega arith) (valid-row, tt) pending-row)) in record { right = tt; sizes = r .sizes; between = r .between }
-  moving-sound-at (commit w) = let r = refused (commit w) (refusal (commitCallRows st img w)) _ _ (sym (row-at (commitCallRows st img w) 2 (omega arith) (valid-row, (fits-row, tt)) pending-row)) in record { right = tt; sizes = r .sizes; between = r .between }
-  moving-sound-at (prepare w) = let r = refused (prepare w) (refusal (prepareCallRows st img w)) _ _ (sym (row-at (prepareCallRows st img w) 2 (omega arith) (valid-row, (fits-row, tt)) pending-row)) in record { right = tt; sizes = r .sizes; between = r .between }
-  moving-sound-at (confirm w) = let r = refused (confirm w) (refusal (confirmCallRows st img w)) _ _ (sym (row-at (confirmCallRows st img w) 2 (omega arith) (valid-row, (fits-row, tt)) pending-row)) in record { right = tt; sizes = r .sizes; between = r .between }
-  moving-sound-at (withdraw w) = let r = refused (withdraw w) (refusal (confirmCallRows st img w)) _ _ (sym (row-at (confirmCallRows st img w) 2 (omega arith) (valid-row, (fits-row, tt)) pending-row)) in record { right = tt; sizes = r .sizes; between = r .between }
-  moving-sound-at (consolidate p) = let r = refused (consolidate p) (refusal (consolidateCallRows st img p)) _ _ (sym (row-at (consolidateCallRows st img p) 2 (omega arith) (valid-row, (fits-row, tt)) pending-row)) in record { right = tt; sizes = r .sizes; between = r .between }
-  moving-sound-at (write w p l o n bytes) = let r = refused (write w p l o n bytes) (refusal (writeCallRows st img w p l o n bytes)) _ _ (sym (row-at (writeCallRows st img w p l o n bytes) 2 (omega arith) (valid-row, (fits-row, tt)) pending-row)) in record { right = tt; sizes = r .sizes; between = r .between }
-  moving-sound-at (event ms k m a) = let r = refused (event ms k m a) (refusal (eventCallRows st img ms k m a)) _ _ (sym (row-at (eventCallRows st img ms k m a) 2 (omega arith) (valid-row, (fits-row, tt)) pending-row)) in record { right = tt; sizes = r .sizes; between = r .between }
+  moving-sound-at checkpoint = others checkpoint tt
+  moving-sound-at free = others free tt
+  moving-sound-at (begin w) = others (begin w) tt
+  moving-sound-at (beginWide w) = others (beginWide w) tt
+  moving-sound-at (abort w) = others (abort w) tt
+  moving-sound-at (commit w) = others (commit w) tt
+  moving-sound-at (prepare w) = others (prepare w) tt
+  moving-sound-at (confirm w) = others (confirm w) tt
+  moving-sound-at (withdraw w) = others (withdraw w) tt
+  moving-sound-at (consolidate p) = others (consolidate p) tt
+  moving-sound-at (write w p l o n bytes) = others (write w p l o n bytes) tt
+  moving-sound-at (read w p l target) = others (read w p l target) tt
+  moving-sound-at (event ms k m a) = others (event ms k m a) tt
+  moving-sound-at (load text) = others (load text) tt
 
 pub moving-sound : {past : List ℕ} (c : Call) (v : World) (b : Reference) → Moving past (v .st) (v .image) b → Sounds past c v b
 moving-sound c v b M = moving-sound-at v b M c

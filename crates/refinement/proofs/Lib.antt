@@ -104,8 +104,12 @@ pub mod EventReference
 pub mod EventStores
 pub mod StepEvent
 pub mod Between
+pub mod Nine
 pub mod EventCalls
 pub mod Standing
+pub mod CopyingStanding
+pub mod Remount
+pub mod LoggingStanding
 pub mod CallSound
 pub mod Cases
 pub mod BeginWide

@@ -3,7 +3,7 @@
 use Prim.Native.Nat.{ℕ, _<_, _≤_}
 use mathlib.Core.Bool.{Bool, true, _&&_, cond}
 use mathlib.Core.List.{List}
-use mathlib.Core.Path.{_≡_, refl, ap, _∙_, subst}
+use mathlib.Core.Path.{_≡_, refl, sym, ap, _∙_, subst}
 use native.Mathlib.Omega.{arith}
 use lib.Dec.{ltb}
 use lib.ListN.{length, drop}
@@ -38,6 +38,8 @@ pub record Viewed (past : List ℕ) (st : State) (img : List ℕ) (b : Reference
   pub sizes-same : view .sizes ≡ st .sizes
   pub head-same : view .head ≡ st .head
   pub tail-same : view .tail ≡ st .tail
+  pub count-same : view .count ≡ counted st
+  pub keys-same : (counted st ≡ 0 → ⊥) → view .keys ≡ st .wide .keys
   pub behind : Behind (word img) (st .sizes) (view .table) (st .table)
   pub shown : (p l : ℕ) → p < view .sizes .pages → l < 64 → shownLine img (view .sizes) (view .table) (view .count) (view .keys) p l ≡ recallLine b p l
   pub own : (p l : ℕ) → p < st .sizes .pages → l < 64 → lineOf img st p l ≡ recallLine b p l
@@ -65,6 +67,8 @@ durable-viewed st img b ok D N =
       sizes-same = D .sizes-same;
       head-same = D .head-same;
       tail-same = D .tail-same;
+      count-same = uncounted st img b D N ∙ sym none;
+      keys-same = λ some. absurd (some none);
       behind = D .behind;
       shown = λ p l lp ll. shown-copy img (v .sizes) (v .table) (v .count) (v .keys) p l (uncounted st img b D N) ∙ mounted-committed st img b ok D p l lp ll;
       own = λ p l lp ll. shown-copy img (st .sizes) (st .table) (counted st) (st .wide .keys) p l none ∙ D .committed p l lp ll;
