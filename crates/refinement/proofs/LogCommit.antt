@@ -7,7 +7,7 @@ use mathlib.Core.Path.{_≡_, refl, sym, ap, _∙_, subst}
 use native.Mathlib.Omega.{arith}
 use lib.Dec.{eqb, eqb·suc-zero}
 use lib.ListN.{replicate}
-use borrow.Author.Tests.{eq-eqb, eqb-true, not-false}
+use borrow.Author.Tests.{eq-eqb, eqb-true}
 use Rattle.bounded.specs.Rows.{refusal}
 use Rattle.bounded.proofs.Rows.{none-apply, row-none}
 use Rattle.bounded.proofs.Tests.{caseOn}
@@ -28,11 +28,11 @@ use Rattle.refinement.specs.Reference.{Reference, Cell, none, laidOver, 
 use Rattle.refinement.proofs.CallAsked.{pending-valid, needs-asked}
 use Rattle.refinement.proofs.Invariant.{Quiet}
 use Rattle.refinement.proofs.Keeps.{durable-kept, quiet-pages}
-use Rattle.refinement.proofs.Logging.{Logged, asked, same-pages, Logging, copy-row, at-rest}
-use Rattle.refinement.proofs.LogQuiet.{quiet-pending, quiet-work, only-open}
+use Rattle.refinement.proofs.Logging.{Logged, asked, same-pages, Logging, only-open, copy-row, at-rest}
+use Rattle.refinement.proofs.LoggingStanding.{logging-standing}
 use Rattle.refinement.proofs.Cases.{narrow, logging, Kept, Then, answered-still}
 
-module _ {past : List ℕ} (st : State) (img : List ℕ) (b : Reference) (G : Logging past st img b) (idles : isIdle (st .pending .op) ≡ true) where
+module _ {past : List ℕ} (st : State) (img : List ℕ) (b : Reference) (G : Logging past st img b) (idles : not (isIdle (st .pending .op)) ≡ false) where
   abbrev w : ℕ
   w = st .wide .writer
 
@@ -48,7 +48,7 @@ module _ {past : List ℕ} (st : State) (img : List ℕ) (b : Reference) (G : Lo
       (G .entries .no-writes p l i lp ll li (entry-none (st .wide .keys) (st .wide .count) (keyOf p l) (λ d ld k. omega arith)))))
       (at-rest st img b G) in
       subst (Quiet past (completed st Copy) img)
-      (λ i. record { pages = laid w b .pages; writes = emptied w b .writes; work = sym (quiet-work st img b G idles) i; wide = emptied w b .wide }) q
+      (λ i. record { pages = laid w b .pages; writes = emptied w b .writes; work = sym (logging-standing (worldOf st img) b G .work-idle idles) i; wide = emptied w b .wide }) q
 
   -- else it is pending
   abbrev asks : State
@@ -67,7 +67,7 @@ module _ {past : List ℕ} (st : State) (img : List ℕ) (b : Reference) (G : Lo
         entries =
             record {
               keys = G .entries .keys;
-              line = λ e le out. G .entries .line e le (subst (λ (q : Op). Logged (st .wide) q e → ⊥) (sym (ap (λ (x : Pending). x .op) (quiet-pending st img b G idles))) (λ x. x));
+              line = λ e le out. G .entries .line e le (subst (λ (q : Op). Logged (st .wide) q e → ⊥) (sym (ap (λ (x : Pending). x .op) (logging-standing (worldOf st img) b G .none-pending idles))) (λ x. x));
               no-writes = G .entries .no-writes;
             };
         stage = asked refl refl (ap (copying w) (sym (needs-asked st (replicate 8 0) 0 Copy Copy)));
@@ -91,10 +91,10 @@ log-commit {past = past} w v b G =
     answered-still (commit w) v b (refusal (commitCallRows st img w)) (needs st (op w)) (after w) (logging G)
     (λ e.
     let rows = none-apply (commitCallRows st img w) (omega arith) e in
-    let i = not-false (isIdle (st .pending .op)) (rows .1 .1 .0) in
+    let i = rows .1 .1 .0 in
     let T = commit-taken st w (sym (row-none (commitRows st w) (rows .1 .1 .1))) in
     let x : ℕ = st .wide .writer in
-    let own : x ≡ w = only-open st img b G w (T .writer-low) (T .opened) in
+    let own : x ≡ w = only-open st (G .valid) (G .low) w (T .writer-low) (T .opened) in
     let copies : op x ≡ Copy = ap (λ (t : Bool). cond t Copy (Commit x)) (eq-eqb x x refl) in
     let a = both st img b G i (needs st Copy) refl v refl in
     let c : Then past v (worldOf (after x) img) (startsCopy x (needs st (op x)) b) =

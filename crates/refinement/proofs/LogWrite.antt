@@ -7,7 +7,7 @@ use mathlib.Core.Path.{_≡_, refl, sym, ap, ap₂, _∙_, subst}
 use native.Mathlib.Omega.{arith}
 use lib.Dec.{ltb, eqb}
 use lib.ListN.{length}
-use borrow.Author.Tests.{ltb-true, ltb-false, eqb-true, eqb-false, eq-eqb, not-true, not-false}
+use borrow.Author.Tests.{ltb-true, ltb-false, eqb-true, eqb-false, eq-eqb, not-true}
 use Rattle.bounded.specs.Rows.{refusal}
 use Rattle.bounded.proofs.Tab.{length-tab}
 use Rattle.bounded.proofs.Tests.{caseOn, contradicts, and-left, and-right}
@@ -34,12 +34,12 @@ use Rattle.refinement.proofs.WriterCalls.{write-narrow, write-op-row, w
 use Rattle.refinement.proofs.WriteHeld.{writes-kept, line-same}
 use Rattle.refinement.proofs.AskWrite.{merged-read}
 use Rattle.refinement.proofs.Copying.{keyAt}
-use Rattle.refinement.proofs.Logging.{Logged, settled, writes, same-pages, Logging}
-use Rattle.refinement.proofs.LogQuiet.{quiet-pending, quiet-work, only-open, seen}
+use Rattle.refinement.proofs.Logging.{Logged, settled, writes, same-pages, Logging, only-open}
+use Rattle.refinement.proofs.LoggingStanding.{logging-seen, logging-standing}
 use Rattle.refinement.proofs.Cases.{logging, Kept, Then, answered-still}
 
 module _ {past : List ℕ} (st : State) (img : List ℕ) (b : Reference) (G : Logging past st img b) (p l o n : ℕ) (bytes : List ℕ) (lent : Bytes bytes) (given : n ≤ length bytes)
-    (idles : isIdle (st .pending .op) ≡ true) (row : refusal (opRows st (Log p l o n) (pageFrame st img p)) ≡ 0) where
+    (idles : not (isIdle (st .pending .op)) ≡ false) (row : refusal (opRows st (Log p l o n) (pageFrame st img p)) ≡ 0) where
   abbrev w : ℕ
   w = st .wide .writer
 
@@ -54,7 +54,7 @@ module _ {past : List ℕ} (st : State) (img : List ℕ) (b : Reference) (G : Lo
   new = readLine (written w p l o n bytes b) w p l
 
   old-is : old ≡ readLine b w p l
-  old-is = seen st img b G idles w p l (args .writer-low) (args .page-low) (args .line-low)
+  old-is = logging-seen st img b G idles w p l (args .writer-low) (args .page-low) (args .line-low)
 
   merged-is : merged old o n bytes ≡ new
   merged-is = ap (λ (x : List ℕ). merged x o n bytes) old-is ∙ merged-read b w p l o n bytes (args .fits) given
@@ -63,7 +63,7 @@ module _ {past : List ℕ} (st : State) (img : List ℕ) (b : Reference) (G : Lo
   old-bytes = caseOn (isWide (st .wide) w && hasEntry (st .wide) p l) (λ t. rw t (bytes-part img _ 64 (G .durable .bytes))) (λ t. rw t (bytes-part img _ 64 (G .durable .bytes)))
 
   unlogged : (e : ℕ) → Logged (st .wide) (st .pending .op) e → ⊥
-  unlogged e = subst (λ (q : Op). Logged (st .wide) q e → ⊥) (sym (ap (λ (x : Pending). x .op) (quiet-pending st img b G idles))) (λ x. x)
+  unlogged e = subst (λ (q : Op). Logged (st .wide) q e → ⊥) (sym (ap (λ (x : Pending). x .op) (logging-standing (worldOf st img) b G .none-pending idles))) (λ x. x)
 
   abbrev asks : State
   asks = withPending st (Log p l o n) (finishedLine st img w p l o n bytes) (pageFrame st img p)
@@ -135,7 +135,7 @@ module _ {past : List ℕ} (st : State) (img : List ℕ) (b : Reference) (G : Lo
                     omega arith)
                     ∙ G .entries .no-writes q i j lq li lj bare;
               };
-          stage = settled (quiet-pending st img b G idles) (quiet-work st img b G idles);
+          stage = settled (logging-standing (worldOf st img) b G .none-pending idles) (logging-standing (worldOf st img) b G .work-idle idles);
         }
 
 pub log-write : {past : List ℕ} (w p l o n : ℕ) (bytes : List ℕ) → Bytes bytes → (v : World) (b : Reference) → Logging past (v .st) (v .image) b → Kept past (write w p l o n bytes) v b
@@ -150,7 +150,7 @@ log-write {past = past} w p l o n bytes lent v b G =
     answered-still (write w p l o n bytes) v b (refusal (writeCallRows st img w p l o n bytes)) (stores w) (after w) (logging G)
     (λ e.
     let first = write-first st img w p l o n bytes e in
-    let i = not-false (isIdle (st .pending .op)) (first .1 .1 .0) in
+    let i = first .1 .1 .0 in
     let given : n ≤ length bytes = ltb-false (length bytes) n (first .1 .1 .1 .0) in
     let row = write-op-row st img w p l o n bytes e in
     let own : x ≡ w =
@@ -158,7 +158,7 @@ log-write {past = past} w p l o n bytes lent v b G =
     (λ t. eqb-true x w t)
     (λ t.
     let T = write-taken st w p l o n (pageFrame st img p) (subst (λ (q : Op). refusal (opRows st q (pageFrame st img p)) ≡ 0) (write-narrow st img w t p l o n) row) in
-    only-open st img b G w (T .args .writer-low) (T .opened)) in
+    only-open st (G .valid) (G .low) w (T .args .writer-low) (T .opened)) in
     let t : isWide (st .wide) x ≡ true = eq-eqb x x refl in
     let is : writeOp st x p l o n ≡ Log p l o n = ap (λ (y : Bool). cond y (Log p l o n) (Write x p l o n)) t in
     let log-row : refusal (opRows st (Log p l o n) (pageFrame st img p)) ≡ 0 =
