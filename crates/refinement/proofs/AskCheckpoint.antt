@@ -29,7 +29,7 @@ use Rattle.refinement.proofs.Invariant.{Quiet, Related}
 use Rattle.refinement.proofs.Asked.{all-left, asked-busy, asked-after}
 use Rattle.refinement.proofs.Sound.{Sound, is-quiet}
 
-none-needed : (st : State) → needs st Checkpoint ≡ 0 → st .head ≡ st .tail
+pub none-needed : (st : State) → needs st Checkpoint ≡ 0 → st .head ≡ st .tail
 unfolding needs
 none-needed st e = caseOn (eqb (st .head) (st .tail)) (λ t. eqb-true (st .head) (st .tail) t) (λ t. absurd (omega (arith, rw t at e)))
 
@@ -44,7 +44,7 @@ module _ {past : List ℕ} (st : State) (img : List ℕ) (b : Reference) (q : Qu
       let none : liveCount (st .sizes) (st .head) (st .tail) ≡ 0 = ap (λ (x : ℕ). liveCount (st .sizes) x (st .tail)) empty ∙ live-none (st .sizes) (st .tail) in
       absurd (omega (arith, none, v .lasts .live s l (eqb-false (lastAt (st .table) s) noPosition t))))
 
-  same-lasts : filled (st .sizes .slots) (λ s. noPosition) (st .table .last) ≡ st .table .last
+  pub same-lasts : filled (st .sizes .slots) (λ s. noPosition) (st .table .last) ≡ st .table .last
   same-lasts =
       let last : List ℕ = st .table .last in
       let n : ℕ = st .sizes .slots in

@@ -12,12 +12,14 @@ use borrow.Author.Tests.{ltb-true, ltb-false, lt-ltb, le-ltb}
 use Rattle.bounded.specs.Tab.{tab}
 use Rattle.bounded.proofs.Tab.{tab-getD}
 use Rattle.bounded.proofs.Tests.{caseOn}
+use Rattle.layout.specs.declared.Sizes.{Sizes}
 use Rattle.layout.specs.Layout.{lineWord, entryWord}
 use Rattle.words.specs.Words.{word}
 use Rattle.image.specs.Lines.{lineBytes}
 use Rattle.image.proofs.LineLaws.{length-line}
 use Rattle.entries.specs.Entries.{keyOf, keyPage, keyLine, keysFrom, entryOf}
 use Rattle.entries.proofs.EntryLaws.{entry-le, entry-found, page-of-key, line-of-key}
+use Rattle.replay.specs.declared.Table.{Table}
 use Rattle.state.specs.declared.State.{State}
 use Rattle.state.specs.declared.Op.the-variants.{Copy}
 use Rattle.state.specs.Held.{noWriter}
@@ -90,13 +92,15 @@ shown-by keys n p l f g =
     (λ t. f e (ltb-true e n t) refl (entry-found keys n (keyOf p l) (ltb-true e n t)))
     (λ t. g (le-antisymm (entry-le keys n (keyOf p l)) (ltb-false e n t)))
 
--- the line that a mount shows is the page's
+pub shown-of : (img : List ℕ) (z : Sizes) (t : Table) (n : ℕ) (keys : List ℕ) (b : Reference)
+    → ((e : ℕ) → e < n → entryBytes img z e ≡ recallLine b (keyPage (getD keys e 0)) (keyLine (getD keys e 0))) → (p l : ℕ) → l < 64
+    → (entryOf keys n (keyOf p l) ≡ n → lineBytes img z (frameOf (word img) z t p l) l ≡ recallLine b p l) → shownLine img z t n keys p l ≡ recallLine b p l
+shown-of img z t n keys b entry p l ll other =
+    shown-by keys n p l
+    (λ e m q k. rw (q, lt-ltb e n m) (entry e m ∙ ap₂ (recallLine b) (ap keyPage k ∙ page-of-key p l ll) (ap keyLine k ∙ line-of-key p l ll)))
+    (λ q. rw (q, le-ltb n n (omega arith)) (other q))
+
+-- the line shown is the page's
 pub copying-shows : {past : List ℕ} (st : State) (img : List ℕ) (b : Reference) → Copying past st img b → (p l : ℕ) → p < st .sizes .pages → l < 64
     → shownLine img (st .sizes) (st .table) (st .wide .count) (st .wide .keys) p l ≡ recallLine b p l
-copying-shows st img b C p l lp ll =
-    let n : ℕ = st .wide .count in
-    shown-by (st .wide .keys) n p l
-    (λ e m q k.
-    rw (q, lt-ltb e n m)
-    (C .entry e m ∙ ap₂ (recallLine b) (ap keyPage k ∙ page-of-key p l ll) (ap keyLine k ∙ line-of-key p l ll)))
-    (λ q. rw (q, le-ltb n n (omega arith)) (C .other p l lp ll q))
+copying-shows st img b C p l lp ll = shown-of img (st .sizes) (st .table) (st .wide .count) (st .wide .keys) b (C .entry) p l ll (C .other p l lp ll)

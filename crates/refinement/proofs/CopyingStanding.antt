@@ -1,5 +1,5 @@
 -- What holds while lines are copied: a mount counts the entries and shows their lines.
-use Prim.Native.Nat.{ℕ, _<_}
+use Prim.Native.Nat.{ℕ}
 use mathlib.Core.Bool.{Bool, true, false, not, _&&_, cond}
 use mathlib.Core.List.{List}
 use mathlib.Core.Path.{_≡_, sym, ap, _∙_}
@@ -19,7 +19,7 @@ use Rattle.refinement.specs.Beside.{counted}
 use Rattle.refinement.specs.Reference.{Reference}
 use Rattle.refinement.proofs.Copies.{names-once}
 use Rattle.refinement.proofs.Copying.{Copying, copying-shows}
-use Rattle.refinement.proofs.CopyMount.{copyingOf, remounted, keys-same, remounts}
+use Rattle.refinement.proofs.CopyMount.{keys-same, view-shows}
 use Rattle.refinement.proofs.Standing.{Standing}
 use Rattle.refinement.proofs.Viewed.{Viewed}
 
@@ -45,7 +45,7 @@ module _ {past : List ℕ} (st : State) (img : List ℕ) (b : Reference) (C : Co
         count-same = D .count-same ∙ sym all-counted;
         keys-same = λ some. keys-same st img b C;
         behind = D .behind;
-        shown = λ p l lp ll. copying-shows (copyingOf v) img (remounted b) (remounts st img b C) p l lp ll;
+        shown = view-shows st img b C;
         own = λ p l lp ll. ap (λ (n : ℕ). shownLine img (st .sizes) (st .table) n (st .wide .keys) p l) all-counted ∙ copying-shows st img b C p l lp ll;
       }
 

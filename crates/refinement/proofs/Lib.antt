@@ -113,11 +113,14 @@ pub mod LoggingStanding
 pub mod CallSound
 pub mod Cases
 pub mod BeginWide
-pub mod LogQuiet
-pub mod LogSeen
 pub mod LogAbort
 pub mod LogCommit
 pub mod LogWrite
+pub mod LogReads
+pub mod LogBeside
+pub mod StandingCalls
+pub mod LoggingSound
+pub mod CopyingSound
 pub mod CaseSound
 pub mod Reached
 pub mod Theorem

@@ -19,6 +19,7 @@ use Rattle.state.specs.declared.State.{State}
 use Rattle.state.specs.declared.Wide.{Wide}
 use Rattle.state.specs.declared.Op.{Op}
 use Rattle.state.specs.declared.Op.the-variants.{Idle, Write, Commit, Consolidate, Checkpoint, Event, Prepare, Confirm, Log, Copy}
+use Rattle.state.specs.Held.{isOpen}
 use Rattle.state.specs.Wide.{noWide, entryFor}
 use Rattle.operations.specs.Operations.{opRows, needs}
 use Rattle.validity.specs.Validity.{stateOk}
@@ -126,6 +127,13 @@ module _ (st : State) (ok : stateOk st ≡ true) (low : st .wide .writer < 4) wh
       let l = ltb-true (st .writers .prepared) 4 t in
       contradicts (valid st ok .prepared l .opens) (fine .closed (st .writers .prepared) l (fine .unprepared)))
       (λ t. ltb-false (st .writers .prepared) 4 t)
+
+  -- an open writer is the wide one
+  pub only-open : (v : ℕ) → v < 4 → isOpen (st .writers .opened) v ≡ true → st .wide .writer ≡ v
+  only-open v l o =
+      caseOn (eqb (st .wide .writer) v)
+      (λ t. eqb-true (st .wide .writer) v t)
+      (λ t. contradicts o (fine .closed v l (λ e. eqb-false (st .wide .writer) v t (sym e))))
 
   pub copy-row : (f : ℕ) → refusal (opRows st Copy f) ≡ 0
   copy-row f = sym (row-none (opRows st Copy f) (le-ltb (st .writers .prepared) 4 unprepared, tt))

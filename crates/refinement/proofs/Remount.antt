@@ -19,15 +19,25 @@ use Rattle.mount.proofs.Verdict.{Taken}
 use Rattle.mount.proofs.View.{View, Shows}
 use Rattle.refinement.specs.Recall.{frameOf}
 use Rattle.refinement.specs.Wide.{entryBytes, shownLine}
-use Rattle.refinement.specs.Reference.{Reference, recallLine}
+use Rattle.state.specs.declared.State.{State}
+use Rattle.refinement.specs.Mount.{copyingState}
+use Rattle.refinement.specs.Reference.{Reference, none, idle, recallLine}
 use Rattle.refinement.proofs.CallMounted.{view-names, view-sixteen, copying-valid}
 use Rattle.refinement.proofs.Copying.{copyOf, inPlace, paged-line, Copying}
-use Rattle.refinement.proofs.CopyMount.{copyingOf, remounted}
+use Rattle.state.specs.Held.{noWriter}
 use Rattle.refinement.proofs.Invariant.{Durable, Quiet}
 use Rattle.refinement.proofs.Keys.{view-keys}
 use Rattle.refinement.proofs.Mounted.{stateOf, mounted-quiet}
 use Rattle.refinement.proofs.Names.{owned-low, owned-apart, committed-owned}
 use Rattle.refinement.proofs.Viewed.{shown-copy}
+
+-- the state that a mount of such an image returns
+abbrev pub copyingOf : View → State
+copyingOf v = copyingState (v .sizes) (v .head) (v .tail) (v .table) (v .count) (v .keys)
+
+-- the reference machine after a mount
+abbrev pub remounted : Reference → Reference
+remounted b = record { pages = b .pages; writes = λ w p l i. none; work = idle; wide = noWriter }
 
 -- the lines that an image shows are the reference machine's
 abbrev pub Shown : List ℕ → View → Reference → Type 0
