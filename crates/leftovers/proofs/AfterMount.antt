@@ -2,14 +2,17 @@
 use Prim.Native.Nat.{ℕ, _<_}
 use mathlib.Core.Bool.{Bool, cond}
 use mathlib.Core.List.{List}
+use mathlib.Core.Logic.{inl}
 use mathlib.Core.Path.{_≡_, refl, sym, ap, _∙_, subst}
 use native.Mathlib.Omega.{arith}
 use lib.Dec.{eqb}
-use lib.ListN.{getD}
+use lib.ListN.{length, drop, getD}
 use borrow.Author.Tests.{eqb-true, eqb-false, eq-eqb, ne-eqb}
 use Rattle.bounded.proofs.Tests.{caseOn}
-use Rattle.mount.proofs.Verdict.{foundIn}
-use Rattle.mount.proofs.View.{View}
+use Rattle.layout.specs.Layout.{imageLength}
+use Rattle.words.specs.Words.{Bytes}
+use Rattle.mount.proofs.Verdict.{Taken, foundIn}
+use Rattle.mount.proofs.View.{View, Shows}
 use Rattle.state.specs.declared.State.{State}
 use Rattle.state.specs.declared.Wide.{Wide}
 use Rattle.state.specs.declared.Pending.{Pending}
@@ -22,7 +25,11 @@ use Rattle.refinement.specs.Calls.{worldOf}
 use Rattle.refinement.specs.Run.{Result, mount, exec}
 use Rattle.refinement.specs.Beside.{counted}
 use Rattle.refinement.specs.Reference.{Reference}
+use Rattle.refinement.proofs.Cases.{Invariant, narrow}
+use Rattle.refinement.proofs.Cases as Cases
+use Rattle.refinement.proofs.CopyMount.{remounted}
 use Rattle.refinement.proofs.MountCall.{mount-viewed}
+use Rattle.refinement.proofs.Remount.{Shown, remount-quiet, remount-copying}
 use Rattle.refinement.proofs.Viewed.{Viewed}
 
 -- a state with what the view shows
@@ -66,3 +73,14 @@ after-mount P w b s f =
     caseOn (eqb (v .count) 0)
     (λ t. at noWide noPending (quiet-found v (eqb-true (v .count) 0 t)))
     (λ t. at (copies v) copying (copying-found v (eqb-false (v .count) 0 t)))
+
+-- it is related to the reference machine after the mount, over any image that shows the view and its lines
+pub found-invariant : (img : List ℕ) (v : View) (b : Reference) → Bytes img → Shows img v → Taken (length img) v → Shown img v b → (d : Wide) (p : Pending) → Found v d p
+    → Invariant (drop (imageLength (v .sizes)) img) (worldOf (foundState v d p) img) (remounted b)
+found-invariant img v b bytes shows mounts shown d p F =
+    let past = drop (imageLength (v .sizes)) img in
+    let q : mountedState (foundIn v) ≡ foundState v d p = F .is in
+    subst (λ (s : State). Invariant past (worldOf s img) (remounted b)) q
+    (caseOn (eqb (v .count) 0)
+    (λ t. rw t (narrow (inl (inl (remount-quiet img v b bytes shows mounts shown (eqb-true (v .count) 0 t))))))
+    (λ t. rw t (Cases.copying (remount-copying img v b bytes shows mounts shown (eqb-false (v .count) 0 t)))))

@@ -2,17 +2,19 @@
 use Prim.Native.Nat.{ℕ, _+_, _-_, _*_, _/_, _%_, _<_, _≤_}
 use mathlib.Core.Bool.{Bool, true, false}
 use mathlib.Core.Logic.{_⊎_, ⊎-elim, inl, inr}
-use mathlib.Core.Path.{_≡_, refl, _∙_, subst}
+use mathlib.Core.Path.{_≡_, refl, sym, ap, ap₂, _∙_, subst}
 use native.Mathlib.Nat.{mod-eq-of-lt}
 use native.Mathlib.Omega.{arith}
 use lib.Dec.{ltb, eqb}
-use lib.ListN.{length}
+use lib.ListN.{length, getD}
 use borrow.Author.Tests.{ltb-true, ltb-false, eqb-true, eqb-false}
 use Rattle.bounded.specs.Below.{firstBelow}
 use Rattle.bounded.proofs.Below.{first-holds, first-before}
 use Rattle.bounded.proofs.Tests.{caseOn}
 use Rattle.layout.specs.declared.Sizes.{Sizes}
-use Rattle.layout.specs.Layout.{Legal, placeOf, recordWord, paddingWord, frameWord, imageWords, imageLength}
+use Rattle.layout.specs.Layout.{Legal, placeOf, recordWord, paddingWord, frameWord, lineWord, entryWord, imageWords, imageLength}
+use Rattle.entries.specs.Entries.{keyPage, keyLine}
+use Rattle.entries.proofs.EntryLaws.{page-of-key, line-of-key}
 use Rattle.layout.proofs.LayoutLaws.{place-lt}
 use Rattle.words.specs.Words.{Bytes, word}
 use Rattle.words.proofs.WordLaws.{word-store-other, length-store, bytes-store}
@@ -22,11 +24,13 @@ use Rattle.mount.proofs.View.{slot-none}
 use Rattle.refinement.specs.Stores.{World}
 use Rattle.refinement.specs.Calls.{worldOf}
 use Rattle.refinement.specs.Recall.{frameOf}
-use Rattle.refinement.proofs.Between.{between-durable}
-use Rattle.refinement.proofs.Mounted.{stateOf}
+use Rattle.refinement.specs.Beside.{counted}
+use Rattle.refinement.proofs.Cases.{standing-of}
+use Rattle.refinement.proofs.Copying.{shown-by}
 use Rattle.refinement.proofs.Reached.{always}
-use Rattle.leftovers.proofs.AfterMount.{after-mount}
-use Rattle.leftovers.specs.Leftovers.{Leftover, journal-place, under-record, slotted-page, padding, other-copy, Needed, header, live-record, slot-table, page-table, committed-copy, EveryWord, Scribbled, AnyWord}
+use Rattle.leftovers.proofs.AfterMount.{foundState, after-mount}
+use Rattle.leftovers.proofs.Replaced.{copied-inside}
+use Rattle.leftovers.specs.Leftovers.{Leftover, journal-place, under-record, slotted-page, padding, other-copy, past-entries, under-entry, copiedWord, Needed, header, live-record, slot-table, page-table, counted-entry, committed-copy, EveryWord, Scribbled, AnyWord}
 
 -- a number below n passes a test, or none does
 some-or-none : (f : ℕ → Bool) (n : ℕ) → ((i : ℕ) × (i < n) × (f i ≡ true)) ⊎ ((i : ℕ) → i < n → f i ≡ false)
@@ -72,7 +76,19 @@ module _ (v : World) (g : Legal (v .st .sizes)) where
       (λ f. inl (journal-place q k (omega arith) (λ j m e. eqb-false (there j) (placeOf z q) (f j (omega (arith, m))) e) at))
       (some-or-none (λ j. eqb (there j) (placeOf z q)) (liveCount z (v .st .head) (v .st .tail)))
 
-  line-told : (a : ℕ) → frameWord z ≤ a → a < imageWords z → Told a
+  -- the committed copy of a line with an entry, or without one
+  copy-told : (a p m k : ℕ) → p < z .pages → m < 64 → k < 8 → a ≡ lineWord z (frameOf (word (v .image)) z (v .st .table) p m) m + k → Told a
+  copy-told a p m k lp lm lk at =
+      let keys = v .st .wide .keys in
+      let n : ℕ = counted (v .st) in
+      let copy : ℕ → ℕ → ℕ = λ x y. lineWord z (frameOf (word (v .image)) z (v .st .table) x y) y in
+      shown-by keys n p m
+      (λ e le q found.
+      let same : copy p m ≡ copiedWord v (getD keys e 0) = sym (ap₂ copy (ap keyPage found ∙ page-of-key p m lm) (ap keyLine found ∙ line-of-key p m lm)) in
+      inl (under-entry e k le lk (omega (arith, at, same))))
+      (λ bare. inr (committed-copy p m k lp lm lk bare at))
+
+  line-told : (a : ℕ) → frameWord z ≤ a → a < entryWord z 0 → Told a
   line-told a l h =
       let i : ℕ = a - frameWord z in
       let f : ℕ = i / 512 in
@@ -80,9 +96,17 @@ module _ (v : World) (g : Legal (v .st .sizes)) where
       let copy : ℕ → ℕ = λ p. frameOf (word (v .image)) z (v .st .table) p m in
       ⊎-elim
       (λ (x : (p : ℕ) × (p < z .pages) × (eqb (copy p) f ≡ true)).
-      inr (committed-copy (x .0) m (i % 8) (x .1) (omega arith) (omega arith) (omega (arith, eqb-true (copy (x .0)) f (x .2)))))
+      copy-told a (x .0) m (i % 8) (x .1) (omega arith) (omega arith) (omega (arith, eqb-true (copy (x .0)) f (x .2))))
       (λ n. inl (other-copy f m (i % 8) (omega arith) (omega arith) (omega arith) (λ p lp e. eqb-false (copy p) f (n p (omega (arith, lp))) e) (omega arith)))
       (some-or-none (λ p. eqb (copy p) f) (z .pages))
+
+  entry-told : (a : ℕ) → entryWord z 0 ≤ a → a < imageWords z → Told a
+  entry-told a l h =
+      let i : ℕ = a - entryWord z 0 in
+      let e : ℕ = i / 9 in
+      caseOn (ltb e (counted (v .st)))
+      (λ t. inr (counted-entry e (i % 9) (ltb-true e (counted (v .st)) t) (omega arith) (omega arith)))
+      (λ t. inl (past-entries e (i % 9) (ltb-false e (counted (v .st)) t) (omega arith) (omega arith) (omega arith)))
 
   -- below a bound, or from it on
   split : (a n : ℕ) → (a < n → Told a) → (n ≤ a → Told a) → Told a
@@ -95,42 +119,50 @@ module _ (v : World) (g : Legal (v .st .sizes)) where
       split a (8 + z .pages + 3 * z .slots) (slot-told a b₂) (λ b₃.
       split a (paddingWord z) (place-told a b₃) (λ b₄.
       split a (frameWord z) (λ l. inl (padding (omega (arith, b₄)) (omega (arith, l)))) (λ b₅.
-      line-told a b₅ h)))))
+      split a (entryWord z 0) (line-told a b₅) (λ b₆.
+      entry-told a b₆ h))))))
 
   -- ---- a leftover stored over
 
-  left-inside : (a : ℕ) → Leftover v a → a < imageWords z
-  left-inside a (journal-place q k l f e) = omega (arith, place-lt z g q)
-  left-inside a (under-record s k h l f e) = omega arith
-  left-inside a (slotted-page p h f e) = omega arith
-  left-inside a (padding l m) = omega arith
-  left-inside a (other-copy f l k lf ll lk n e) = omega arith
+  -- the lines under entries lie in frames of the image
+  module _ (low : (e : ℕ) → e < counted (v .st) → copiedWord v (getD (v .st .wide .keys) e 0) + 8 ≤ imageWords z) where
+    left-inside : (a : ℕ) → Leftover v a → a < imageWords z
+    left-inside a (journal-place q k l f e) = omega (arith, place-lt z g q)
+    left-inside a (under-record s k h l f e) = omega arith
+    left-inside a (slotted-page p h f e) = omega arith
+    left-inside a (padding l m) = omega arith
+    left-inside a (other-copy f l k lf ll lk n e) = omega arith
+    left-inside a (past-entries e k l m lk q) = omega arith
+    left-inside a (under-entry e k l lk q) = omega (arith, q, lk, low e l)
 
-  scribbled : Bytes (v .image) → imageLength z ≤ length (v .image) → Scribbled v
-  scribbled bytes whole =
-      record {
-        none = record { bytes = bytes; as-long = refl; kept = λ a l n. refl };
-        more =
-            λ image R a x left.
-            let fits : 8 * a + 8 ≤ length image = omega (arith, left-inside a left, whole, R .as-long) in
-            record {
-              bytes = bytes-store image a x (R .bytes);
-              as-long = length-store image a x fits ∙ R .as-long;
-              kept = λ c l n. word-store-other image a x c fits (λ e. n (subst (Leftover v) e left)) ∙ R .kept c l n;
-            };
-      }
+    scribbled : Bytes (v .image) → imageLength z ≤ length (v .image) → Scribbled v
+    scribbled bytes whole =
+        record {
+          none = record { bytes = bytes; as-long = refl; kept = λ a l n. refl };
+          more =
+              λ image R a x left.
+              let fits : 8 * a + 8 ≤ length image = omega (arith, left-inside a left, whole, R .as-long) in
+              record {
+                bytes = bytes-store image a x (R .bytes);
+                as-long = length-store image a x fits ∙ R .as-long;
+                kept = λ c l n. word-store-other image a x c fits (λ e. n (subst (Leftover v) e left)) ∙ R .kept c l n;
+              };
+        }
 
 -- ---- of the worlds right after a mount
 
 pub every-word : EveryWord
 every-word =
     always _ (λ z buffer w b h.
-    let D = between-durable w b (h .related) in
-    after-mount (λ v. (a : ℕ) → a < imageWords (v .st .sizes) → Leftover v a ⊎ Needed v a) w b (h .related)
-    (told (worldOf (stateOf (D .view)) (w .image)) (D .mounts .legal)))
+    let s = standing-of w b (h .related) .viewed in
+    after-mount (λ v. (a : ℕ) → a < imageWords (v .st .sizes) → Leftover v a ⊎ Needed v a) w b s
+    (λ d p F. told (worldOf (foundState (s .view) d p) (w .image)) (s .mounts .legal)))
 
 pub any-word : AnyWord
 any-word =
     always _ (λ z buffer w b h.
-    let D = between-durable w b (h .related) in
-    after-mount Scribbled w b (h .related) (scribbled (worldOf (stateOf (D .view)) (w .image)) (D .mounts .legal) (D .bytes) (D .mounts .fits)))
+    let s = standing-of w b (h .related) .viewed in
+    let v = s .view in
+    after-mount Scribbled w b s
+    (λ d p F.
+    scribbled (worldOf (foundState v d p) (w .image)) (s .mounts .legal) (copied-inside (w .image) v (s .shows) (s .mounts) d p F) (s .bytes) (s .mounts .fits)))

@@ -1,6 +1,8 @@
 pub mod Alike
+pub mod BeyondStays
 pub mod OneStore
 pub mod OneEvent
+pub mod AnyStore
 pub mod Runs
 pub mod SameRows
 pub mod CallSame

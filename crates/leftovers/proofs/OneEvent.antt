@@ -1,5 +1,5 @@
 -- One store of a pending event, in one image and in two: it is a store of one of its writes or of its commit, of which the last alone changes the slots that a
--- mount finds. And one store of whatever is pending.
+-- mount finds. And one store of whatever is pending without a wide transaction.
 use Prim.Native.Nat.{ℕ, _+_, _-_, _<_}
 use mathlib.Core.Bool.{false}
 use mathlib.Core.List.{List}
@@ -12,7 +12,7 @@ use Rattle.bounded.proofs.Tests.{caseOn}
 use Rattle.layout.specs.declared.Sizes.{Sizes}
 use Rattle.state.specs.declared.State.{State}
 use Rattle.state.specs.declared.Op.{Op}
-use Rattle.state.specs.declared.Op.the-variants.{Idle, Write, Commit, Consolidate, Checkpoint, Event, Prepare, Confirm}
+use Rattle.state.specs.declared.Op.the-variants.{Idle, Write, Commit, Consolidate, Checkpoint, Event, Prepare, Confirm, Log, Copy}
 use Rattle.meters.specs.Meters.{firstMeter, ownMeter}
 use Rattle.operations.specs.Operations.{isIdle, needs}
 use Rattle.refinement.specs.Event.{firstAsked, secondAsked, linesDone, lineStores}
@@ -44,6 +44,8 @@ kindIn (Consolidate p) = 0
 kindIn Checkpoint = 0
 kindIn (Prepare w) = 0
 kindIn (Confirm w) = 0
+kindIn (Log p l o n) = 0
+kindIn Copy = 0
 
 abbrev meterIn : Op → ℕ
 meterIn (Event k m a) = m
@@ -54,6 +56,8 @@ meterIn (Consolidate p) = 0
 meterIn Checkpoint = 0
 meterIn (Prepare w) = 0
 meterIn (Confirm w) = 0
+meterIn (Log p l o n) = 0
+meterIn Copy = 0
 
 -- the stores before its last one
 abbrev before : Op → ℕ
@@ -169,8 +173,8 @@ module _ (past past′ : List ℕ) (st : State) (x y : List ℕ) (b : Reference)
       (subst (Alike (st .sizes) (storeMade st x op made)) (sym (stepped-image (worldOf st y))) (both-leave (event-leaves past st x b M) (event-leaves past′ st y b N)))
 
   -- whatever is pending
-  pub any-store : Between past (worldOf st x) b → Between past′ (worldOf st y) b → isIdle op ≡ false → After
-  any-store (inl h) (inl k) e = one-store past past′ st x y b (is-busy st x b h e) (is-busy st y b k e) same
-  any-store (inr M) (inr N) e = one-event M N
-  any-store (inl h) (inr N) e = absurd (subst (Doing st x b) (N .event) (is-busy st x b h e .doing))
-  any-store (inr M) (inl k) e = absurd (subst (Doing st y b) (M .event) (is-busy st y b k e .doing))
+  pub narrow-store : Between past (worldOf st x) b → Between past′ (worldOf st y) b → isIdle op ≡ false → After
+  narrow-store (inl h) (inl k) e = one-store past past′ st x y b (is-busy st x b h e) (is-busy st y b k e) same
+  narrow-store (inr M) (inr N) e = one-event M N
+  narrow-store (inl h) (inr N) e = absurd (subst (Doing st x b) (N .event) (is-busy st x b h e .doing))
+  narrow-store (inr M) (inl k) e = absurd (subst (Doing st y b) (M .event) (is-busy st y b k e .doing))

@@ -25,7 +25,7 @@ use Rattle.mount.proofs.Dead.{dead-view}
 use Rattle.mount.proofs.Emptied.{unrecorded}
 use Rattle.state.specs.declared.State.{State}
 use Rattle.state.specs.declared.Op.{Op}
-use Rattle.state.specs.declared.Op.the-variants.{Idle, Write, Commit, Consolidate, Checkpoint, Event, Prepare, Confirm}
+use Rattle.state.specs.declared.Op.the-variants.{Idle, Write, Commit, Consolidate, Checkpoint, Event, Prepare, Confirm, Log, Copy}
 use Rattle.operations.specs.Operations.{needs}
 use Rattle.refinement.specs.Frames.{pageSlot}
 use Rattle.operations.proofs.Taken.{CommitTaken}
@@ -64,7 +64,7 @@ pub mid-stays : (past : List ℕ) (st : State) (img : List ℕ) (b : Reference) 
     → Stays (st .sizes) img (storeMade st img op m)
 mid-stays past st img b D op m M =
     let z : Sizes = st .sizes in
-    let a : ℕ = storeAt st op m in
+    let a : ℕ = storeAt st img op m in
     let w : ℕ = storeValue st img op m in
     let before = shown-slots img (D .view) (D .shows) in
     ⊎-elim
@@ -116,7 +116,7 @@ head-leaves past st img b B W w T stored =
     let x : ℕ = position z (st .head) n in
     let before = shown-slots img (D .view) (D .shows) in
     let after : slotsOf (store img headWord x) ≡ replay z (st .head) n new (D .view .table) =
-    shown-slots (store img headWord x) _ (commit-shows past st img b (B .valid) D W w T stored) in
+    shown-slots (store img headWord x) _ (commit-shows past st img b (B .valid) D W w T stored (B .narrow)) in
     record {
       table = after ∙ ap (replay z (st .head) n new) (sym before);
       stored = λ p t. contradicts t refl;
@@ -236,6 +236,8 @@ module _ (past past′ : List ℕ) (st : State) (x y : List ℕ) (b : Reference)
       between (Prepare w) (prepare-mid past st x b B w e m low) (prepare-mid past′ st y b C w e m low)
   next-of (Confirm w) e = alike-after (confirm-leaves past st x b B w e) (confirm-leaves past′ st y b C w e) same
   next-of (Event k i a) e = absurd (subst (Doing st x b) e (B .doing))
+  next-of (Log p l o n) e = absurd (subst (Doing st x b) e (B .doing))
+  next-of Copy e = absurd (subst (Doing st x b) e (B .doing))
   next-of Checkpoint e =
       caseOn (ltb m (3 * recorded st))
       (λ t. let low = ltb-true m (3 * recorded st) t in between Checkpoint (checkpoint-mid past st x b (B .durable) m low) (checkpoint-mid past′ st y b (C .durable) m low))

@@ -28,10 +28,11 @@ use Rattle.refinement.specs.Stores.{World}
 use Rattle.refinement.specs.Calls.{worldOf}
 use Rattle.refinement.specs.Recall.{frameOf}
 use Rattle.refinement.specs.Wide.{entryBytes, shownLine}
+use Rattle.refinement.specs.Beside.{counted}
 use Rattle.refinement.specs.Reference.{Reference}
 use Rattle.refinement.proofs.Copying.{shown-by}
 use Rattle.refinement.proofs.Remount.{Shown, copy-low, one-page}
-use Rattle.leftovers.specs.Leftovers.{Leftover, journal-place, under-record, slotted-page, padding, other-copy, past-entries, under-entry, Replaced}
+use Rattle.leftovers.specs.Leftovers.{Leftover, journal-place, under-record, slotted-page, padding, other-copy, past-entries, under-entry, copiedWord, Replaced}
 use Rattle.leftovers.proofs.AfterMount.{foundState, Found}
 use Rattle.leftovers.proofs.Alike.{Alike}
 
@@ -75,6 +76,13 @@ module _ (img : List ℕ) (view : View) (shows : Shows img view) (taken : Taken 
 
   key-page : (e : ℕ) → e < n → keyPage (key e) < z .pages
   key-page e l = subst (λ (k : ℕ). keyPage k < z .pages) (sym (F .keys e l)) (right .page-low e l)
+
+  -- its line lies in a frame of the image
+  pub copied-inside : (e : ℕ) → e < counted (foundState view d w) → copiedWord v (key e) + 8 ≤ imageWords z
+  copied-inside e l =
+      let p : ℕ = keyPage (key e) in
+      let m : ℕ = keyLine (key e) in
+      omega (arith, line-end z (copyOf p m) m (low p m (key-page e (omega (arith, l, F .count)))) (omega arith))
 
   -- a mount reads no leftover
   left-dead : (a : ℕ) → Leftover v a → Dead view a

@@ -57,7 +57,7 @@ module _ (st : State) where
   same-needs (Consolidate p) s = refl
   same-needs Checkpoint s = refl
 
-  same-store : (op : Op) → Beside op → (img : List ℕ) (i : ℕ) → storeMade (shut st) img op i ≡ storeMade st img op i
+  pub same-store : (op : Op) → Beside op → (img : List ℕ) (i : ℕ) → storeMade (shut st) img op i ≡ storeMade st img op i
   unfolding consolidateAt consolidateValue freeingRecord checkpointAtOf checkpointValueOf
   same-store (Consolidate p) s img i = refl
   same-store Checkpoint s img i = refl
