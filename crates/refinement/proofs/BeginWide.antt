@@ -1,6 +1,6 @@
 -- A wide transaction begun: every writer is closed, so nothing is held or unfinished, and no entry is used.
 use Prim.Native.Nat.{ℕ, _<_}
-use mathlib.Core.Bool.{Bool, true, false, not}
+use mathlib.Core.Bool.{true, not}
 use mathlib.Core.List.{List}
 use mathlib.Core.Path.{_≡_, refl, sym, ap, _∙_}
 use native.Mathlib.Omega.{arith}
@@ -19,7 +19,7 @@ use Rattle.refinement.proofs.Between.{Between, between-quiet}
 use Rattle.refinement.proofs.Invariant.{Durable, Quiet, uncounted}
 use Rattle.refinement.proofs.Silent.{holds-none}
 use Rattle.refinement.proofs.Logging.{settled, Logging}
-use Rattle.refinement.proofs.Cases.{Invariant, narrow, logging, Kept, answered-still}
+use Rattle.refinement.proofs.Cases.{narrow, logging, Kept, answered-still}
 
 module _ {past : List ℕ} (st : State) (img : List ℕ) (b : Reference) (w : ℕ) (row : refusal (beginWideRows st w) ≡ 0) (q : Quiet past st img b) where
   abbrev c : Reference

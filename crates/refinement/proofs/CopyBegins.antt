@@ -1,21 +1,19 @@
 -- The first store of a wide commit, that of the count: a mount counts its entries from then on, and shows their lines; the reference machine takes the
 -- round with it.
-use Prim.Native.Nat.{ℕ, suc, _+_, _-_, _*_, _^_, _<_, _≤_, min}
-use mathlib.Core.Bool.{Bool, true, false, cond}
+use Prim.Native.Nat.{ℕ, suc, _+_, _-_, _*_, _<_, _≤_, min}
 use mathlib.Core.List.{List}
 use mathlib.Core.Logic.{inr}
 use mathlib.Core.Path.{_≡_, refl, sym, ap, ap₂, _∙_, subst}
 use native.Mathlib.Omega.{arith}
 use lib.Dec.{eqb}
 use lib.ListN.{length}
-use borrow.Author.Tests.{eq-eqb, eqb-true, eqb-false}
+use borrow.Author.Tests.{eq-eqb, eqb-false}
 use Rattle.bounded.proofs.Tab.{tab-ext}
 use Rattle.bounded.proofs.Tests.{caseOn}
 use Rattle.layout.specs.declared.Sizes.{Sizes}
 use Rattle.layout.specs.Layout.{entryWord, countWord}
 use Rattle.words.specs.Words.{word, store}
 use Rattle.words.proofs.WordLaws.{word-store-other}
-use Rattle.entries.specs.Entries.{keyOf, keyPage, keyLine, keysFrom, entryOf}
 use Rattle.entries.proofs.EntryLaws.{Right}
 use Rattle.state.specs.declared.State.{State}
 use Rattle.state.specs.declared.Op.{Op}
@@ -24,8 +22,7 @@ use Rattle.operations.specs.Operations.{isIdle, needs}
 use Rattle.refinement.specs.Settled.{withWide}
 use Rattle.refinement.specs.Stores.{World, completed, withMade, stepped, storeMade}
 use Rattle.refinement.specs.Calls.{worldOf}
-use Rattle.refinement.specs.Wide.{entryBytes}
-use Rattle.refinement.specs.Reference.{Reference, Cell, Work, none, laidOver, under, copying, nothing, committing, withWork, does, continues, copies, advances, readLine, recallLine}
+use Rattle.refinement.specs.Reference.{Reference, Cell, Work, laidOver, under, copying, nothing, committing, withWork, does, continues, copies, advances, readLine, recallLine}
 use Rattle.refinement.proofs.StateValid.{Valid, valid}
 use Rattle.refinement.proofs.Pending.{pends, made-valid}
 use Rattle.refinement.proofs.Invariant.{Durable}
@@ -35,7 +32,7 @@ use Rattle.refinement.proofs.HeaderStore.{header-copy}
 use Rattle.refinement.proofs.Stepping.{eight-kept, step-on}
 use Rattle.refinement.proofs.Keys.{keys-ext}
 use Rattle.refinement.proofs.Counted.{durable-counted}
-use Rattle.refinement.proofs.Copying.{keyAt, inPlace, placed, Copying}
+use Rattle.refinement.proofs.Copying.{placed, Copying}
 use Rattle.refinement.proofs.StepCopy.{copy-needs}
 use Rattle.refinement.proofs.CopyPlaces.{at-first, value-first}
 use Rattle.refinement.proofs.Logging.{Logged, Logging, unheld}

@@ -1,8 +1,8 @@
 -- The last store of a wide commit: every entry's line is in place, so with no entry counted each committed copy is the page's.
 use Prim.Native.Nat.{ℕ, _+_, _-_, _*_, _<_, _≤_}
-use mathlib.Core.Bool.{Bool, true, false}
+use mathlib.Core.Bool.{true}
 use mathlib.Core.List.{List}
-use mathlib.Core.Path.{_≡_, refl, sym, ap, ap₂, _∙_, subst}
+use mathlib.Core.Path.{_≡_, refl, sym, ap, ap₂, _∙_}
 use native.Mathlib.Omega.{arith}
 use lib.ListN.{length}
 use borrow.Author.Tests.{ltb-false}
@@ -10,13 +10,11 @@ use Rattle.layout.specs.declared.Sizes.{Sizes}
 use Rattle.layout.specs.Layout.{lineWord, entryWord, countWord}
 use Rattle.words.specs.Words.{word, store}
 use Rattle.image.proofs.LineLaws.{eight-ext}
-use Rattle.entries.specs.Entries.{noKeys, keyOf, keyPage, keyLine, keysFrom}
+use Rattle.entries.specs.Entries.{keyPage, keyLine, keysFrom}
 use Rattle.entries.proofs.EntryLaws.{none-right, page-of-key, line-of-key}
 use Rattle.state.specs.declared.State.{State}
-use Rattle.state.specs.declared.Op.{Op}
 use Rattle.state.specs.declared.Op.the-variants.{Copy}
 use Rattle.state.specs.Wide.{noWide}
-use Rattle.operations.specs.Operations.{isIdle, opRows, needs}
 use Rattle.operations.proofs.Taken.{copy-taken}
 use Rattle.refinement.specs.Frames.{frameOf}
 use Rattle.refinement.specs.Commit.{closedWriter}

@@ -1,13 +1,12 @@
 -- A store of a wide commit between its first and its last: a word of an entry's line goes to the committed copy, in a frame of its page. No line without an
 -- entry and no entry has that word, and mount does not read it.
 use Prim.Native.Nat.{ℕ, _+_, _-_, _*_, _<_, _≤_}
-use mathlib.Core.Bool.{Bool, true, false}
 use mathlib.Core.List.{List}
 use mathlib.Core.Logic.{_⊎_}
-use mathlib.Core.Path.{_≡_, refl, sym, ap, ap₂, _∙_, subst}
+use mathlib.Core.Path.{_≡_, sym, ap, ap₂, _∙_, subst}
 use native.Mathlib.Omega.{arith}
-use lib.Dec.{ltb, eqb}
-use lib.ListN.{length, getD}
+use lib.Dec.{eqb}
+use lib.ListN.{length}
 use borrow.Author.Tests.{eqb-true, eqb-false}
 use Rattle.bounded.proofs.Tests.{caseOn}
 use Rattle.layout.specs.declared.Sizes.{Sizes}
@@ -17,22 +16,22 @@ use Rattle.words.proofs.WordLaws.{word-store, word-store-other, word-lt, length
 use Rattle.image.specs.Lines.{lineBytes}
 use Rattle.image.proofs.LineLaws.{length-line}
 use Rattle.entries.specs.Entries.{keyOf, keyPage, keyLine, entryOf}
-use Rattle.entries.proofs.EntryLaws.{Right, entry-before}
+use Rattle.entries.proofs.EntryLaws.{entry-before}
 use Rattle.mount.proofs.Dead.{Dead, dead-line}
 use Rattle.state.specs.declared.State.{State}
 use Rattle.state.specs.declared.Op.{Op}
 use Rattle.state.specs.declared.Op.the-variants.{Copy}
 use Rattle.operations.specs.Operations.{isIdle, needs}
 use Rattle.refinement.specs.Frames.{frameOf}
-use Rattle.refinement.specs.Wide.{entryBytes, copyAt, copyValue}
+use Rattle.refinement.specs.Wide.{entryBytes}
 use Rattle.refinement.specs.Stores.{withMade}
-use Rattle.refinement.specs.Reference.{Reference, Work, withWork, idle, under, nothing, recallLine}
+use Rattle.refinement.specs.Reference.{Reference, Work, withWork, idle, under, nothing}
 use Rattle.refinement.proofs.StateValid.{valid}
 use Rattle.refinement.proofs.Invariant.{Durable}
-use Rattle.refinement.proofs.Pending.{made-valid, needs-made}
+use Rattle.refinement.proofs.Pending.{made-valid}
 use Rattle.refinement.proofs.Copies.{committed-low, durable-legal, durable-fits}
 use Rattle.refinement.proofs.Keys.{keys-ext}
-use Rattle.refinement.proofs.CopyPlaces.{home-low, at-line, value-line, same-line, lines-apart}
+use Rattle.refinement.proofs.CopyPlaces.{home-low, same-line, lines-apart}
 use Rattle.refinement.proofs.Stepping.{eight-kept, line-kept, store-fits, page-kept, frame-ext, durable-stored, durable-made}
 use Rattle.refinement.proofs.Copying.{paged, paged-line, copyOf, copyWord, keyAt, inPlace, placed, Copying}
 

@@ -1,14 +1,14 @@
 -- Where the stores of a wide commit go: to the count, then each line to its committed copy, in a frame of its page, then to the count. No two lines
 -- have a word in common.
-use Prim.Native.Nat.{ℕ, _+_, _-_, _*_, _/_, _%_, _<_, _≤_}
-use mathlib.Core.Bool.{Bool, true, false}
+use Prim.Native.Nat.{ℕ, _+_, _-_, _*_, _/_, _%_, _<_}
+use mathlib.Core.Bool.{true}
 use mathlib.Core.List.{List}
-use mathlib.Core.Path.{_≡_, refl, sym, ap, ap₂, _∙_}
+use mathlib.Core.Path.{_≡_, refl, sym, ap₂, _∙_}
 use native.Mathlib.Nat.{mod-eq-of-lt}
 use native.Mathlib.Omega.{arith}
-use lib.Dec.{ltb, eqb}
+use lib.Dec.{ltb}
 use lib.ListN.{getD}
-use borrow.Author.Tests.{eqb-true, eqb-false, ltb-true, ltb-false, lt-ltb, le-ltb, ne-eqb}
+use borrow.Author.Tests.{ltb-true, ltb-false, lt-ltb, le-ltb, ne-eqb}
 use Rattle.bounded.proofs.Tests.{caseOn}
 use Rattle.layout.specs.declared.Sizes.{Sizes}
 use Rattle.layout.specs.Layout.{frames, countWord, lineWord, entryWord}
@@ -19,7 +19,7 @@ use Rattle.entries.proofs.EntryLaws.{Right, key-back}
 use Rattle.state.specs.declared.State.{State}
 use Rattle.validity.specs.Validity.{stateOk}
 use Rattle.refinement.specs.Frames.{frameOf}
-use Rattle.refinement.specs.Wide.{copiedFrame, copyAt, copyAtOf, copyValue, copyValueOf}
+use Rattle.refinement.specs.Wide.{copyAt, copyAtOf, copyValue, copyValueOf}
 use Rattle.refinement.specs.Reference.{Reference}
 use Rattle.refinement.proofs.StateValid.{valid}
 use Rattle.refinement.proofs.Invariant.{Durable}

@@ -1,11 +1,10 @@
 -- A store of the count of entries: a mount finds the same but for the entries that are counted, whose keys it reads.
-use Prim.Native.Nat.{ℕ, _+_, _*_, _^_, _<_, _≤_}
-use mathlib.Core.Bool.{Bool, true, false, cond}
+use Prim.Native.Nat.{ℕ, _^_, _<_, _≤_}
+use mathlib.Core.Bool.{Bool, cond}
 use mathlib.Core.List.{List}
 use mathlib.Core.Path.{_≡_, refl, sym, ap, _∙_, subst}
 use native.Mathlib.Omega.{arith}
-use lib.Dec.{eqb}
-use lib.ListN.{length, drop}
+use lib.ListN.{length}
 use borrow.Author.Tests.{ne-eqb}
 use Rattle.layout.specs.declared.Sizes.{Sizes}
 use Rattle.layout.specs.Layout.{layoutOf, countWord, imageLength}
@@ -13,7 +12,7 @@ use Rattle.words.specs.Words.{word, store}
 use Rattle.words.proofs.WordLaws.{length-store, bytes-store, drop-store}
 use Rattle.entries.specs.Entries.{keysFrom}
 use Rattle.entries.proofs.EntryLaws.{Right, right-entries}
-use Rattle.mount.proofs.View.{View, Shows, viewWith, shown}
+use Rattle.mount.proofs.View.{View, Shows, shown}
 use Rattle.mount.proofs.HeadTail.{store-count}
 use Rattle.mount.proofs.Verdict.{Taken}
 use Rattle.state.specs.declared.State.{State}

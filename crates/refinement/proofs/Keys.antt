@@ -1,19 +1,14 @@
 -- The keys of the entries that are used, as they stand in the image.
-use Prim.Native.Nat.{ℕ, _+_, _<_, _≤_, min}
+use Prim.Native.Nat.{ℕ, _<_, min}
 use mathlib.Core.List.{List}
-use mathlib.Core.Path.{_≡_, sym, ap, _∙_}
+use mathlib.Core.Path.{_≡_, ap, _∙_}
 use native.Mathlib.Omega.{arith}
-use lib.ListN.{length}
-use Rattle.bounded.specs.Tab.{filled}
 use Rattle.bounded.proofs.Tab.{filled-ext}
 use Rattle.layout.specs.declared.Sizes.{Sizes}
 use Rattle.layout.specs.Layout.{entryWord}
 use Rattle.words.specs.Words.{word}
 use Rattle.entries.specs.Entries.{noKeys, keysFrom}
 use Rattle.mount.proofs.View.{View, Shows, shown}
-use Rattle.state.specs.declared.State.{State}
-use Rattle.refinement.specs.Reference.{Reference}
-use Rattle.refinement.proofs.Invariant.{Durable}
 
 -- words that agree on them
 pub keys-ext : (r r′ : ℕ → ℕ) (z : Sizes) (n : ℕ) → ((e : ℕ) → e < n → e < z .entries → r (entryWord z e) ≡ r′ (entryWord z e)) → keysFrom r z n ≡ keysFrom r′ z n

@@ -1,13 +1,12 @@
 -- An abort of a wide transaction leaves the state without it. No other writer is open.
 use Prim.Native.Nat.{ℕ}
-use mathlib.Core.Bool.{Bool, true, not, cond}
+use mathlib.Core.Bool.{Bool, not, cond}
 use mathlib.Core.List.{List}
 use mathlib.Core.Logic.{inl}
-use mathlib.Core.Path.{_≡_, refl, sym, ap, _∙_, subst}
+use mathlib.Core.Path.{_≡_, refl, sym, ap, subst}
 use borrow.Author.Tests.{eq-eqb}
 use Rattle.bounded.specs.Rows.{refusal}
 use Rattle.state.specs.declared.State.{State}
-use Rattle.state.specs.declared.Wide.{Wide}
 use Rattle.state.specs.declared.Op.the-variants.{Copy}
 use Rattle.state.specs.Wide.{noWide, dropped}
 use Rattle.refinement.specs.Commit.{closedWriter}

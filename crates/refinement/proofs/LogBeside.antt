@@ -1,26 +1,24 @@
 -- A consolidation, a slot to be freed and a checkpoint, asked for while a wide transaction is open: what they ask of the state is so of the state without it.
 use Prim.Native.Nat.{ℕ, zero, suc, _<_}
-use mathlib.Core.Bool.{Bool, true, false, not, cond}
+use mathlib.Core.Bool.{true, false, not, cond}
 use mathlib.Core.List.{List}
 use mathlib.Core.Logic.{inr}
-use mathlib.Core.Path.{_≡_, refl, sym, ap, _∙_, subst}
+use mathlib.Core.Path.{_≡_, refl, sym, ap, subst}
 use native.Mathlib.Omega.{arith}
 use lib.Dec.{eqb, eqb·suc-zero}
 use lib.ListN.{replicate}
-use borrow.Author.Tests.{ltb-true, not-false}
+use borrow.Author.Tests.{ltb-true}
 use Rattle.bounded.specs.Rows.{refusal}
 use Rattle.bounded.proofs.Rows.{none-apply, row-none}
 use Rattle.state.specs.declared.State.{State}
 use Rattle.state.specs.declared.Pending.{Pending}
 use Rattle.state.specs.declared.Op.{Op}
 use Rattle.state.specs.declared.Op.the-variants.{Consolidate, Checkpoint, Copy}
-use Rattle.operations.specs.Operations.{isIdle, needs, opRows, slotFor, slotted, consolidateRows}
+use Rattle.operations.specs.Operations.{isIdle, needs, opRows, slotFor, consolidateRows}
 use Rattle.operations.proofs.Taken.{consolidate-taken}
 use Rattle.validity.specs.Validity.{opFits}
 use Rattle.refinement.specs.Commit.{closedWriter}
 use Rattle.refinement.specs.Freeing.{freedPage}
-use Rattle.refinement.specs.Settled.{noPending}
-use Rattle.refinement.specs.Outcome.{answered}
 use Rattle.refinement.specs.Stores.{World, completed}
 use Rattle.refinement.specs.Calls.{worldOf, withPending, asked, consolidateCallRows, consolidateOf, freeCallRows, freeOf, checkpointCallRows, checkpointOf}
 use Rattle.refinement.specs.Run.{Call, consolidate, free, checkpoint, exec}

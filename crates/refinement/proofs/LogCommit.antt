@@ -1,6 +1,6 @@
 -- A commit of a wide transaction asked for: with no line it is done, else its copying is pending. No other writer is open.
 use Prim.Native.Nat.{ℕ, zero, suc, _-_, _<_}
-use mathlib.Core.Bool.{Bool, true, false, not, cond}
+use mathlib.Core.Bool.{Bool, false, not, cond}
 use mathlib.Core.List.{List}
 use mathlib.Core.Logic.{inl}
 use mathlib.Core.Path.{_≡_, refl, sym, ap, _∙_, subst}
@@ -17,17 +17,15 @@ use Rattle.state.specs.declared.State.{State}
 use Rattle.state.specs.declared.Pending.{Pending}
 use Rattle.state.specs.declared.Op.{Op}
 use Rattle.state.specs.declared.Op.the-variants.{Commit, Copy}
-use Rattle.state.specs.Wide.{isWide}
 use Rattle.operations.specs.Operations.{isIdle, needs, commitRows}
 use Rattle.operations.proofs.Taken.{commit-taken}
-use Rattle.refinement.specs.Outcome.{answered}
 use Rattle.refinement.specs.Stores.{World, completed}
 use Rattle.refinement.specs.Calls.{worldOf, withPending, commitCallRows, commitOp, commitOf}
 use Rattle.refinement.specs.Run.{commit, exec}
 use Rattle.refinement.specs.Reference.{Reference, Cell, none, laidOver, idle, copying, committing, withWork, does, starts, startsCopy, emptied, laid}
 use Rattle.refinement.proofs.CallAsked.{pending-valid, needs-asked}
 use Rattle.refinement.proofs.Invariant.{Quiet}
-use Rattle.refinement.proofs.Keeps.{durable-kept, quiet-pages}
+use Rattle.refinement.proofs.Keeps.{quiet-pages}
 use Rattle.refinement.proofs.Logging.{Logged, asked, same-pages, Logging, only-open, copy-row, at-rest}
 use Rattle.refinement.proofs.LoggingStanding.{logging-standing}
 use Rattle.refinement.proofs.Cases.{narrow, logging, Kept, Then, answered-still}

@@ -1,12 +1,12 @@
 -- The ninth store of a wide write: the line's entry has the finished line whole, and is used.
-use Prim.Native.Nat.{ℕ, suc, _+_, _-_, _*_, _<_, _≤_, min}
-use mathlib.Core.Bool.{Bool, true, false, cond}
+use Prim.Native.Nat.{ℕ, _+_, _-_, _*_, _<_, _≤_, min}
+use mathlib.Core.Bool.{Bool, cond}
 use mathlib.Core.List.{List}
-use mathlib.Core.Path.{_≡_, refl, sym, ap, ap₂, _∙_, subst}
+use mathlib.Core.Path.{_≡_, refl, sym, ap, ap₂, _∙_}
 use native.Mathlib.Nat.{le-antisymm}
 use native.Mathlib.Omega.{arith}
-use lib.Dec.{ltb, eqb}
-use lib.ListN.{length, getD, set}
+use lib.Dec.{eqb}
+use lib.ListN.{length, set}
 use lib.Seq.{set-getD, getD-set-same, getD-set-other}
 use borrow.Author.Tests.{ltb-true, ltb-false, eqb-true, eqb-false}
 use Rattle.bounded.specs.Tab.{filled}
@@ -20,11 +20,10 @@ use Rattle.image.proofs.LineLaws.{eight-words, flat-line}
 use Rattle.entries.specs.Entries.{noKeys, keyOf, keyPage, keyLine, keysFrom, entryOf}
 use Rattle.entries.proofs.EntryLaws.{entry-le, entry-found, entry-before, entry-none, entry-own, page-of-key, line-of-key, key-back, key-apart}
 use Rattle.state.specs.declared.State.{State}
-use Rattle.state.specs.declared.Wide.{Wide}
 use Rattle.state.specs.declared.Op.the-variants.{Log, Copy}
-use Rattle.state.specs.Wide.{hasEntry, withEntry}
+use Rattle.state.specs.Wide.{hasEntry}
 use Rattle.refinement.specs.Stores.{completed}
-use Rattle.refinement.specs.Wide.{entryBytes, logAt, logValue}
+use Rattle.refinement.specs.Wide.{entryBytes}
 use Rattle.refinement.specs.Reference.{Reference, none, idle, withWork, written, readLine}
 use Rattle.refinement.proofs.StateValid.{Valid, valid}
 use Rattle.refinement.proofs.Pending.{pends}
@@ -32,7 +31,7 @@ use Rattle.refinement.proofs.WideValid.{logged-valid}
 use Rattle.refinement.proofs.Copies.{durable-fits}
 use Rattle.refinement.proofs.WriteHeld.{writes-kept, line-same}
 use Rattle.refinement.proofs.Copying.{keyAt}
-use Rattle.refinement.proofs.Logging.{same-pages, Entries, Logged, Logs, Stage, settled, Logging, keys-long}
+use Rattle.refinement.proofs.Logging.{same-pages, Logs, settled, Logging, keys-long}
 use Rattle.refinement.proofs.LogMid.{taken, own, own-low, newLine, value-is, image, durable, keys, line-kept, landed}
 
 module _ {past : List ℕ} (st : State) (img : List ℕ) (b : Reference) (G : Logging past st img b) (p l o n : ℕ) (op : st .pending .op ≡ Log p l o n) (L : Logs st img b p l o n)

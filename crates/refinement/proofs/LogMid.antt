@@ -1,7 +1,7 @@
 -- A store of a wide write: it goes to a word of the line's entry, which no mount reads, as no entry is counted; no other entry has that word, and a key that
 -- is stored again is the one that is there.
 use Prim.Native.Nat.{ℕ, suc, _+_, _-_, _*_, _^_, _<_, _≤_}
-use mathlib.Core.Bool.{Bool, true, false, cond}
+use mathlib.Core.Bool.{false}
 use mathlib.Core.List.{List}
 use mathlib.Core.Path.{_≡_, refl, sym, ap, _∙_, subst}
 use native.Mathlib.Omega.{arith}
@@ -9,9 +9,9 @@ use lib.Dec.{leb, eqb}
 use lib.ListN.{length, getD}
 use borrow.Author.Tests.{ltb-true, leb-false, eqb-true, eqb-false, ne-eqb}
 use Rattle.bounded.proofs.Below.{split-below}
-use Rattle.bounded.proofs.Tests.{caseOn, row-keeps}
+use Rattle.bounded.proofs.Tests.{caseOn}
 use Rattle.layout.specs.declared.Sizes.{Sizes}
-use Rattle.layout.specs.Layout.{lineWord, entryWord, imageLength}
+use Rattle.layout.specs.Layout.{entryWord, imageLength}
 use Rattle.words.specs.Words.{word, store}
 use Rattle.words.proofs.WordLaws.{word-store, word-store-other, word-lt}
 use Rattle.entries.specs.Entries.{keyOf, keyPage, keyLine, keysFrom}
@@ -23,7 +23,6 @@ use Rattle.state.specs.declared.Op.the-variants.{Log, Copy}
 use Rattle.state.specs.Wide.{entryFor, hasEntry}
 use Rattle.operations.specs.Operations.{isIdle, needs}
 use Rattle.operations.proofs.Taken.{LogTaken, log-taken}
-use Rattle.refinement.specs.Frames.{frameOf}
 use Rattle.refinement.specs.Stores.{completed, withMade}
 use Rattle.refinement.specs.Wide.{entryBytes, logAt, logValue}
 use Rattle.refinement.specs.Reference.{Reference, under, writing, withWork, written, readLine}
@@ -35,7 +34,7 @@ use Rattle.refinement.proofs.Stepping.{eight-kept, store-fits, durable-
 use Rattle.refinement.proofs.WriteMid.{line-word}
 use Rattle.refinement.proofs.Keys.{keys-ext}
 use Rattle.refinement.proofs.Copying.{keyAt}
-use Rattle.refinement.proofs.Logging.{same-pages, Entries, Logged, Logs, Stage, writes, Logging, at-rest}
+use Rattle.refinement.proofs.Logging.{same-pages, Logged, Logs, writes, Logging, at-rest}
 
 module _ {past : List ℕ} (st : State) (img : List ℕ) (b : Reference) (G : Logging past st img b) (p l o n : ℕ) (op : st .pending .op ≡ Log p l o n) (L : Logs st img b p l o n) where
   abbrev z : Sizes

@@ -1,22 +1,21 @@
 -- A write by the wide writer asked for: the finished line is the reference machine's with the data laid over it. Where the line has an entry and no byte
 -- changes, nothing does. No other writer is open.
-use Prim.Native.Nat.{ℕ, _+_, _-_, _<_, _≤_}
+use Prim.Native.Nat.{ℕ, _-_, _<_, _≤_}
 use mathlib.Core.Bool.{Bool, true, false, not, cond, _&&_}
 use mathlib.Core.List.{List}
 use mathlib.Core.Path.{_≡_, refl, sym, ap, ap₂, _∙_, subst}
 use native.Mathlib.Omega.{arith}
-use lib.Dec.{ltb, eqb}
+use lib.Dec.{eqb}
 use lib.ListN.{length}
 use borrow.Author.Tests.{ltb-true, ltb-false, eqb-true, eqb-false, eq-eqb, not-true}
 use Rattle.bounded.specs.Rows.{refusal}
 use Rattle.bounded.proofs.Tab.{length-tab}
-use Rattle.bounded.proofs.Tests.{caseOn, contradicts, and-left, and-right}
+use Rattle.bounded.proofs.Tests.{caseOn, and-left, and-right}
 use Rattle.words.specs.Words.{Bytes}
 use Rattle.words.proofs.Parts.{bytes-part}
 use Rattle.image.specs.Lines.{merged, mergeChanges, lineWords}
 use Rattle.image.proofs.LineLaws.{bytes-merged, merge-same}
-use Rattle.entries.specs.Entries.{keyOf, keyPage, keyLine, entryOf}
-use Rattle.entries.proofs.EntryLaws.{entry-before, entry-found, key-back}
+use Rattle.entries.specs.Entries.{keyPage, keyLine}
 use Rattle.state.specs.declared.State.{State}
 use Rattle.state.specs.declared.Pending.{Pending}
 use Rattle.state.specs.declared.Op.{Op}
@@ -24,7 +23,7 @@ use Rattle.state.specs.declared.Op.the-variants.{Write, Log, Copy}
 use Rattle.state.specs.Wide.{isWide, entryFor, hasEntry}
 use Rattle.operations.specs.Operations.{isIdle, needs, opRows}
 use Rattle.operations.proofs.Taken.{ArgsGood, write-taken, log-taken}
-use Rattle.refinement.specs.Frames.{pageFrame, seenFrame, holds}
+use Rattle.refinement.specs.Frames.{pageFrame, holds}
 use Rattle.refinement.specs.Stores.{World, completed}
 use Rattle.refinement.specs.Calls.{worldOf, withPending, seenLine, finishedLine, writeCallRows, changesNothing, writeOp, writeOf}
 use Rattle.refinement.specs.Run.{write, exec}

@@ -1,9 +1,9 @@
 -- Every call while a wide transaction is open: one clause a call. No other writer is open and none is prepared, so that no begin, event or prepare is taken,
 -- nor a confirm or a withdraw.
-use Prim.Native.Nat.{ℕ, _<_}
-use mathlib.Core.Bool.{Bool, true, false}
+use Prim.Native.Nat.{ℕ}
+use mathlib.Core.Bool.{true}
 use mathlib.Core.List.{List}
-use mathlib.Core.Path.{_≡_, refl, sym}
+use mathlib.Core.Path.{_≡_, sym}
 use native.Mathlib.Omega.{arith}
 use borrow.Author.Tests.{lt-ltb}
 use Rattle.bounded.specs.Rows.{refusal}

@@ -1,8 +1,8 @@
 -- A consolidation or a checkpoint goes on beside a wide transaction: its stores go before the entries, and are those of the state without it.
 use Prim.Native.Nat.{ℕ, zero, suc, _+_, _-_, _*_, _<_, _≤_, min}
-use mathlib.Core.Bool.{Bool, true, false}
+use mathlib.Core.Bool.{true, false}
 use mathlib.Core.List.{List}
-use mathlib.Core.Logic.{_⊎_, inl, inr, ⊎-elim}
+use mathlib.Core.Logic.{_⊎_, ⊎-elim}
 use mathlib.Core.Path.{_≡_, refl, sym, ap, _∙_, subst}
 use native.Mathlib.Omega.{arith}
 use lib.Dec.{ltb}
@@ -15,7 +15,7 @@ use Rattle.words.proofs.WordLaws.{word-store-other}
 use Rattle.replay.proofs.Tables.{Sixteen}
 use Rattle.state.specs.declared.State.{State}
 use Rattle.state.specs.declared.Op.{Op}
-use Rattle.state.specs.declared.Op.the-variants.{Idle, Write, Commit, Consolidate, Checkpoint, Event, Prepare, Confirm, Log, Copy}
+use Rattle.state.specs.declared.Op.the-variants.{Consolidate, Checkpoint, Copy}
 use Rattle.operations.specs.Operations.{isIdle, needs}
 use Rattle.validity.specs.Validity.{stateOk}
 use Rattle.refinement.specs.Commit.{closedWriter}
@@ -29,14 +29,14 @@ use Rattle.refinement.proofs.Pending.{pends, made-valid}
 use Rattle.refinement.proofs.ConsolidateValid.{consolidate-valid}
 use Rattle.refinement.proofs.CheckpointValid.{checkpoint-valid}
 use Rattle.refinement.proofs.InRange.{consolidate-in, checkpoint-in}
-use Rattle.refinement.proofs.Invariant.{Durable, Doing, Quiet, Busy, Related}
+use Rattle.refinement.proofs.Invariant.{Doing, Quiet, Busy, Related}
 use Rattle.refinement.proofs.Sound.{related-durable}
 use Rattle.refinement.proofs.Keeps.{durable-kept}
 use Rattle.refinement.proofs.Copies.{durable-fits}
 use Rattle.refinement.proofs.Stepping.{eight-kept, step-on, step-ends}
 use Rattle.refinement.proofs.StepCall.{one-store}
 use Rattle.refinement.proofs.Keys.{keys-ext}
-use Rattle.refinement.proofs.Logging.{Entries, Logged, Beside, Stage, settled, beside, shut, Logging}
+use Rattle.refinement.proofs.Logging.{Entries, Logged, Beside, settled, beside, shut, Logging}
 
 -- a store before the entries keeps them
 pub entries-kept : (st : State) (img : List ℕ) (b : Reference) (being : ℕ → Type 0) (a x : ℕ) → 8 * a + 8 ≤ length img → a < entryWord (st .sizes) 0 → Entries st img b being

@@ -1,27 +1,25 @@
 -- One store, and many, of whatever is pending while a wide transaction is open or copied.
-use Prim.Native.Nat.{ℕ, zero, suc, _+_, _-_, _<_, _≤_, min}
-use mathlib.Core.Bool.{Bool, true, false, not}
+use Prim.Native.Nat.{ℕ, zero, suc, _-_, _<_, _≤_, min}
+use mathlib.Core.Bool.{false}
 use mathlib.Core.List.{List}
-use mathlib.Core.Logic.{_⊎_, inl, inr, ⊎-elim}
+use mathlib.Core.Logic.{_⊎_, ⊎-elim}
 use mathlib.Core.Path.{_≡_, refl, sym, ap, _∙_, subst}
 use native.Mathlib.Omega.{arith}
 use Rattle.bounded.proofs.Tests.{contradicts}
 use Rattle.state.specs.declared.State.{State}
 use Rattle.state.specs.declared.Pending.{Pending}
 use Rattle.state.specs.declared.Op.{Op}
-use Rattle.state.specs.declared.Op.the-variants.{Log, Copy}
+use Rattle.state.specs.declared.Op.the-variants.{Copy}
 use Rattle.operations.specs.Operations.{isIdle, needs}
-use Rattle.validity.specs.Validity.{stateOk}
 use Rattle.refinement.specs.Stores.{World, stepped, steppedBy, left}
 use Rattle.refinement.specs.Reference.{Reference, Task, Work, idle, under, copying, nothing, committing, withWork, does, continues, copies, advances}
-use Rattle.refinement.proofs.Pending.{pends}
 use Rattle.refinement.proofs.Steps.{run-none, run-step, run-kept}
-use Rattle.refinement.proofs.Invariant.{Quiet, Busy}
+use Rattle.refinement.proofs.Invariant.{Quiet}
 use Rattle.refinement.proofs.StepCall.{continues-work, work-same}
 use Rattle.refinement.proofs.Copying.{Copying}
 use Rattle.refinement.proofs.StepCopy.{step-copy}
 use Rattle.refinement.proofs.CopyBegins.{step-first}
-use Rattle.refinement.proofs.Logging.{Stage, settled, writes, asked, beside, shut, Logging}
+use Rattle.refinement.proofs.Logging.{Stage, settled, writes, asked, beside, Logging}
 use Rattle.refinement.proofs.StepLog.{step-log}
 use Rattle.refinement.proofs.StepBeside.{step-beside, beside-work}
 
