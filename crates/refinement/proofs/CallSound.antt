@@ -7,8 +7,10 @@ use Rattle.refinement.specs.Run.{Call, mount, checkpoint, free, step, be
 use Rattle.refinement.specs.Reference.{Reference}
 use Rattle.refinement.specs.Statement.{Lent}
 use Rattle.refinement.proofs.Invariant.{Related, uncounted}
-use Rattle.refinement.proofs.Sound.{related-valid, related-durable, related-narrow}
-use Rattle.refinement.proofs.Between.{Between, Sounds, sounds}
+use Rattle.refinement.proofs.Sound.{Sound, related-valid, related-durable, related-narrow}
+use Rattle.refinement.proofs.Between.{Between, sounds}
+use Rattle.refinement.proofs.Cases.{Kept, kept}
+use Rattle.refinement.proofs.BeginWide.{begin-wide-sound}
 use Rattle.refinement.proofs.EventCalls.{event-sound, moving-sound}
 use Rattle.refinement.proofs.Begin.{begin-sound}
 use Rattle.refinement.proofs.Abort.{abort-sound}
@@ -24,48 +26,30 @@ use Rattle.refinement.proofs.AskFree.{free-sound}
 use Rattle.refinement.proofs.AskCheckpoint.{checkpoint-sound}
 use Rattle.refinement.proofs.StepCall.{step-sound, run-sound}
 
--- the calls that open no wide transaction
-abbrev pub Plain : Call → Type 0
-Plain (beginWide w) = ⊥
-Plain mount = Unit {0}
-Plain checkpoint = Unit {0}
-Plain free = Unit {0}
-Plain step = Unit {0}
-Plain (begin w) = Unit {0}
-Plain (abort w) = Unit {0}
-Plain (commit w) = Unit {0}
-Plain (prepare w) = Unit {0}
-Plain (confirm w) = Unit {0}
-Plain (withdraw w) = Unit {0}
-Plain (consolidate p) = Unit {0}
-Plain (run k) = Unit {0}
-Plain (write w p l o n bytes) = Unit {0}
-Plain (read w p l target) = Unit {0}
-Plain (recall p l target) = Unit {0}
-Plain (event ms k m a) = Unit {0}
-Plain (load text) = Unit {0}
+plain : {past : List ℕ} {c : Call} (v : World) (b : Reference) → Sound past c v b → Kept past c v b
+plain v b s = kept v b (sounds v b s)
 
 -- where no event is pending
-related-sound : {past : List ℕ} (c : Call) → Plain c → Lent c → (v : World) (b : Reference) → Related past v b → Sounds past c v b
-related-sound mount plain lent v b h = sounds v b (mount-sound v b (related-valid (v .st) (v .image) b h) (related-durable (v .st) (v .image) b h) (uncounted (v .st) (v .image) b (related-durable (v .st) (v .image) b h) (related-narrow (v .st) (v .image) b h)))
-related-sound checkpoint plain lent v b h = sounds v b (checkpoint-sound v b h)
-related-sound free plain lent v b h = sounds v b (free-sound v b h)
-related-sound step plain lent v b h = sounds v b (step-sound v b h)
-related-sound (begin w) plain lent v b h = sounds v b (begin-sound w v b h)
-related-sound (beginWide w) plain lent v b h = absurd plain
-related-sound (abort w) plain lent v b h = sounds v b (abort-sound w v b h)
-related-sound (commit w) plain lent v b h = sounds v b (commit-sound w v b h)
-related-sound (prepare w) plain lent v b h = sounds v b (prepare-sound w v b h)
-related-sound (confirm w) plain lent v b h = sounds v b (confirm-sound w v b h)
-related-sound (withdraw w) plain lent v b h = sounds v b (withdraw-sound w v b h)
-related-sound (consolidate p) plain lent v b h = sounds v b (consolidate-sound p v b h)
-related-sound (run k) plain lent v b h = sounds v b (run-sound k v b h)
-related-sound (write w p l o n bytes) plain lent v b h = sounds v b (write-sound w p l o n bytes lent v b h)
-related-sound (read w p l target) plain lent v b h = sounds v b (read-sound w p l target v b h)
-related-sound (recall p l target) plain lent v b h = sounds v b (recall-sound p l target v b h)
-related-sound (event ms k m a) plain lent v b h = event-sound ms k m a v b h
-related-sound (load text) plain lent v b h = sounds v b (load-sound text v b h)
+related-sound : {past : List ℕ} (c : Call) → Lent c → (v : World) (b : Reference) → Related past v b → Kept past c v b
+related-sound mount lent v b h = plain v b (mount-sound v b (related-valid (v .st) (v .image) b h) (related-durable (v .st) (v .image) b h) (uncounted (v .st) (v .image) b (related-durable (v .st) (v .image) b h) (related-narrow (v .st) (v .image) b h)))
+related-sound checkpoint lent v b h = plain v b (checkpoint-sound v b h)
+related-sound free lent v b h = plain v b (free-sound v b h)
+related-sound step lent v b h = plain v b (step-sound v b h)
+related-sound (begin w) lent v b h = plain v b (begin-sound w v b h)
+related-sound (beginWide w) lent v b h = begin-wide-sound w v b (inl h)
+related-sound (abort w) lent v b h = plain v b (abort-sound w v b h)
+related-sound (commit w) lent v b h = plain v b (commit-sound w v b h)
+related-sound (prepare w) lent v b h = plain v b (prepare-sound w v b h)
+related-sound (confirm w) lent v b h = plain v b (confirm-sound w v b h)
+related-sound (withdraw w) lent v b h = plain v b (withdraw-sound w v b h)
+related-sound (consolidate p) lent v b h = plain v b (consolidate-sound p v b h)
+related-sound (run k) lent v b h = plain v b (run-sound k v b h)
+related-sound (write w p l o n bytes) lent v b h = plain v b (write-sound w p l o n bytes lent v b h)
+related-sound (read w p l target) lent v b h = plain v b (read-sound w p l target v b h)
+related-sound (recall p l target) lent v b h = plain v b (recall-sound p l target v b h)
+related-sound (event ms k m a) lent v b h = kept v b (event-sound ms k m a v b h)
+related-sound (load text) lent v b h = plain v b (load-sound text v b h)
 
-pub plain-sound : {past : List ℕ} (c : Call) → Plain c → Lent c → (v : World) (b : Reference) → Between past v b → Sounds past c v b
-plain-sound c plain lent v b (inl h) = related-sound c plain lent v b h
-plain-sound c plain lent v b (inr h) = moving-sound c v b h
+pub narrow-sound : {past : List ℕ} (c : Call) → Lent c → (v : World) (b : Reference) → Between past v b → Kept past c v b
+narrow-sound c lent v b (inl h) = related-sound c lent v b h
+narrow-sound c lent v b (inr h) = kept v b (moving-sound c v b h)

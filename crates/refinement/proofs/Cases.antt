@@ -14,11 +14,19 @@ use Rattle.refinement.specs.Statement.{Right}
 use Rattle.refinement.proofs.Between.{Between, Sounds}
 use Rattle.refinement.proofs.Copying.{Copying}
 use Rattle.refinement.proofs.Logging.{Logging}
+use Rattle.refinement.proofs.Standing.{Standing, between-standing}
+use Rattle.refinement.proofs.LoggingStanding.{logging-standing}
+use Rattle.refinement.proofs.CopyingStanding.{copying-standing}
 
 pub data Invariant (past : List ℕ) (v : World) (b : Reference) : Type 0 where
   narrow : Between past v b → Invariant past v b
   logging : Logging past (v .st) (v .image) b → Invariant past v b
   copying : Copying past (v .st) (v .image) b → Invariant past v b
+
+pub standing-of : {past : List ℕ} (v : World) (b : Reference) → Invariant past v b → Standing past v b
+standing-of v b (narrow h) = between-standing v b h
+standing-of v b (logging G) = logging-standing v b G
+standing-of v b (copying C) = copying-standing v b C
 
 -- what every call's proof has to show: the answer is right, the sizes stay, and what holds between two calls holds again
 pub record Kept (past : List ℕ) (c : Call) (v : World) (b : Reference) : Type 0 where

@@ -119,6 +119,7 @@ pub mod LogWrite
 pub mod LogReads
 pub mod LogBeside
 pub mod StandingCalls
+pub mod WideSteps
 pub mod LoggingSound
 pub mod CopyingSound
 pub mod CaseSound

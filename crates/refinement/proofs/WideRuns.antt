@@ -114,3 +114,9 @@ module _ {past : List ℕ} (v : World) (b : Reference) where
       let j : isIdle (u .st .pending .op) ≡ false = ap (λ (s : State). isIdle (s .pending .op)) (run-kept n v m) ∙ i in
       subst (λ (x : World). Wider past x (advances (suc n) (b .work) b)) (sym (run-step n v))
       (subst (Wider past (stepped u)) (sym e) (one-wider u (advances n (b .work) b) (many-wider h i some n (omega arith)) j))
+
+-- no more than are left
+pub advance-min : (k : Work) (b : Reference) (n j : ℕ) → WorkLeft k j → advances n k b ≡ advances (min n j) k b
+advance-min idle b n j h = refl
+advance-min (under t m) b n j h = let f : m - min n m ≡ m - min (min n j) m = omega arith in ap (λ (i : ℕ). continues t i b) f
+advance-min (copying w m) b n j h = let f : min n m ≡ min (min n j) m = omega arith in ap (λ (i : ℕ). copies w m i b) f
