@@ -27,9 +27,8 @@ use Rattle.refinement.specs.Beside.{counted}
 use Rattle.refinement.specs.Reference.{Reference}
 use Rattle.refinement.proofs.Cases.{Invariant, narrow}
 use Rattle.refinement.proofs.Cases as Cases
-use Rattle.refinement.proofs.CopyMount.{remounted}
 use Rattle.refinement.proofs.MountCall.{mount-viewed}
-use Rattle.refinement.proofs.Remount.{Shown, remount-quiet, remount-copying}
+use Rattle.refinement.proofs.Remount.{remounted, Shown, remount-quiet, remount-copying}
 use Rattle.refinement.proofs.Viewed.{Viewed}
 
 -- a state with what the view shows

@@ -235,12 +235,9 @@ module _ {past past′ : List ℕ} (st : State) (x y : List ℕ) (b : Reference)
               refl,
               refl,
               λ _. (
-              refl,
-              refl,
-              λ g. (
                 refl,
                 refl,
-                λ _. (
+                λ g. (
                   refl,
                   refl,
                   λ _. (
@@ -253,10 +250,14 @@ module _ {past past′ : List ℕ} (st : State) (x y : List ℕ) (b : Reference)
                         refl,
                         refl,
                         λ _. (
-                          bad-same 0 page,
                           refl,
-                          λ _.
-                              (ap (λ (line : List ℕ). amountBad ms i m (wordAt line 0) a) (meter-same q first (omega (arith, first-low i m (not-false (eventKnown i m) g)))), refl, λ _. (refl, refl, λ _. tt)),
+                          refl,
+                          λ _. (
+                            bad-same 0 page,
+                            refl,
+                            λ _.
+                                (ap (λ (line : List ℕ). amountBad ms i m (wordAt line 0) a) (meter-same q first (omega (arith, first-low i m (not-false (eventKnown i m) g)))), refl, λ _. (refl, refl, λ _. tt)),
+                          ),
                         ),
                       ),
                     ),

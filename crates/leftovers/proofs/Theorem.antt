@@ -22,7 +22,7 @@ use Rattle.refinement.specs.Reference.{Reference, turn}
 use Rattle.refinement.specs.Statement.{AllLent}
 use Rattle.refinement.proofs.Cases.{Invariant, standing-of}
 use Rattle.refinement.proofs.CaseSound.{call-sound}
-use Rattle.refinement.proofs.CopyMount.{remounted}
+use Rattle.refinement.proofs.Remount.{remounted}
 use Rattle.refinement.proofs.MountCall.{mount-viewed}
 use Rattle.refinement.proofs.Reached.{always}
 use Rattle.refinement.proofs.Viewed.{Viewed}
