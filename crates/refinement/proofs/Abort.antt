@@ -25,9 +25,10 @@ use Rattle.refinement.proofs.Begun.{aborting, abort-taken, abort-valid}
 use Rattle.refinement.specs.Run.{abort, exec}
 use Rattle.refinement.specs.Reference.{Reference, emptied}
 use Rattle.refinement.proofs.Invariant.{holds, Writing, Never, Quiet, Related, Narrow, not-wide}
-use Rattle.refinement.proofs.Sound.{Sound, answered-kept, is-quiet}
+use Rattle.refinement.proofs.Sound.{Sound, is-quiet}
 use Rattle.refinement.proofs.Keeps.{durable-kept}
 use Rattle.refinement.proofs.Records.{stored-same}
+use Rattle.refinement.proofs.Next.{answered-still}
 
 abbrev pub closed : State → ℕ → State
 closed st w = withWriters st (closedWriter (st .sizes) (st .writers) w)
@@ -94,7 +95,7 @@ unfolding exec abortOf
 abort-sound {past = past} w v b h =
     let st = v .st in
     let a =
-    answered-kept (abort w) v b (refusal (abortRows st w)) 0 (aborting st w) h
+    answered-still (Related _) (abort w) v b (refusal (abortRows st w)) 0 (aborting st w) h
     (λ e.
     let q = is-quiet st (v .image) b h (ap not (abort-taken st w e .quiet)) in
     let same = none-dropped st b w (q .narrow) (abort-taken st w e .writer-low) in

@@ -26,8 +26,9 @@ use Rattle.refinement.specs.Calls.{checkpointCallRows, checkpointOf}
 use Rattle.refinement.specs.Run.{checkpoint, exec}
 use Rattle.refinement.specs.Reference.{Reference, nothing}
 use Rattle.refinement.proofs.Invariant.{Quiet, Related}
-use Rattle.refinement.proofs.Asked.{all-left, asked-busy, asked-after}
+use Rattle.refinement.proofs.Asked.{all-left, asked-busy}
 use Rattle.refinement.proofs.Sound.{Sound, is-quiet}
+use Rattle.refinement.proofs.Next.{asked-next}
 
 pub none-needed : (st : State) → needs st Checkpoint ≡ 0 → st .head ≡ st .tail
 unfolding needs
@@ -81,7 +82,7 @@ checkpoint-sound v b h =
     let img = v .image in
     let rows = none-apply (checkpointCallRows st img) (omega arith) in
     let a =
-    asked-after checkpoint v b (refusal (checkpointCallRows st img)) Checkpoint (replicate 8 0) 0 nothing (λ e k. refl) h
+    asked-next (Related _) checkpoint v b Checkpoint (replicate 8 0) 0 nothing (refusal (checkpointCallRows st img)) (λ e k. refl) h
     (λ e z. record { sizes = refl; related = inl (empty-checkpoint st img b (is-quiet st img b h (rows e .1 .1 .0)) (none-needed st z)) })
     (λ e z.
     let q = is-quiet st img b h (rows e .1 .1 .0) in

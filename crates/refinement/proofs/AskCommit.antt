@@ -36,11 +36,12 @@ use Rattle.refinement.specs.Run.{commit, exec}
 use Rattle.refinement.specs.Reference.{Reference, Cell, laidOver, committing, under, withWork, laid, emptied, taken, starts, startsCopy}
 use Rattle.refinement.proofs.Invariant.{Quiet, Related, holds, not-wide}
 use Rattle.refinement.proofs.Abort.{closed, aborted}
-use Rattle.refinement.proofs.Asked.{all-left, asked-busy, asked-after}
+use Rattle.refinement.proofs.Asked.{all-left, asked-busy}
 use Rattle.refinement.proofs.Begun.{unprepared, unprepared-valid}
 use Rattle.refinement.proofs.Keeps.{durable-kept, quiet-pages}
 use Rattle.refinement.proofs.Sound.{After, Sound, is-quiet, quiet-idle}
 use Rattle.refinement.proofs.WriterCalls.{commit-narrow}
+use Rattle.refinement.proofs.Next.{asked-next}
 
 -- no slot with held lines: every mask is empty
 unheld : (z : Sizes) (held : List ℕ) (w : ℕ) → length (heldSlots z held w) ≡ 0 → (s : ℕ) → s < z .slots → heldAt held w s ≡ 0
@@ -121,7 +122,7 @@ commit-sound {past = past} w v b h =
     let q : row ≡ 0 → Quiet past st img b = λ e. is-quiet st img b h (rows e .1 .1 .0) in
     let op : row ≡ 0 → Commit w ≡ commitOp st w = λ e. sym (commit-narrow st img w (not-wide st b w (q e .narrow) (can e .writer-low))) in
     let a =
-    asked-after (commit w) v b row (commitOp st w) (replicate 8 0) 0 (committing w) (λ e n. book-narrow b w n (q e .narrow .book) (can e .writer-low)) h
+    asked-next (Related _) (commit w) v b (commitOp st w) (replicate 8 0) 0 (committing w) row (λ e n. book-narrow b w n (q e .narrow .book) (can e .writer-low)) h
     (λ e z.
     subst (λ (o : Op). After past v (worldOf (completed st o) img) (emptied w (laid w b))) (op e)
     (record { sizes = refl; related = inl (empty-commit st img b w (can e) (q e) (none-needed st w (ap (needs st) (op e) ∙ z))) }))

@@ -16,8 +16,9 @@ use Rattle.refinement.specs.Calls.{worldOf, asked, consolidateCallRows, 
 use Rattle.refinement.specs.Run.{Call, consolidate, exec}
 use Rattle.refinement.specs.Reference.{Reference, nothing, starts, taken, turn}
 use Rattle.refinement.proofs.Invariant.{Related}
-use Rattle.refinement.proofs.Asked.{all-left, asked-busy, asked-after}
+use Rattle.refinement.proofs.Asked.{all-left, asked-busy}
 use Rattle.refinement.proofs.Sound.{Sound, After, is-quiet}
+use Rattle.refinement.proofs.Next.{asked-next}
 
 some-needed : (st : State) (p : ℕ) → 0 < needs st (Consolidate p)
 unfolding needs
@@ -31,7 +32,7 @@ pub consolidation-after : {past : List ℕ} (c : Call) (v : World) (b : Referenc
 consolidation-after c v b row p t h rows =
     let st = v .st in
     let img = v .image in
-    asked-after c v b row (Consolidate p) (replicate 8 0) 0 nothing t h
+    asked-next (Related _) c v b (Consolidate p) (replicate 8 0) 0 nothing row t h
     (λ e z. absurd (omega (arith, z, some-needed st p)))
     (λ e z.
     let q = is-quiet st img b h (rows e .0) in

@@ -1,6 +1,6 @@
 -- Prepare, confirm and withdraw (document 02, L8). A prepare with no lines held needs no store: its writer is prepared at once. A confirm of nothing is an empty
 -- commit. A withdraw changes nothing but that no writer is prepared.
-use Prim.Native.Nat.{ℕ, _*_, _<_}
+use Prim.Native.Nat.{ℕ}
 use mathlib.Core.Bool.{true}
 use mathlib.Core.List.{List}
 use mathlib.Core.Logic.{inl, inr}
@@ -26,13 +26,14 @@ use Rattle.refinement.specs.Calls.{prepareCallRows, confirmCallRows, pre
 use Rattle.refinement.specs.Run.{prepare, confirm, withdraw, exec}
 use Rattle.refinement.specs.Reference.{Reference, idle, committing, nothing}
 use Rattle.refinement.proofs.AskCommit.{empty-commit, unprepared-quiet}
-use Rattle.refinement.proofs.Asked.{all-left, asked-busy, asked-after}
+use Rattle.refinement.proofs.Asked.{all-left, asked-busy}
 use Rattle.refinement.proofs.Begun.{unprepared}
 use Rattle.refinement.proofs.CommitValid.{prepare-valid, confirm-can}
 use Rattle.refinement.proofs.Invariant.{Durable, Writing, Narrow, Never, Quiet, Related}
 use Rattle.refinement.proofs.Keeps.{durable-kept}
 use Rattle.refinement.proofs.Records.{Stored}
-use Rattle.refinement.proofs.Sound.{Sound, answered-kept, is-quiet}
+use Rattle.refinement.proofs.Sound.{Sound, is-quiet}
+use Rattle.refinement.proofs.Next.{answered-still, asked-next}
 
 -- a writer prepared: its records are in the image, and nothing else has changed
 pub now-prepared : {past : List ℕ} (st : State) (img : List ℕ) (b : Reference) (w : ℕ) → stateOk st ≡ true → CommitTaken st w → Durable past st img b → Writing st img b Never
@@ -68,7 +69,7 @@ prepare-sound w v b h =
     let img = v .image in
     let rows = none-apply (prepareCallRows st img w) (omega arith) in
     let a =
-    asked-after (prepare w) v b (refusal (prepareCallRows st img w)) (Prepare w) (replicate 8 0) 0 nothing (λ e k. refl) h
+    asked-next (Related _) (prepare w) v b (Prepare w) (replicate 8 0) 0 nothing (refusal (prepareCallRows st img w)) (λ e k. refl) h
     (λ e z.
     let q = is-quiet st img b h (rows e .1 .1 .0) in
     let T = prepare-taken st w (prepare-row st img w e) in
@@ -88,7 +89,7 @@ confirm-sound w v b h =
     let img = v .image in
     let rows = none-apply (confirmCallRows st img w) (omega arith) in
     let a =
-    asked-after (confirm w) v b (refusal (confirmCallRows st img w)) (Confirm w) (replicate 8 0) 0 (committing w) (λ e k. refl) h
+    asked-next (Related _) (confirm w) v b (Confirm w) (replicate 8 0) 0 (committing w) (refusal (confirmCallRows st img w)) (λ e k. refl) h
     (λ e z.
     let q = is-quiet st img b h (rows e .1 .1 .0) in
     let T = confirm-can st w (q .valid) (confirm-taken st w (confirm-row st img w e)) in
@@ -104,7 +105,7 @@ withdraw-sound w v b h =
     let st = v .st in
     let img = v .image in
     let a =
-    answered-kept (withdraw w) v b (refusal (confirmCallRows st img w)) 0 (unprepared st) h
+    answered-still (Related _) (withdraw w) v b (refusal (confirmCallRows st img w)) 0 (unprepared st) h
     (λ e.
     let q = is-quiet st img b h (none-apply (confirmCallRows st img w) (omega arith) e .1 .1 .0) in
     record { sizes = refl; related = inl (unprepared-quiet st img b q) }) in

@@ -34,8 +34,9 @@ use Rattle.refinement.proofs.Copies.{durable-fits}
 use Rattle.refinement.proofs.Rewritten.{has-slot, world-back}
 use Rattle.refinement.proofs.Seen.{seen-line}
 use Rattle.refinement.proofs.WriterCalls.{finished-narrow, write-narrow, write-op-row, write-first, write-args}
-use Rattle.refinement.proofs.Sound.{After, Sound, answered-kept, is-quiet}
+use Rattle.refinement.proofs.Sound.{After, Sound, is-quiet}
 use Rattle.refinement.proofs.StepCall.{work-same, run-related}
+use Rattle.refinement.proofs.Next.{answered-still}
 
 -- the bytes laid over the line, one by one
 pub merged-read : (b : Reference) (w p l o n : ℕ) (bytes : List ℕ) → o + n ≤ 64 → n ≤ length bytes
@@ -117,7 +118,7 @@ write-sound {past = past} w p l o n bytes lent v b h =
     let nothing = changesNothing st img w p l o n bytes in
     let asks = withPending st (writeOp st w p l o n) (finishedLine st img w p l o n bytes) (pageFrame st img p) in
     let a =
-    answered-kept (write w p l o n bytes) v b (refusal (writeCallRows st img w p l o n bytes)) (cond nothing 0 (cond (isWide (st .wide) w) 9 8)) (cond nothing st asks) h
+    answered-still (Related _) (write w p l o n bytes) v b (refusal (writeCallRows st img w p l o n bytes)) (cond nothing 0 (cond (isWide (st .wide) w) 9 8)) (cond nothing st asks) h
     (λ e.
     let first = write-first st img w p l o n bytes e in
     let q : Quiet past st img b = is-quiet st img b h (first .1 .1 .0) in

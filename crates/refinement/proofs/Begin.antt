@@ -14,8 +14,9 @@ use Rattle.refinement.proofs.Begun.{opening, begin-taken, begin-valid}
 use Rattle.refinement.specs.Run.{begin, exec}
 use Rattle.refinement.specs.Reference.{Reference}
 use Rattle.refinement.proofs.Invariant.{Quiet, Related}
-use Rattle.refinement.proofs.Sound.{Sound, answered-kept, is-quiet}
+use Rattle.refinement.proofs.Sound.{Sound, is-quiet}
 use Rattle.refinement.proofs.Keeps.{durable-kept}
+use Rattle.refinement.proofs.Next.{answered-still}
 
 begun : {past : List ℕ} (st : State) (img : List ℕ) (b : Reference) (w : ℕ) → refusal (beginRows st w) ≡ 0 → Quiet past st img b
     → Quiet past (withWriters st (opening st w)) img b
@@ -35,7 +36,7 @@ unfolding exec beginOf
 begin-sound w v b h =
     let st = v .st in
     let a =
-    answered-kept (begin w) v b (refusal (beginRows st w)) 0 (withWriters st (opening st w)) h
+    answered-still (Related _) (begin w) v b (refusal (beginRows st w)) 0 (withWriters st (opening st w)) h
     (λ e.
     let q = is-quiet st (v .image) b h (ap not (begin-taken st w e .quiet)) in
     record { sizes = refl; related = inl (begun st (v .image) b w e q) }) in

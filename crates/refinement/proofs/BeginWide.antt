@@ -19,7 +19,8 @@ use Rattle.refinement.proofs.Between.{Between, between-quiet}
 use Rattle.refinement.proofs.Invariant.{Durable, Quiet, uncounted}
 use Rattle.refinement.proofs.Silent.{holds-none}
 use Rattle.refinement.proofs.Logging.{settled, Logging}
-use Rattle.refinement.proofs.Cases.{narrow, logging, Kept, answered-still}
+use Rattle.refinement.proofs.Cases.{narrow, logging, Kept, Invariant}
+use Rattle.refinement.proofs.Next.{answered-still}
 
 module _ {past : List ℕ} (st : State) (img : List ℕ) (b : Reference) (w : ℕ) (row : refusal (beginWideRows st w) ≡ 0) (q : Quiet past st img b) where
   abbrev c : Reference
@@ -71,6 +72,6 @@ unfolding exec beginWideOf
 begin-wide-sound w v b h =
     let st = v .st in
     let r =
-    answered-still (beginWide w) v b (refusal (beginWideRows st w)) 0 (beginningWide st w) (narrow h)
+    answered-still (Invariant _) (beginWide w) v b (refusal (beginWideRows st w)) 0 (beginningWide st w) (narrow h)
     (λ e. record { sizes = refl; related = logging (begun-wide st (v .image) b w e (between-quiet v b h (ap not (begin-wide-taken st w e .quiet)))) }) in
     record { right = tt; sizes = r .sizes; related = r .related }

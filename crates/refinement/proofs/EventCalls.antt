@@ -1,6 +1,6 @@
 -- The calls, where an event is asked for or pending: an event that is taken is pending; a step or a run makes its stores; a mount finds the pages without it;
 -- and row 9 turns any other call back but recall, which changes nothing.
-use Prim.Native.Nat.{ℕ, zero, suc, _-_, _<_, _≤_, min}
+use Prim.Native.Nat.{ℕ, zero, suc, _-_, _<_, min}
 use mathlib.Core.Bool.{cond}
 use mathlib.Core.List.{List}
 use mathlib.Core.Logic.{_⊎_, inl, inr, ⊎-elim}
@@ -20,7 +20,7 @@ use Rattle.refinement.specs.Outcome.{answered}
 use Rattle.refinement.specs.Calls.{worldOf, eventOf, eventLine, eventSecond, eventCallRows, stepRow, stepOf, stepBytes, runOf, runBytes}
 use Rattle.refinement.specs.Run.{Call, mount, checkpoint, free, step, begin, beginWide, abort, commit, prepare, confirm, withdraw, consolidate, run, write, read, recall, event, load, exec}
 use Rattle.refinement.specs.Recall.{recallRow}
-use Rattle.refinement.specs.Reference.{Reference, Task, Work, idle, under, moving, withWork, starts, continues, advances, taken, turn}
+use Rattle.refinement.specs.Reference.{Reference, Task, Work, under, moving, withWork, starts, continues, advances, taken, turn}
 use Rattle.refinement.proofs.AskEvent.{event-moving}
 use Rattle.refinement.proofs.Between.{Between, Sounds, sounds, moving-pending}
 use Rattle.refinement.proofs.Copies.{durable-fits}
@@ -35,23 +35,12 @@ use Rattle.refinement.proofs.Viewed.{Viewed, durable-viewed}
 use Rattle.refinement.proofs.Sound.{is-quiet}
 use Rattle.refinement.proofs.StepCall.{many, idle-apart, stepped-sizes, steppedBy-sizes}
 use Rattle.refinement.proofs.StepEvent.{Goes, step-event}
+use Rattle.refinement.proofs.Next.{answered-next}
 
 -- what follows a step or a run of it
 between-goes : {past : List ℕ} (v : World) (b : Reference) → Goes past v b → Between past v b
 between-goes v b (inl q) = inl (inl q)
 between-goes v b (inr m) = inr m
-
--- ---- what is answered, by its row: with row 0 the taken call's, with any other none
-
-pub record Then (past : List ℕ) (v u : World) (b : Reference) : Type 0 where
-  pub sizes : u .st .sizes ≡ v .st .sizes
-  pub between : Between past u b
-
-answered-then : {past : List ℕ} (c : Call) (v : World) (b : Reference) (row n : ℕ) (after : State) (img : List ℕ)
-    → Between past v b → (row ≡ 0 → Then past v (worldOf after img) (taken c n b))
-    → Then past v (worldOf (answered row (v .st) n after .state) (cond (eqb row 0) img (v .image))) (turn c row (answered row (v .st) n after .stores) b)
-answered-then c v b zero n after img h f = f refl
-answered-then c v b (suc k) n after img h f = rw (eqb·suc-zero k) (record { sizes = refl; between = h })
 
 -- ---- an event asked for
 
@@ -71,15 +60,15 @@ event-sound {past = past} ms k m a v b h =
     let row : ℕ = refusal (eventCallRows st img ms k m a) in
     let asked = withLines st (Event k m a) (eventLine st img ms k m a) (eventSecond st img ms k m a) (pageFrame st img 0) in
     let r =
-    answered-then (event ms k m a) v b row (eventNeeds k) asked img (inl h)
+    answered-next (Between past) (event ms k m a) v b row (eventNeeds k) asked img (inl h)
     (λ e.
     let q : Quiet past st img b = is-quiet st img b h (none-apply (eventCallRows st img ms k m a) (omega arith) e .1 .1 .0) in
-    record { sizes = refl; between = subst (Between past (worldOf asked img)) (sym (starts-some (moving ms k m a) (eventNeeds k) b (event-some k))) (inr (event-moving st img b ms k m a q e)) }) in
+    record { sizes = refl; related = subst (Between past (worldOf asked img)) (sym (starts-some (moving ms k m a) (eventNeeds k) b (event-some k))) (inr (event-moving st img b ms k m a q e)) }) in
     record {
       right = tt;
       sizes = r .sizes;
       between =
-          subst (λ (i : List ℕ). Between past (worldOf (answered row st (eventNeeds k) asked .state) i) (turn (event ms k m a) row (answered row st (eventNeeds k) asked .stores) b)) (same-image row img) (r .between);
+          subst (λ (i : List ℕ). Between past (worldOf (answered row st (eventNeeds k) asked .state) i) (turn (event ms k m a) row (answered row st (eventNeeds k) asked .stores) b)) (same-image row img) (r .related);
     }
 
 -- ---- an event pending
@@ -127,15 +116,15 @@ module _ {past : List ℕ} (v : World) (b : Reference) (M : Moving past (v .st) 
   step-goes : Sounds past step v b
   unfolding exec stepOf stepBytes
   step-goes =
-      let r = answered-then step v b (stepRow st img) 1 (stepped v .st) (stepped v .image) (inr M) (λ e. record { sizes = stepped-sizes v; between = one-step }) in
-      record { right = tt; sizes = r .sizes; between = r .between }
+      let r = answered-next (Between past) step v b (stepRow st img) 1 (stepped v .st) (stepped v .image) (inr M) (λ e. record { sizes = stepped-sizes v; related = one-step }) in
+      record { right = tt; sizes = r .sizes; between = r .related }
 
   run-goes : (k : ℕ) → Sounds past (run k) v b
   unfolding exec runOf runBytes
   run-goes k =
       let n : ℕ = min k (left st) in
-      let r = answered-then (run k) v b (stepRow st img) n (steppedBy n v .st) (steppedBy n v .image) (inr M) (λ e. record { sizes = steppedBy-sizes n v; between = run-stores k }) in
-      record { right = tt; sizes = r .sizes; between = r .between }
+      let r = answered-next (Between past) (run k) v b (stepRow st img) n (steppedBy n v .st) (steppedBy n v .image) (inr M) (λ e. record { sizes = steppedBy-sizes n v; related = run-stores k }) in
+      record { right = tt; sizes = r .sizes; between = r .related }
 
   -- ---- recall
 

@@ -39,6 +39,7 @@ pub mod PagesApart
 pub mod Names
 pub mod Copies
 pub mod CopyPlaces
+pub mod Next
 pub mod Sound
 pub mod Keeps
 pub mod Begin

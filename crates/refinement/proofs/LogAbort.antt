@@ -20,7 +20,8 @@ use Rattle.refinement.proofs.Invariant.{Quiet}
 use Rattle.refinement.proofs.StepCall.{work-same}
 use Rattle.refinement.proofs.Logging.{Logging, only-open, at-rest}
 use Rattle.refinement.proofs.LoggingStanding.{logging-standing}
-use Rattle.refinement.proofs.Cases.{narrow, logging, Kept, Then, answered-still}
+use Rattle.refinement.proofs.Cases.{narrow, logging, Kept, Then, Invariant}
+use Rattle.refinement.proofs.Next.{answered-still}
 
 -- the state after it
 aborted : (st : State) → st .pending ≡ noPending → aborting st (st .wide .writer) ≡ completed st Copy
@@ -36,7 +37,7 @@ log-abort {past = past} w v b G =
     let img = v .image in
     let S = logging-standing v b G in
     let r =
-    answered-still (abort w) v b (refusal (abortRows st w)) 0 (aborting st w) (logging G)
+    answered-still (Invariant _) (abort w) v b (refusal (abortRows st w)) 0 (aborting st w) (logging G)
     (λ e.
     let T = abort-taken st w e in
     let x : ℕ = st .wide .writer in

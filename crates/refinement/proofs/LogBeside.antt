@@ -1,17 +1,15 @@
 -- A consolidation, a slot to be freed and a checkpoint, asked for while a wide transaction is open: what they ask of the state is so of the state without it.
-use Prim.Native.Nat.{ℕ, zero, suc, _<_}
-use mathlib.Core.Bool.{true, false, not, cond}
+use Prim.Native.Nat.{ℕ, _<_}
+use mathlib.Core.Bool.{true, false, not}
 use mathlib.Core.List.{List}
 use mathlib.Core.Logic.{inr}
-use mathlib.Core.Path.{_≡_, refl, sym, ap, subst}
+use mathlib.Core.Path.{_≡_, refl, sym, subst}
 use native.Mathlib.Omega.{arith}
-use lib.Dec.{eqb, eqb·suc-zero}
 use lib.ListN.{replicate}
 use borrow.Author.Tests.{ltb-true}
 use Rattle.bounded.specs.Rows.{refusal}
 use Rattle.bounded.proofs.Rows.{none-apply, row-none}
 use Rattle.state.specs.declared.State.{State}
-use Rattle.state.specs.declared.Pending.{Pending}
 use Rattle.state.specs.declared.Op.{Op}
 use Rattle.state.specs.declared.Op.the-variants.{Consolidate, Checkpoint, Copy}
 use Rattle.operations.specs.Operations.{isIdle, needs, opRows, slotFor, consolidateRows}
@@ -31,9 +29,10 @@ use Rattle.refinement.proofs.AskCheckpoint.{none-needed, same-lasts}
 use Rattle.refinement.proofs.Choice.{free-rows}
 use Rattle.refinement.proofs.Silent.{none-hold, closed-unheld}
 use Rattle.refinement.proofs.StepBeside.{regain}
-use Rattle.refinement.proofs.Logging.{Logged, Beside, Logging, unheld, at-rest}
-use Rattle.refinement.proofs.LoggingStanding.{logging-standing}
-use Rattle.refinement.proofs.Cases.{logging, Kept, Then, answered-still}
+use Rattle.refinement.proofs.Logging.{Beside, Logging, unheld, at-rest}
+use Rattle.refinement.proofs.LoggingStanding.{unlogged, logging-standing}
+use Rattle.refinement.proofs.Cases.{logging, Kept, Then, Invariant}
+use Rattle.refinement.proofs.Next.{asked-next}
 
 module _ {past : List ℕ} (st : State) (img : List ℕ) (b : Reference) (G : Logging past st img b) (idles : not (isIdle (st .pending .op)) ≡ false) where
   abbrev w : ℕ
@@ -41,9 +40,6 @@ module _ {past : List ℕ} (st : State) (img : List ℕ) (b : Reference) (G : Lo
 
   abbrev rest : State
   rest = completed st Copy
-
-  unlogged : (e : ℕ) → Logged (st .wide) (st .pending .op) e → ⊥
-  unlogged e = subst (λ (q : Op). Logged (st .wide) q e → ⊥) (sym (ap (λ (x : Pending). x .op) (logging-standing (worldOf st img) b G .none-pending idles))) (λ x. x)
 
   -- no line of the page's slot is held without it either
   rest-row : (p : ℕ) → refusal (consolidateRows st p) ≡ 0 → refusal (consolidateRows rest p) ≡ 0
@@ -79,7 +75,7 @@ module _ {past : List ℕ} (st : State) (img : List ℕ) (b : Reference) (G : Lo
       let B = subst (λ (n : ℕ). Busy past (withPending rest op (replicate 8 0) 0) img (withWork (under nothing n) (emptied w b))) e (rest-busy op s (subst (λ (n : ℕ). 0 < n) (sym e) l) r′) in
       regain (withPending st op (replicate 8 0) 0) img (withWork (under nothing (needs st op)) b) (pending-valid st (replicate 8 0) 0 op (G .valid) (beside-fits op s) r l)
       (G .low) (G .book) (G .four) (G .sixty-four) (G .alone)
-      (record { keys = G .entries .keys; line = λ e le out. G .entries .line e le (unlogged e); no-writes = G .entries .no-writes }) (λ _. s) (inr B)
+      (record { keys = G .entries .keys; line = λ e le out. G .entries .line e le (unlogged st img b G idles e); no-writes = G .entries .no-writes }) (λ _. s) (inr B)
 
   -- a checkpoint that needs no store changes nothing
   empty-checkpoint : st .head ≡ st .tail → completed st Checkpoint ≡ st
@@ -103,26 +99,6 @@ module _ {past : List ℕ} (st : State) (img : List ℕ) (b : Reference) (G : Lo
 
 -- ---- the calls
 
--- of a call that asks for such an operation, by whatever rows
-module _ {past : List ℕ} (c : Call) (v : World) (b : Reference) (G : Logging past (v .st) (v .image) b) (op : Op) (row : ℕ) (books : (n : ℕ) → taken c n b ≡ starts nothing n b) where
-  abbrev after : State
-  after = cond (eqb (needs (v .st) op) 0) (completed (v .st) op) (withPending (v .st) op (replicate 8 0) 0)
-
-  by-needs : (n : ℕ) → needs (v .st) op ≡ n → (needs (v .st) op ≡ 0 → Then past v (worldOf (completed (v .st) op) (v .image)) b)
-      → (0 < needs (v .st) op → Logging past (withPending (v .st) op (replicate 8 0) 0) (v .image) (withWork (under nothing (needs (v .st) op)) b))
-      → Then past v (worldOf after (v .image)) (starts nothing (needs (v .st) op) b)
-  by-needs zero q now later = let d = now q in rw q d
-  by-needs (suc k) q now later =
-      let d : Then past v (worldOf (withPending (v .st) op (replicate 8 0) 0) (v .image)) (withWork (under nothing (needs (v .st) op)) b) = record { sizes = refl; related = logging (later (omega (arith, q))) } in
-      rw (q, eqb·suc-zero k) (rw q at d)
-
-  pub asked-then : (row ≡ 0 → needs (v .st) op ≡ 0 → Then past v (worldOf (completed (v .st) op) (v .image)) b)
-      → (row ≡ 0 → 0 < needs (v .st) op → Logging past (withPending (v .st) op (replicate 8 0) 0) (v .image) (withWork (under nothing (needs (v .st) op)) b))
-      → Then past v (worldOf (asked row (v .st) op (replicate 8 0) 0 .state) (v .image)) (turn c row (asked row (v .st) op (replicate 8 0) 0 .stores) b)
-  asked-then now later =
-      answered-still c v b row (needs (v .st) op) after (logging G)
-      (λ e. subst (Then past v (worldOf after (v .image))) (sym (books (needs (v .st) op))) (by-needs (needs (v .st) op) refl (now e) (later e)))
-
 some-needed : (st : State) (p : ℕ) → needs st (Consolidate p) ≡ 0 → ⊥
 unfolding needs
 some-needed st p e = omega arith
@@ -133,9 +109,9 @@ module _ {past : List ℕ} (v : World) (b : Reference) (G : Logging past (v .st)
       → (row ≡ 0 → (not (isIdle (v .st .pending .op)) ≡ false) × (refusal (consolidateRows (v .st) p) ≡ 0))
       → Then past v (worldOf (asked row (v .st) (Consolidate p) (replicate 8 0) 0 .state) (v .image)) (turn c row (asked row (v .st) (Consolidate p) (replicate 8 0) 0 .stores) b)
   consolidation c row p books rows =
-      asked-then c v b G (Consolidate p) row books
+      asked-next (Invariant _) c v b (Consolidate p) (replicate 8 0) 0 nothing row (λ e. books) (logging G)
       (λ e z. absurd (some-needed (v .st) p z))
-      (λ e l. beside-asked (v .st) (v .image) b G (rows e .0) (Consolidate p) tt l (rows e .1) (rest-row (v .st) (v .image) b G (rows e .0) p (rows e .1)))
+      (λ e l. record { sizes = refl; related = logging (beside-asked (v .st) (v .image) b G (rows e .0) (Consolidate p) tt l (rows e .1) (rest-row (v .st) (v .image) b G (rows e .0) p (rows e .1))) })
 
   pub log-consolidate : (p : ℕ) → Kept past (consolidate p) v b
   unfolding exec consolidateOf
@@ -159,7 +135,7 @@ module _ {past : List ℕ} (v : World) (b : Reference) (G : Logging past (v .st)
   log-checkpoint =
       let rows = none-apply (checkpointCallRows (v .st) (v .image)) (omega arith) in
       let r =
-      asked-then checkpoint v b G Checkpoint (refusal (checkpointCallRows (v .st) (v .image))) (λ n. refl)
+      asked-next (Invariant _) checkpoint v b Checkpoint (replicate 8 0) 0 nothing (refusal (checkpointCallRows (v .st) (v .image))) (λ e n. refl) (logging G)
       (λ e z. record { sizes = refl; related = logging (none-asked (v .st) (v .image) b G (rows e .1 .1 .0) z) })
-      (λ e l. beside-asked (v .st) (v .image) b G (rows e .1 .1 .0) Checkpoint tt l refl refl) in
+      (λ e l. record { sizes = refl; related = logging (beside-asked (v .st) (v .image) b G (rows e .1 .1 .0) Checkpoint tt l refl refl) }) in
       record { right = tt; sizes = r .sizes; related = r .related }

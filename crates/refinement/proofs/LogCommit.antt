@@ -14,7 +14,6 @@ use Rattle.bounded.proofs.Tests.{caseOn}
 use Rattle.entries.specs.Entries.{keyOf}
 use Rattle.entries.proofs.EntryLaws.{entry-none}
 use Rattle.state.specs.declared.State.{State}
-use Rattle.state.specs.declared.Pending.{Pending}
 use Rattle.state.specs.declared.Op.{Op}
 use Rattle.state.specs.declared.Op.the-variants.{Commit, Copy}
 use Rattle.operations.specs.Operations.{isIdle, needs, commitRows}
@@ -26,9 +25,10 @@ use Rattle.refinement.specs.Reference.{Reference, Cell, none, laidOver, 
 use Rattle.refinement.proofs.CallAsked.{pending-valid, needs-asked}
 use Rattle.refinement.proofs.Invariant.{Quiet}
 use Rattle.refinement.proofs.Keeps.{quiet-pages}
-use Rattle.refinement.proofs.Logging.{Logged, asked, same-pages, Logging, only-open, copy-row, at-rest}
-use Rattle.refinement.proofs.LoggingStanding.{logging-standing}
-use Rattle.refinement.proofs.Cases.{narrow, logging, Kept, Then, answered-still}
+use Rattle.refinement.proofs.Logging.{asked, same-pages, Logging, only-open, copy-row, at-rest}
+use Rattle.refinement.proofs.LoggingStanding.{unlogged, logging-standing}
+use Rattle.refinement.proofs.Cases.{narrow, logging, Kept, Then, Invariant}
+use Rattle.refinement.proofs.Next.{answered-still}
 
 module _ {past : List ℕ} (st : State) (img : List ℕ) (b : Reference) (G : Logging past st img b) (idles : not (isIdle (st .pending .op)) ≡ false) where
   abbrev w : ℕ
@@ -65,7 +65,7 @@ module _ {past : List ℕ} (st : State) (img : List ℕ) (b : Reference) (G : Lo
         entries =
             record {
               keys = G .entries .keys;
-              line = λ e le out. G .entries .line e le (subst (λ (q : Op). Logged (st .wide) q e → ⊥) (sym (ap (λ (x : Pending). x .op) (logging-standing (worldOf st img) b G .none-pending idles))) (λ x. x));
+              line = λ e le out. G .entries .line e le (unlogged st img b G idles e);
               no-writes = G .entries .no-writes;
             };
         stage = asked refl refl (ap (copying w) (sym (needs-asked st (replicate 8 0) 0 Copy Copy)));
@@ -86,7 +86,7 @@ log-commit {past = past} w v b G =
     let op : ℕ → Op = commitOp st in
     let after : ℕ → State = λ y. cond (eqb (needs st (op y)) 0) (completed st (op y)) (withPending st (op y) (replicate 8 0) 0) in
     let r =
-    answered-still (commit w) v b (refusal (commitCallRows st img w)) (needs st (op w)) (after w) (logging G)
+    answered-still (Invariant _) (commit w) v b (refusal (commitCallRows st img w)) (needs st (op w)) (after w) (logging G)
     (λ e.
     let rows = none-apply (commitCallRows st img w) (omega arith) e in
     let i = rows .1 .1 .0 in

@@ -17,7 +17,6 @@ use Rattle.image.specs.Lines.{merged, mergeChanges, lineWords}
 use Rattle.image.proofs.LineLaws.{bytes-merged, merge-same}
 use Rattle.entries.specs.Entries.{keyPage, keyLine}
 use Rattle.state.specs.declared.State.{State}
-use Rattle.state.specs.declared.Pending.{Pending}
 use Rattle.state.specs.declared.Op.{Op}
 use Rattle.state.specs.declared.Op.the-variants.{Write, Log, Copy}
 use Rattle.state.specs.Wide.{isWide, entryFor, hasEntry}
@@ -33,9 +32,10 @@ use Rattle.refinement.proofs.WriterCalls.{write-narrow, write-op-row, w
 use Rattle.refinement.proofs.WriteHeld.{writes-kept, line-same}
 use Rattle.refinement.proofs.AskWrite.{merged-read}
 use Rattle.refinement.proofs.Copying.{keyAt}
-use Rattle.refinement.proofs.Logging.{Logged, settled, writes, same-pages, Logging, only-open}
-use Rattle.refinement.proofs.LoggingStanding.{logging-seen, logging-standing}
-use Rattle.refinement.proofs.Cases.{logging, Kept, Then, answered-still}
+use Rattle.refinement.proofs.Logging.{settled, writes, same-pages, Logging, only-open}
+use Rattle.refinement.proofs.LoggingStanding.{unlogged, logging-seen, logging-standing}
+use Rattle.refinement.proofs.Cases.{logging, Kept, Then, Invariant}
+use Rattle.refinement.proofs.Next.{answered-still}
 
 module _ {past : List ℕ} (st : State) (img : List ℕ) (b : Reference) (G : Logging past st img b) (p l o n : ℕ) (bytes : List ℕ) (lent : Bytes bytes) (given : n ≤ length bytes)
     (idles : not (isIdle (st .pending .op)) ≡ false) (row : refusal (opRows st (Log p l o n) (pageFrame st img p)) ≡ 0) where
@@ -61,9 +61,6 @@ module _ {past : List ℕ} (st : State) (img : List ℕ) (b : Reference) (G : Lo
   old-bytes : Bytes old
   old-bytes = caseOn (isWide (st .wide) w && hasEntry (st .wide) p l) (λ t. rw t (bytes-part img _ 64 (G .durable .bytes))) (λ t. rw t (bytes-part img _ 64 (G .durable .bytes)))
 
-  unlogged : (e : ℕ) → Logged (st .wide) (st .pending .op) e → ⊥
-  unlogged e = subst (λ (q : Op). Logged (st .wide) q e → ⊥) (sym (ap (λ (x : Pending). x .op) (logging-standing (worldOf st img) b G .none-pending idles))) (λ x. x)
-
   abbrev asks : State
   asks = withPending st (Log p l o n) (finishedLine st img w p l o n bytes) (pageFrame st img p)
 
@@ -78,7 +75,7 @@ module _ {past : List ℕ} (st : State) (img : List ℕ) (b : Reference) (G : Lo
         sixty-four = G .sixty-four;
         durable = same-pages (completed st Copy) img b (withWork (under (writing w p l o n bytes) 9) b) (λ p l h k. refl) (G .durable);
         alone = G .alone;
-        entries = record { keys = G .entries .keys; line = λ e le out. G .entries .line e le (unlogged e); no-writes = G .entries .no-writes };
+        entries = record { keys = G .entries .keys; line = λ e le out. G .entries .line e le (unlogged st img b G idles e); no-writes = G .entries .no-writes };
         stage =
             writes p l o n refl
             (record { given = bytes; work = refl; finished = ap lineWords merged-is; is-bytes = subst Bytes merged-is (bytes-merged old o n bytes old-bytes lent); landed = λ j h. absurd (omega arith) });
@@ -125,7 +122,7 @@ module _ {past : List ℕ} (st : State) (img : List ℕ) (b : Reference) (G : Lo
           entries =
               record {
                 keys = G .entries .keys;
-                line = λ e le out. G .entries .line e le (unlogged e) ∙ line-is (keyPage (keyAt st e)) (keyLine (keyAt st e));
+                line = λ e le out. G .entries .line e le (unlogged st img b G idles e) ∙ line-is (keyPage (keyAt st e)) (keyLine (keyAt st e));
                 no-writes = λ q i j lq li lj bare.
                     writes-kept b w p l o n bytes w q i j
                     (λ s.
@@ -146,7 +143,7 @@ log-write {past = past} w p l o n bytes lent v b G =
     let stores : ℕ → ℕ = λ y. cond (changesNothing st img y p l o n bytes) 0 (cond (isWide (st .wide) y) 9 8) in
     let after : ℕ → State = λ y. cond (changesNothing st img y p l o n bytes) st (withPending st (writeOp st y p l o n) (finishedLine st img y p l o n bytes) (pageFrame st img p)) in
     let r =
-    answered-still (write w p l o n bytes) v b (refusal (writeCallRows st img w p l o n bytes)) (stores w) (after w) (logging G)
+    answered-still (Invariant _) (write w p l o n bytes) v b (refusal (writeCallRows st img w p l o n bytes)) (stores w) (after w) (logging G)
     (λ e.
     let first = write-first st img w p l o n bytes e in
     let i = first .1 .1 .0 in

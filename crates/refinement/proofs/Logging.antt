@@ -1,7 +1,7 @@
 -- A wide transaction is open: its lines are entries, which no mount counts yet. Without it there is a state in which nothing is pending and nothing is held,
 -- which is what an abort leaves.
 use Prim.Native.Nat.{ℕ, _-_, _<_, _≤_}
-use mathlib.Core.Bool.{true}
+use mathlib.Core.Bool.{true, false}
 use mathlib.Core.List.{List}
 use mathlib.Core.Path.{_≡_, refl, sym, ap, _∙_}
 use lib.Dec.{ltb, eqb}
@@ -20,12 +20,12 @@ use Rattle.state.specs.declared.Op.{Op}
 use Rattle.state.specs.declared.Op.the-variants.{Idle, Write, Commit, Consolidate, Checkpoint, Event, Prepare, Confirm, Log, Copy}
 use Rattle.state.specs.Held.{isOpen}
 use Rattle.state.specs.Wide.{noWide, entryFor}
-use Rattle.operations.specs.Operations.{opRows, needs}
+use Rattle.operations.specs.Operations.{isIdle, opRows, needs}
 use Rattle.validity.specs.Validity.{stateOk}
 use Rattle.refinement.specs.Commit.{closedWriter}
 use Rattle.refinement.specs.Settled.{noPending, withWriters, withWide}
 use Rattle.refinement.specs.Stores.{completed}
-use Rattle.refinement.specs.Wide.{entryBytes, logAt, logValue}
+use Rattle.refinement.specs.Wide.{isCopy, entryBytes, logAt, logValue}
 use Rattle.refinement.specs.Reference.{Reference, none, idle, under, copying, writing, withWork, emptied, written, readLine, recallLine}
 use Rattle.refinement.proofs.StateValid.{WideFine, valid}
 use Rattle.refinement.proofs.WideValid.{copied-valid}
@@ -85,6 +85,19 @@ Beside (Prepare w) = ⊥
 Beside (Confirm w) = ⊥
 Beside (Log p l o n) = ⊥
 Beside Copy = ⊥
+
+-- what goes on beside it is an operation, and no copying
+pub beside-some : (op : Op) → Beside op → (isIdle op ≡ false) × (isCopy op ≡ false)
+beside-some (Consolidate p) h = (refl, refl)
+beside-some Checkpoint h = (refl, refl)
+beside-some Idle h = absurd h
+beside-some (Write w p l o n) h = absurd h
+beside-some (Commit w) h = absurd h
+beside-some (Event k m a) h = absurd h
+beside-some (Prepare w) h = absurd h
+beside-some (Confirm w) h = absurd h
+beside-some (Log p l o n) h = absurd h
+beside-some Copy h = absurd h
 
 pub data Stage (past : List ℕ) (st : State) (img : List ℕ) (b : Reference) : Type 0 where
   settled : st .pending ≡ noPending → b .work ≡ idle → Stage past st img b

@@ -30,7 +30,8 @@ use Rattle.refinement.proofs.LogBeside.{log-consolidate, log-free, log-
 use Rattle.refinement.proofs.StandingCalls.{mount-kept, recall-kept}
 use Rattle.refinement.proofs.WideRuns.{logged}
 use Rattle.refinement.proofs.WideSteps.{wide-step, wide-run}
-use Rattle.refinement.proofs.Cases.{logging, Kept, Then, answered-still}
+use Rattle.refinement.proofs.Cases.{logging, Kept, Then, Invariant}
+use Rattle.refinement.proofs.Next.{answered-still}
 
 module _ {past : List ℕ} (v : World) (b : Reference) (G : Logging past (v .st) (v .image) b) where
   abbrev st : State
@@ -41,7 +42,7 @@ module _ {past : List ℕ} (v : World) (b : Reference) (G : Logging past (v .st)
 
   -- a call that a row turns back
   refused : (c : Call) (row n : ℕ) (after : State) → (row ≡ 0 → ⊥) → Then past v (worldOf (answered row st n after .state) (v .image)) (turn c row (answered row st n after .stores) b)
-  refused c row n after never = answered-still c v b row n after (logging G) (λ e. absurd (never e))
+  refused c row n after never = answered-still (Invariant _) c v b row n after (logging G) (λ e. absurd (never e))
 
   -- 29 where nothing earlier applies
   no-begin : (w : ℕ) → refusal (beginRows st w) ≡ 0 → ⊥

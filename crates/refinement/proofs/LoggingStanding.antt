@@ -3,26 +3,22 @@
 use Prim.Native.Nat.{ℕ, _<_}
 use mathlib.Core.Bool.{Bool, true, false, not, _&&_, cond}
 use mathlib.Core.List.{List}
-use mathlib.Core.Path.{_≡_, refl, sym, ap, ap₂, _∙_, subst}
+use mathlib.Core.Path.{_≡_, sym, ap, ap₂, _∙_, subst}
 use native.Mathlib.Nat.{le-antisymm}
-use native.Mathlib.Omega.{arith}
 use lib.Dec.{ltb, eqb}
-use lib.ListN.{length, getD}
+use lib.ListN.{getD}
 use borrow.Author.Tests.{eqb-true, eqb-false, ltb-true, ltb-false}
 use Rattle.bounded.proofs.Tab.{tab-ext}
 use Rattle.bounded.proofs.Tests.{caseOn, contradicts}
-use Rattle.layout.specs.Layout.{entryWord}
 use Rattle.words.specs.Words.{word}
 use Rattle.image.specs.Lines.{lineBytes}
-use Rattle.entries.specs.Entries.{keyOf, keyPage, keyLine, entryOf}
+use Rattle.entries.specs.Entries.{keyOf, keyPage, keyLine}
 use Rattle.entries.proofs.EntryLaws.{page-of-key, line-of-key, entry-le, entry-found, key-read}
-use Rattle.masks.specs.Lines.{inMask}
 use Rattle.masks.proofs.Members.{in-none}
 use Rattle.state.specs.declared.State.{State}
 use Rattle.state.specs.declared.Op.{Op}
-use Rattle.state.specs.declared.Op.the-variants.{Idle, Write, Commit, Consolidate, Checkpoint, Event, Prepare, Confirm, Log, Copy}
+use Rattle.state.specs.declared.Op.the-variants.{Copy}
 use Rattle.state.specs.declared.Pending.{Pending}
-use Rattle.state.specs.Held.{heldAt}
 use Rattle.state.specs.Wide.{isWide, hasEntry, entryFor}
 use Rattle.operations.specs.Operations.{isIdle, slotFor, slotted}
 use Rattle.validity.specs.Validity.{stateOk}
@@ -32,29 +28,16 @@ use Rattle.refinement.specs.Stores.{World, completed}
 use Rattle.refinement.specs.Wide.{entryBytes, isCopy}
 use Rattle.refinement.specs.Beside.{counted}
 use Rattle.refinement.specs.Calls.{seenLine}
-use Rattle.refinement.specs.Reference.{Reference, Cell, none, idle, laidOver, readLine, recallLine}
+use Rattle.refinement.specs.Reference.{Reference, Cell, none, idle, laidOver, readLine}
 use Rattle.refinement.proofs.Copies.{names-once}
 use Rattle.refinement.proofs.Copying.{keyAt}
 use Rattle.refinement.proofs.Invariant.{Durable}
-use Rattle.refinement.proofs.Logging.{Beside, Logged, Stage, settled, writes, asked, beside, Logging, unheld, copy-row, keys-long}
+use Rattle.refinement.proofs.Logging.{Logged, Stage, settled, writes, asked, beside, Logging, unheld, copy-row, keys-long, beside-some}
 use Rattle.refinement.proofs.MountCall.{mounted-committed}
 use Rattle.refinement.proofs.Standing.{Standing}
 use Rattle.refinement.proofs.StateValid.{valid}
 use Rattle.refinement.proofs.Viewed.{Viewed, shown-copy}
 use Rattle.refinement.proofs.WideValid.{copied-valid}
-
--- what goes on beside it is an operation, and no copying
-beside-some : (op : Op) → Beside op → (isIdle op ≡ false) × (isCopy op ≡ false)
-beside-some (Consolidate p) h = (refl, refl)
-beside-some Checkpoint h = (refl, refl)
-beside-some Idle h = absurd h
-beside-some (Write w p l o n) h = absurd h
-beside-some (Commit w) h = absurd h
-beside-some (Event k m a) h = absurd h
-beside-some (Prepare w) h = absurd h
-beside-some (Confirm w) h = absurd h
-beside-some (Log p l o n) h = absurd h
-beside-some Copy h = absurd h
 
 module _ {past : List ℕ} (st : State) (img : List ℕ) (b : Reference) (G : Logging past st img b) where
   ok : stateOk (completed st Copy) ≡ true
@@ -105,6 +88,10 @@ module _ {past : List ℕ} (st : State) (img : List ℕ) (b : Reference) (G : Lo
       by-stage (asked q made work) = contradicts (ap (λ (x : Op). not (isIdle x)) q) e
       by-stage (beside h busy) = contradicts (ap not (beside-some (st .pending .op) h .0)) e
 
+  -- so no entry is being written
+  pub unlogged : not (isIdle (st .pending .op)) ≡ false → (e : ℕ) → Logged (st .wide) (st .pending .op) e → ⊥
+  unlogged i e h = subst (λ (o : Op). Logged (st .wide) o e) (ap (λ (x : Pending). x .op) (at-rest i .0)) h
+
   busy : (b .work ≡ idle → ⊥) → isIdle (st .pending .op) ≡ false
   busy n = by-stage (G .stage)
     where
@@ -135,7 +122,7 @@ module _ {past : List ℕ} (st : State) (img : List ℕ) (b : Reference) (G : Lo
   seen-entry e p l ll low =
       let i : ℕ = entryFor (st .wide) p l in
       let k : keyAt st i ≡ keyOf p l = entry-found (st .wide .keys) (st .wide .count) (keyOf p l) low in
-      G .entries .line i low (λ h. subst (λ (o : Op). Logged (st .wide) o i) (ap (λ (x : Pending). x .op) (at-rest e .0)) h)
+      G .entries .line i low (unlogged e i)
       ∙ ap₂ (readLine b (st .wide .writer)) (ap keyPage k ∙ page-of-key p l ll) (ap keyLine k ∙ line-of-key p l ll)
 
   pub logging-seen : not (isIdle (st .pending .op)) ≡ false → (w p l : ℕ) → w < 4 → p < st .sizes .pages → l < 64 → seenLine st img w p l ≡ readLine b w p l

@@ -1,10 +1,9 @@
 -- What every call's proof has to show, and that a refused call keeps what holds.
-use Prim.Native.Nat.{ℕ, zero, suc}
-use mathlib.Core.Bool.{true, false, cond, not}
+use Prim.Native.Nat.{ℕ}
+use mathlib.Core.Bool.{true, false, not}
 use mathlib.Core.List.{List}
 use mathlib.Core.Logic.{inl, inr}
 use mathlib.Core.Path.{_≡_, refl, ap}
-use lib.Dec.{eqb, eqb·suc-zero}
 use Rattle.bounded.proofs.Tests.{contradicts}
 use Rattle.state.specs.declared.State.{State}
 use Rattle.state.specs.declared.Op.{Op}
@@ -13,11 +12,11 @@ use Rattle.state.specs.declared.Pending.{Pending}
 use Rattle.operations.specs.Operations.{isIdle}
 use Rattle.validity.specs.Validity.{stateOk}
 use Rattle.refinement.specs.Stores.{World}
-use Rattle.refinement.specs.Outcome.{answered}
 use Rattle.refinement.specs.Calls.{worldOf}
 use Rattle.refinement.specs.Run.{Call, exec}
-use Rattle.refinement.specs.Reference.{Reference, taken, turn}
+use Rattle.refinement.specs.Reference.{Reference, turn}
 use Rattle.refinement.specs.Statement.{Right}
+use Rattle.refinement.proofs.Next.{Next}
 use Rattle.refinement.proofs.Invariant.{Durable, Narrow, Quiet, Busy, Doing, Related}
 
 -- the answer is right, the sizes stay, and what holds between two calls holds again
@@ -26,29 +25,9 @@ pub record Sound (past : List ℕ) (c : Call) (v : World) (b : Reference) : Type
   pub sizes : exec c v .world .st .sizes ≡ v .st .sizes
   pub related : Related past (exec c v .world) (turn c (exec c v .number) (exec c v .stores) b)
 
--- ---- what is answered, by its row
-
--- a world after a call, with its sizes
-pub record After (past : List ℕ) (v u : World) (b : Reference) : Type 0 where
-  pub sizes : u .st .sizes ≡ v .st .sizes
-  pub related : Related past u b
-
-pub unchanged : {past : List ℕ} (v : World) (b : Reference) → Related past v b → After past v v b
-unchanged v b h = record { sizes = refl; related = h }
-
--- with row 0 the taken call's, with any other none
-pub answered-after : {past : List ℕ} (c : Call) (v : World) (b : Reference) (row n : ℕ) (after : State) (img : List ℕ)
-    → Related past v b → (row ≡ 0 → After past v (worldOf after img) (taken c n b))
-    → After past v (worldOf (answered row (v .st) n after .state) (cond (eqb row 0) img (v .image))) (turn c row (answered row (v .st) n after .stores) b)
-answered-after c v b zero n after img h f = f refl
-answered-after c v b (suc k) n after img h f = rw (eqb·suc-zero k) (unchanged v b h)
-
--- of a call that leaves the image alone
-pub answered-kept : {past : List ℕ} (c : Call) (v : World) (b : Reference) (row n : ℕ) (after : State)
-    → Related past v b → (row ≡ 0 → After past v (worldOf after (v .image)) (taken c n b))
-    → After past v (worldOf (answered row (v .st) n after .state) (v .image)) (turn c row (answered row (v .st) n after .stores) b)
-answered-kept c v b zero n after h f = f refl
-answered-kept c v b (suc k) n after h f = rw (eqb·suc-zero k) (unchanged v b h)
+-- a world after a call
+abbrev pub After : List ℕ → World → World → Reference → Type 0
+After past v u b = Next (Related past) v u b
 
 -- ---- quiet or busy, by whether an operation is pending
 

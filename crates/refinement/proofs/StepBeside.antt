@@ -1,6 +1,6 @@
 -- A consolidation or a checkpoint goes on beside a wide transaction: its stores go before the entries, and are those of the state without it.
 use Prim.Native.Nat.{ℕ, zero, suc, _+_, _-_, _*_, _<_, _≤_, min}
-use mathlib.Core.Bool.{true, false}
+use mathlib.Core.Bool.{true}
 use mathlib.Core.List.{List}
 use mathlib.Core.Logic.{_⊎_, ⊎-elim}
 use mathlib.Core.Path.{_≡_, refl, sym, ap, _∙_, subst}
@@ -36,7 +36,7 @@ use Rattle.refinement.proofs.Copies.{durable-fits}
 use Rattle.refinement.proofs.Stepping.{eight-kept, step-on, step-ends}
 use Rattle.refinement.proofs.StepCall.{one-store}
 use Rattle.refinement.proofs.Keys.{keys-ext}
-use Rattle.refinement.proofs.Logging.{Entries, Logged, Beside, settled, beside, shut, Logging}
+use Rattle.refinement.proofs.Logging.{Entries, Logged, Beside, settled, beside, shut, Logging, beside-some}
 
 -- a store before the entries keeps them
 pub entries-kept : (st : State) (img : List ℕ) (b : Reference) (being : ℕ → Type 0) (a x : ℕ) → 8 * a + 8 ≤ length img → a < entryWord (st .sizes) 0 → Entries st img b being
@@ -66,11 +66,6 @@ module _ (st : State) where
   unfolding freeingRecord
   same-done (Consolidate p) s = refl
   same-done Checkpoint s = refl
-
-  -- it is an operation
-  pub beside-pends : (op : Op) → Beside op → isIdle op ≡ false
-  beside-pends (Consolidate p) s = refl
-  beside-pends Checkpoint s = refl
 
   -- of no entry
   unlogged : (op : Op) → Beside op → (e : ℕ) → Logged (st .wide) op e → ⊥
@@ -166,7 +161,7 @@ module _ {past : List ℕ} (st : State) (img : List ℕ) (b : Reference) (G : Lo
       let there : m + 1 < needs (shut st) (st .pending .op) = subst (λ (q : Op). m + 1 < needs (shut st) q) (sym is) (subst (λ (n : ℕ). m + 1 < n) (sym (same-needs st op s)) more) in
       let world = step-on (shut st) img there ∙ ap (λ (q : Op). worldOf (shut (withMade st (m + 1))) (storeMade (shut st) img q m)) is ∙ ap (worldOf (shut (withMade st (m + 1)))) (same-store st op s img m) in
       regain (withMade st (m + 1)) image c
-      (made-valid st (m + 1) (G .valid) (ap isIdle is ∙ beside-pends st op s) (subst (λ (q : Op). m + 1 < needs st q) (sym is) more))
+      (made-valid st (m + 1) (G .valid) (ap isIdle is ∙ beside-some op s .0) (subst (λ (q : Op). m + 1 < needs st q) (sym is) more))
       (G .low) (G .book) (G .four) (G .sixty-four) (G .alone)
       (record { keys = entries .keys; line = entries .line; no-writes = entries .no-writes })
       (λ _. subst Beside (sym is) s)
@@ -207,7 +202,7 @@ pub step-beside : {past : List ℕ} (st : State) (img : List ℕ) (b : Reference
     → Logging past (stepped (worldOf st img) .st) (stepped (worldOf st img) .image) (advances 1 (b .work) b)
 step-beside {past = past} st img b G op is s B =
     let m : ℕ = st .pending .made in
-    let low = pends st op (G .valid) is (beside-pends st op s) .made-low in
+    let low = pends st op (G .valid) is (beside-some op s .0) .made-low in
     let there : World → Type 0 = λ v. Logging past (v .st) (v .image) (advances 1 (b .work) b) in
     caseOn (ltb (m + 1) (needs st op))
     (λ t.

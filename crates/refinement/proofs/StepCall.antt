@@ -20,12 +20,13 @@ use Rattle.refinement.specs.Run.{step, run, exec}
 use Rattle.refinement.specs.Reference.{Reference, Task, Work, idle, under, copying, writing, committing, nothing, withWork, continues, advances}
 use Rattle.refinement.proofs.EventRows.{done-sizes}
 use Rattle.refinement.proofs.Invariant.{Doing, Busy, Related}
-use Rattle.refinement.proofs.Sound.{Sound, answered-after, is-busy, busy-pending}
+use Rattle.refinement.proofs.Sound.{Sound, is-busy, busy-pending}
 use Rattle.refinement.proofs.StepCheckpoint.{step-checkpoint}
 use Rattle.refinement.proofs.StepCommit.{step-commit}
 use Rattle.refinement.proofs.StepConsolidate.{step-consolidate}
 use Rattle.refinement.proofs.StepPrepare.{step-prepare, step-confirm}
 use Rattle.refinement.proofs.StepWrite.{step-write}
+use Rattle.refinement.proofs.Next.{answered-next}
 
 -- ---- one store of the pending operation
 
@@ -142,7 +143,7 @@ step-sound {past = past} v b h =
     let st = v .st in
     let img = v .image in
     let a =
-    answered-after step v b (stepRow st img) 1 (stepped (worldOf st img) .st) (stepped (worldOf st img) .image) h
+    answered-next (Related _) step v b (stepRow st img) 1 (stepped (worldOf st img) .st) (stepped (worldOf st img) .image) h
     (λ e.
     let rows = none-apply (stepRows st img) (omega arith) e in
     record { sizes = stepped-sizes (worldOf st img); related = one-store past st img b (is-busy st img b h (rows .1 .1 .0)) }) in
@@ -166,7 +167,7 @@ run-sound {past = past} k v b h =
     let img = v .image in
     let n : ℕ = min k (left st) in
     let a =
-    answered-after (run k) v b (stepRow st img) n (steppedBy n (worldOf st img) .st) (steppedBy n (worldOf st img) .image) h
+    answered-next (Related _) (run k) v b (stepRow st img) n (steppedBy n (worldOf st img) .st) (steppedBy n (worldOf st img) .image) h
     (λ e.
     let rows = none-apply (stepRows st img) (omega arith) e in
     record { sizes = steppedBy-sizes n (worldOf st img); related = run-related k v b (is-busy st img b h (rows .1 .1 .0)) }) in
