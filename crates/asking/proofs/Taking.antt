@@ -48,7 +48,7 @@ pendingFrom op line frame = record { op = op; made = 0; line = line; second = re
 
 abbrev pub pendingWith : State → Pending → State
 pendingWith st p =
-    record { sizes = st .sizes; head = st .head; tail = st .tail; next = st .next; table = st .table; writers = st .writers; pending = p }
+    record { sizes = st .sizes; head = st .head; tail = st .tail; next = st .next; table = st .table; writers = st .writers; wide = st .wide; pending = p }
 
 -- each number of the rows of an operation is an answer's
 pub ask-known : (st : State) (n : ℕ) (op : Op) → refusal (quietRows st n ++ opRows st op 0) ≤ 27
@@ -111,16 +111,16 @@ unfolding needs
 confirm-none st w e = none-held (length (commitSlots st w)) 1 (omega arith) e
 
 pub empty-commit : (st : State) (w : ℕ) (h : List ℕ) (o : List Bool) (i : Pending) → Ranged st → 0 ≡ length (commitSlots st w) → h ≡ letGo (st .sizes) (st .writers .held) w → o ≡ set (st .writers .opened) w false → i ≡ noPending
-    → _≡_ {A = State} (record { sizes = st .sizes; head = st .head; tail = st .tail; next = st .next; table = st .table; writers = record { opened = o; held = h; prepared = noWriter }; pending = i }) (commitDone st w)
+    → _≡_ {A = State} (record { sizes = st .sizes; head = st .head; tail = st .tail; next = st .next; table = st .table; writers = record { opened = o; held = h; prepared = noWriter }; wide = st .wide; pending = i }) (commitDone st w)
 empty-commit st w h o i g e a b c =
     commit-done st w 0 (st .head) (st .table .bitmap) (st .table .last) h o i e (sym (pos-none (st .sizes) (st .head) (g .head-low))) (up-none _ _) (up-none _ _) a b c
 
 pub empty-prepare : (st : State) (w : ℕ) (i : Pending) → i ≡ noPending
-    → _≡_ {A = State} (record { sizes = st .sizes; head = st .head; tail = st .tail; next = st .next; table = st .table; writers = withPrepared (st .writers) w; pending = i }) (completed st (Prepare w))
+    → _≡_ {A = State} (record { sizes = st .sizes; head = st .head; tail = st .tail; next = st .next; table = st .table; writers = withPrepared (st .writers) w; wide = st .wide; pending = i }) (completed st (Prepare w))
 empty-prepare st w i a = rw a
 
 pub empty-checkpoint : (st : State) (l : List ℕ) (i : Pending) → l ≡ filled (st .sizes .slots) (λ s. noPosition) (st .table .last) → i ≡ noPending
-    → _≡_ {A = State} (record { sizes = st .sizes; head = st .head; tail = st .head; next = st .next; table = record { page = st .table .page; original = st .table .original; spare = st .table .spare; bitmap = st .table .bitmap; last = l }; writers = st .writers; pending = i }) (completed st Checkpoint)
+    → _≡_ {A = State} (record { sizes = st .sizes; head = st .head; tail = st .head; next = st .next; table = record { page = st .table .page; original = st .table .original; spare = st .table .spare; bitmap = st .table .bitmap; last = l }; writers = st .writers; wide = st .wide; pending = i }) (completed st Checkpoint)
 empty-checkpoint st l i a b = rw (a, b)
 
 -- a write and a consolidation need some

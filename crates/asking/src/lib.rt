@@ -5,6 +5,7 @@ ghost use mathlib.Core.List.{_++_};
 ghost use lib.ListN.{replicate};
 ghost use Rattle.bounded.specs.Rows.{refusal};
 ghost use Rattle.state.specs.Parts.{stateOf};
+ghost use Rattle.state.specs.Wide.{wideOf};
 ghost use Rattle.operations.specs.Operations.{Ranged, isIdle, opRows, needs};
 ghost use Rattle.answers.specs.Answers.{outcomeOf};
 ghost use Rattle.refinement.specs.Stores.{completed};
@@ -42,11 +43,14 @@ pub fn ask_row<'a>(
     opened: &'a [bool; 4],
     held: &'a [u64; 64],
     prepared: usize,
+    wide: usize,
+    count: usize,
+    keys: &'a [u64; 64],
     pending: Pending,
     op: Op,
     n: usize,
 ) -> usize
-    ensures { λ r. ⌜ r ≡ refusal (quietRows (stateOf z head tail next (now (page .entry)) (now (original .entry)) (now (spare .entry)) (now (bitmap .entry)) (now (last .entry)) (now (opened .entry)) (now (held .entry)) prepared pending) n ++ opRows (stateOf z head tail next (now (page .entry)) (now (original .entry)) (now (spare .entry)) (now (bitmap .entry)) (now (last .entry)) (now (opened .entry)) (now (held .entry)) prepared pending) op 0) ⌝ }
+    ensures { λ r. ⌜ r ≡ refusal (quietRows (stateOf z head tail next (now (page .entry)) (now (original .entry)) (now (spare .entry)) (now (bitmap .entry)) (now (last .entry)) (now (opened .entry)) (now (held .entry)) prepared (wideOf wide count (now (keys .entry))) pending) n ++ opRows (stateOf z head tail next (now (page .entry)) (now (original .entry)) (now (spare .entry)) (now (bitmap .entry)) (now (last .entry)) (now (opened .entry)) (now (held .entry)) prepared (wideOf wide count (now (keys .entry))) pending) op 0) ⌝ }
 {
     let row = rows::first_row(
         z,
@@ -61,6 +65,9 @@ pub fn ask_row<'a>(
         opened,
         held,
         prepared,
+        wide,
+        count,
+        keys,
         pending,
         n,
         false,
@@ -152,6 +159,9 @@ pub fn ask(st: State, n: usize, op: Op) -> Done
         &next.writers.opened,
         &next.writers.held,
         next.writers.prepared,
+        next.wide.writer,
+        next.wide.count,
+        &next.wide.keys,
         next.pending,
         op,
         n,

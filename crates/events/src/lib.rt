@@ -10,6 +10,7 @@ ghost use Rattle.words.specs.Words.{bytesOf};
 ghost use Rattle.image.specs.Lines.{lineBytes, merged, lineWords};
 ghost use Rattle.meters.specs.Meters.{moduliOk, eventKnown};
 ghost use Rattle.state.specs.Parts.{stateOf};
+ghost use Rattle.state.specs.Wide.{wideOf};
 ghost use Rattle.answers.specs.Answers.{outcomeOf};
 ghost use Rattle.refinement.specs.Calls.{eventOf};
 ghost use Rattle.events.specs.Found.{startRows, EventFound, secondOf};
@@ -56,13 +57,16 @@ fn start_row<'a>(
     opened: &'a [bool; 4],
     held: &'a [u64; 64],
     prepared: usize,
+    wide: usize,
+    count: usize,
+    keys: &'a [u64; 64],
     pending: Pending,
     n: usize,
     kind: usize,
     meter: usize,
     moduli: &[u64],
 ) -> usize
-    ensures { λ r. ⌜ r ≡ refusal (startRows (stateOf z head tail next (now (page .entry)) (now (original .entry)) (now (spare .entry)) (now (bitmap .entry)) (now (last .entry)) (now (opened .entry)) (now (held .entry)) prepared pending) n (now (moduli .entry)) kind meter) ⌝ }
+    ensures { λ r. ⌜ r ≡ refusal (startRows (stateOf z head tail next (now (page .entry)) (now (original .entry)) (now (spare .entry)) (now (bitmap .entry)) (now (last .entry)) (now (opened .entry)) (now (held .entry)) prepared (wideOf wide count (now (keys .entry))) pending) n (now (moduli .entry)) kind meter) ⌝ }
 {
     let row = rows::first_row(
         z,
@@ -77,6 +81,9 @@ fn start_row<'a>(
         opened,
         held,
         prepared,
+        wide,
+        count,
+        keys,
         pending,
         n,
         false,
@@ -107,6 +114,9 @@ fn event_found<'a>(
     opened: &'a [bool; 4],
     held: &'a [u64; 64],
     prepared: usize,
+    wide: usize,
+    count: usize,
+    keys: &'a [u64; 64],
     pending: Pending,
     image: &[u8],
     kind: usize,
@@ -114,7 +124,7 @@ fn event_found<'a>(
     amount: u64,
     moduli: &[u64],
 ) -> Found
-    ensures { λ r. ⌜ EventFound (stateOf z head tail next (now (page .entry)) (now (original .entry)) (now (spare .entry)) (now (bitmap .entry)) (now (last .entry)) (now (opened .entry)) (now (held .entry)) prepared pending) (now (image .entry)) (now (moduli .entry)) kind meter amount r ⌝ }
+    ensures { λ r. ⌜ EventFound (stateOf z head tail next (now (page .entry)) (now (original .entry)) (now (spare .entry)) (now (bitmap .entry)) (now (last .entry)) (now (opened .entry)) (now (held .entry)) prepared (wideOf wide count (now (keys .entry))) pending) (now (image .entry)) (now (moduli .entry)) kind meter amount r ⌝ }
 {
     let row = start_row(
         z,
@@ -129,6 +139,9 @@ fn event_found<'a>(
         opened,
         held,
         prepared,
+        wide,
+        count,
+        keys,
         pending,
         image.len(),
         kind,
@@ -235,6 +248,9 @@ pub fn event(
         &next.writers.opened,
         &next.writers.held,
         next.writers.prepared,
+        next.wide.writer,
+        next.wide.count,
+        &next.wide.keys,
         next.pending,
         image,
         kind,

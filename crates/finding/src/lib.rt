@@ -8,6 +8,7 @@ ghost use Rattle.layout.specs.Layout.{Legal, imageLength};
 ghost use Rattle.masks.specs.Lines.{inMask};
 ghost use Rattle.state.specs.Held.{heldAt};
 ghost use Rattle.state.specs.Parts.{stateOf};
+ghost use Rattle.state.specs.Wide.{wideOf};
 ghost use Rattle.finding.specs.Finding.{FramesFound, WriteFound};
 use layout::Sizes;
 use state::Pending;
@@ -103,6 +104,9 @@ pub fn write_found<'a>(
     opened: &'a [bool; 4],
     held: &'a [u64; 64],
     prepared: usize,
+    wide: usize,
+    count: usize,
+    keys: &'a [u64; 64],
     pending: Pending,
     image: &[u8],
     writer: usize,
@@ -112,7 +116,7 @@ pub fn write_found<'a>(
     length: usize,
     data: &[u8],
 ) -> Found
-    ensures { λ r. ⌜ WriteFound (stateOf z head tail next (now (page .entry)) (now (original .entry)) (now (spare .entry)) (now (bitmap .entry)) (now (last .entry)) (now (opened .entry)) (now (held .entry)) prepared pending) (now (image .entry)) writer p line offset length (now («data» .entry)) r ⌝ }
+    ensures { λ r. ⌜ WriteFound (stateOf z head tail next (now (page .entry)) (now (original .entry)) (now (spare .entry)) (now (bitmap .entry)) (now (last .entry)) (now (opened .entry)) (now (held .entry)) prepared (wideOf wide count (now (keys .entry))) pending) (now (image .entry)) writer p line offset length (now («data» .entry)) r ⌝ }
 {
     let row = rows::first_row(
         z,
@@ -127,6 +131,9 @@ pub fn write_found<'a>(
         opened,
         held,
         prepared,
+        wide,
+        count,
+        keys,
         pending,
         image.len(),
         false,

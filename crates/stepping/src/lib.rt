@@ -43,6 +43,9 @@ pub fn run(st: State, image: &mut [u8], k: usize) -> Done
         &mut opened,
         &mut held,
         st.writers.prepared,
+        st.wide.writer,
+        st.wide.count,
+        &st.wide.keys,
         pending,
         k,
     );

@@ -5,6 +5,7 @@ ghost use mathlib.Core.Path.{_≡_};
 ghost use mathlib.Core.Bool.{false};
 ghost use Rattle.bounded.specs.Rows.{refusal};
 ghost use Rattle.state.specs.Parts.{stateOf};
+ghost use Rattle.state.specs.Wide.{wideOf};
 ghost use Rattle.operations.specs.Operations.{Ranged, isIdle, opRows};
 ghost use Rattle.refinement.specs.Settled.{noPending};
 ghost use Rattle.refinement.specs.Stores.{completed as completedOf};
@@ -34,10 +35,13 @@ pub fn complete(
     opened: &mut [bool; 4],
     held: &mut [u64; 64],
     prepared: usize,
+    wide: usize,
+    count: usize,
+    keys: &mut [u64; 64],
     pending: Pending,
 ) -> Places
-    requires { ⌜ Ranged (stateOf z head tail next (now page) (now original) (now spare) (now bitmap) (now last) (now opened) (now held) prepared pending) × (refusal (opRows (stateOf z head tail next (now page) (now original) (now spare) (now bitmap) (now last) (now opened) (now held) prepared pending) (pending .op) (pending .frame)) ≡ 0) × (isIdle (pending .op) ≡ false) ⌝ }
-    ensures { λ r. ⌜ stateOf z (r .head) (r .tail) (r .next) (now (page .exit)) (now (original .exit)) (now (spare .exit)) (now (bitmap .exit)) (now (last .exit)) (now (opened .exit)) (now (held .exit)) (r .prepared) noPending ≡ completedOf (stateOf z head tail next (now (page .entry)) (now (original .entry)) (now (spare .entry)) (now (bitmap .entry)) (now (last .entry)) (now (opened .entry)) (now (held .entry)) prepared pending) (pending .op) ⌝ }
+    requires { ⌜ Ranged (stateOf z head tail next (now page) (now original) (now spare) (now bitmap) (now last) (now opened) (now held) prepared (wideOf wide count (now keys)) pending) × (refusal (opRows (stateOf z head tail next (now page) (now original) (now spare) (now bitmap) (now last) (now opened) (now held) prepared (wideOf wide count (now keys)) pending) (pending .op) (pending .frame)) ≡ 0) × (isIdle (pending .op) ≡ false) ⌝ }
+    ensures { λ r. ⌜ stateOf z (r .head) (r .tail) (r .next) (now (page .exit)) (now (original .exit)) (now (spare .exit)) (now (bitmap .exit)) (now (last .exit)) (now (opened .exit)) (now (held .exit)) (r .prepared) (wideOf (r .wide) (r .count) (now (keys .exit))) noPending ≡ completedOf (stateOf z head tail next (now (page .entry)) (now (original .entry)) (now (spare .entry)) (now (bitmap .entry)) (now (last .entry)) (now (opened .entry)) (now (held .entry)) prepared (wideOf wide count (now (keys .entry))) pending) (pending .op) ⌝ }
 {
     let op = pending.op;
     match op {
@@ -127,6 +131,9 @@ pub fn complete(
                 opened,
                 held,
                 prepared,
+                wide,
+                count,
+                keys,
                 pending,
                 kind,
                 meter,

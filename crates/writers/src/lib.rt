@@ -2,6 +2,7 @@
 ghost use mathlib.Core.Path.{_≡_};
 ghost use Rattle.bounded.specs.Rows.{refusal};
 ghost use Rattle.state.specs.Parts.{stateOf};
+ghost use Rattle.state.specs.Wide.{wideOf};
 ghost use Rattle.answers.specs.Answers.{outcomeOf};
 ghost use Rattle.refinement.specs.Calls.{beginOf, abortOf};
 ghost use Rattle.writers.specs.Writers.{writerRows};
@@ -24,11 +25,14 @@ pub fn writer_row<'a>(
     opened: &'a [bool; 4],
     held: &'a [u64; 64],
     prepared: usize,
+    wide: usize,
+    count: usize,
+    keys: &'a [u64; 64],
     pending: Pending,
     writer: usize,
     wanted: bool,
 ) -> usize
-    ensures { λ r. ⌜ r ≡ refusal (writerRows wanted (stateOf z head tail next (now (page .entry)) (now (original .entry)) (now (spare .entry)) (now (bitmap .entry)) (now (last .entry)) (now (opened .entry)) (now (held .entry)) prepared pending) writer) ⌝ }
+    ensures { λ r. ⌜ r ≡ refusal (writerRows wanted (stateOf z head tail next (now (page .entry)) (now (original .entry)) (now (spare .entry)) (now (bitmap .entry)) (now (last .entry)) (now (opened .entry)) (now (held .entry)) prepared (wideOf wide count (now (keys .entry))) pending) writer) ⌝ }
 {
     if !validity::state_ok(
         z,
@@ -43,6 +47,9 @@ pub fn writer_row<'a>(
         opened,
         held,
         prepared,
+        wide,
+        count,
+        keys,
         pending,
     ) {
         return 8;
@@ -85,6 +92,9 @@ pub fn begin(st: State, writer: usize) -> Done
         &next.writers.opened,
         &next.writers.held,
         next.writers.prepared,
+        next.wide.writer,
+        next.wide.count,
+        &next.wide.keys,
         next.pending,
         writer,
         false,
@@ -114,6 +124,9 @@ pub fn abort(st: State, writer: usize) -> Done
         &next.writers.opened,
         &next.writers.held,
         next.writers.prepared,
+        next.wide.writer,
+        next.wide.count,
+        &next.wide.keys,
         next.pending,
         writer,
         true,

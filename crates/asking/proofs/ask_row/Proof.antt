@@ -2,6 +2,7 @@
 use borrow.Author.Needs.{needs}
 use Rattle.state.specs.declared.State.{State}
 use Rattle.state.specs.Parts.{stateOf}
+use Rattle.state.specs.Wide.{wideOf}
 use Rattle.operations.specs.Operations.{opRows}
 use Rattle.refinement.proofs.Going.{ranges-of}
 use Rattle.answers.proofs.Answered.{rows-first, rows-then}
@@ -13,7 +14,7 @@ use Rattle.asking.proofs.ask_row.Tie as tie
 abbrev st : tie.Start → State
 st c =
     let a = c .args in
-    stateOf (a .z) (a .head) (a .tail) (a .next) (a .page .now) (a .original .now) (a .spare .now) (a .bitmap .now) (a .last .now) (a .opened .now) (a .held .now) (a .prepared) (a .pending)
+    stateOf (a .z) (a .head) (a .tail) (a .next) (a .page .now) (a .original .now) (a .spare .now) (a .bitmap .now) (a .last .now) (a .opened .now) (a .held .now) (a .prepared) (wideOf (a .wide) (a .count) (a .keys .now)) (a .pending)
 
 quiet1 : (c : tie.Else1) → Quiet (st (c .before .before)) (c .before .before .args .n)
 quiet1 c = quiet (st (c .before .before)) (c .before .before .args .n) _ (c .before .first-row .ensures) (c .if1 .left)

@@ -2,6 +2,7 @@ use mathlib.Core.Path.{refl}
 use borrow.Author.Needs.{needs}
 use Rattle.state.specs.declared.State.{State}
 use Rattle.state.specs.Parts.{stateOf}
+use Rattle.state.specs.Wide.{wideOf}
 use Rattle.refinement.specs.Settled.{noPending}
 use Rattle.commits.proofs.CommitMade.{commit-done}
 use Rattle.event_stores.proofs.Held.{event-done}
@@ -9,7 +10,7 @@ use Rattle.event_stores.proofs.complete_event.Statement.{statement}
 use Rattle.event_stores.proofs.complete_event.Tie as tie
 
 abbrev st : tie.Start → State
-st c = let a = c .args in stateOf (a .z) (a .head) (a .tail) (a .next) (a .page .now) (a .original .now) (a .spare .now) (a .bitmap .now) (a .last .now) (a .opened .now) (a .held .now) (a .prepared) (a .pending)
+st c = let a = c .args in stateOf (a .z) (a .head) (a .tail) (a .next) (a .page .now) (a .original .now) (a .spare .now) (a .bitmap .now) (a .last .now) (a .opened .now) (a .held .now) (a .prepared) (wideOf (a .wide) (a .count) (a .keys .now)) (a .pending)
 
 returns : tie.Need-returns
 returns c =

@@ -3,6 +3,7 @@ use native.Mathlib.Omega.{arith}
 use borrow.Author.Needs.{needs}
 use Rattle.state.specs.declared.State.{State}
 use Rattle.state.specs.Parts.{stateOf}
+use Rattle.state.specs.Wide.{wideOf}
 use Rattle.refinement.specs.Settled.{noPending}
 use Rattle.refinement.specs.Event.{linesDone}
 use Rattle.commits.proofs.CommitMade.{commit-stores-of}
@@ -12,7 +13,7 @@ use Rattle.event_stores.proofs.make_event_commit.Statement.{statement}
 use Rattle.event_stores.proofs.make_event_commit.Tie as tie
 
 abbrev st : tie.Start → State
-st c = let a = c .args in stateOf (a .z) (a .head) (a .tail) (a .next) (a .page .now) (a .original .now) (a .spare .now) (a .bitmap .now) (a .last .now) (a .opened .now) (a .held .now) (a .prepared) (a .pending)
+st c = let a = c .args in stateOf (a .z) (a .head) (a .tail) (a .next) (a .page .now) (a .original .now) (a .spare .now) (a .bitmap .now) (a .last .now) (a .opened .now) (a .held .now) (a .prepared) (wideOf (a .wide) (a .count) (a .keys .now)) (a .pending)
 
 hold-lines-requires : tie.Need-hold-lines-requires
 hold-lines-requires c κs =

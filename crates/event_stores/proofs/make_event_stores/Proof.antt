@@ -6,12 +6,13 @@ use Rattle.event_stores.specs.Lines.{eventLines}
 use borrow.Author.Needs.{needs}
 use Rattle.state.specs.declared.State.{State}
 use Rattle.state.specs.Parts.{stateOf}
+use Rattle.state.specs.Wide.{wideOf}
 use Rattle.event_stores.proofs.LinesMade.{ranges, shapes, known, lines-low, needs-five, lines-made, all-made, event-made}
 use Rattle.event_stores.proofs.make_event_stores.Statement.{statement}
 use Rattle.event_stores.proofs.make_event_stores.Tie as tie
 
 abbrev st : tie.Start → State
-st c = let a = c .args in stateOf (a .z) (a .head) (a .tail) (a .next) (a .page .now) (a .original .now) (a .spare .now) (a .bitmap .now) (a .last .now) (a .opened .now) (a .held .now) (a .prepared) (a .t14)
+st c = let a = c .args in stateOf (a .z) (a .head) (a .tail) (a .next) (a .page .now) (a .original .now) (a .spare .now) (a .bitmap .now) (a .last .now) (a .opened .now) (a .held .now) (a .prepared) (wideOf (a .wide) (a .count) (a .keys .now)) (a .t17)
 
 make-line-stores-requires : tie.Need-make-line-stores-requires
 make-line-stores-requires c κs =

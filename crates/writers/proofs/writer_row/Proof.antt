@@ -8,6 +8,7 @@ use borrow.Author.Needs.{needs}
 use Rattle.bounded.specs.Rows.{Row, Past}
 use Rattle.bounded.proofs.Rows.{row-at, row-none}
 use Rattle.state.specs.Parts.{stateOf}
+use Rattle.state.specs.Wide.{wideOf}
 use Rattle.writers.specs.Writers.{writerRows}
 use Rattle.writers.proofs.writer_row.Statement.{statement}
 use Rattle.writers.proofs.writer_row.Tie as tie
@@ -15,7 +16,7 @@ use Rattle.writers.proofs.writer_row.Tie as tie
 abbrev rows : tie.Start → List Row
 rows c =
     let a = c .args in
-    writerRows (a .wanted) (stateOf (a .z) (a .head) (a .tail) (a .next) (a .page .now) (a .original .now) (a .spare .now) (a .bitmap .now) (a .last .now) (a .opened .now) (a .held .now) (a .prepared) (a .pending)) (a .writer)
+    writerRows (a .wanted) (stateOf (a .z) (a .head) (a .tail) (a .next) (a .page .now) (a .original .now) (a .spare .now) (a .bitmap .now) (a .last .now) (a .opened .now) (a .held .now) (a .prepared) (wideOf (a .wide) (a .count) (a .keys .now)) (a .pending)) (a .writer)
 
 past2 : (c : tie.Else2) → Past (rows (c .before .before .before .before)) 2
 past2 c = (sym (ap not (c .before .before .before .state-ok .ensures)) ∙ c .before .before .if1 .left, (sym (ap not (c .before .is-idle .ensures)) ∙ c .if2 .left, tt))

@@ -4,6 +4,7 @@ use native.Mathlib.Omega.{arith}
 use lib.ListN.{length}
 use Rattle.state.specs.declared.State.{State}
 use Rattle.state.specs.Parts.{stateOf}
+use Rattle.state.specs.Wide.{wideOf}
 use Rattle.operations.specs.Operations.{needs as storesNeeded}
 use Rattle.operations.proofs.Taken.{op-asked}
 use Rattle.refinement.proofs.Going.{Going, going}
@@ -16,7 +17,7 @@ use Rattle.stores.proofs.making.make_left.Tie as tie
 abbrev st : tie.Start → State
 st c =
     let a = c .args in
-    stateOf (a .z) (a .head) (a .tail) (a .next) (a .page .now) (a .original .now) (a .spare .now) (a .bitmap .now) (a .last .now) (a .opened .now) (a .held .now) (a .prepared) (a .pending)
+    stateOf (a .z) (a .head) (a .tail) (a .next) (a .page .now) (a .original .now) (a .spare .now) (a .bitmap .now) (a .last .now) (a .opened .now) (a .held .now) (a .prepared) (wideOf (a .wide) (a .count) (a .keys .now)) (a .pending)
 
 -- no row applies: something is pending
 busy1 : (c : tie.Else1) → Busy (st (c .before .before .before)) (length (c .before .before .before .args .image .now))

@@ -2,6 +2,7 @@ use mathlib.Core.Path.{ap, _∙_}
 use Rattle.bounded.proofs.Tests.{contradicts}
 use Rattle.state.specs.declared.State.{State}
 use Rattle.state.specs.Parts.{stateOf}
+use Rattle.state.specs.Wide.{wideOf}
 use Rattle.operations.specs.Operations.{isIdle}
 use Rattle.refinement.proofs.Going.{going, write-of, commit-of, prepare-of, confirm-of, consolidate-of, write-left, commit-left, prepare-left, confirm-left, consolidate-left, checkpoint-left, event-left, stores-of}
 use Rattle.writes.proofs.WriteMade.{write-stores-of}
@@ -16,7 +17,7 @@ use Rattle.stores.proofs.making.make_stores.Tie as tie
 abbrev st : tie.Start → State
 st c =
     let a = c .args in
-    stateOf (a .z) (a .head) (a .tail) (a .next) (a .page .now) (a .original .now) (a .spare .now) (a .bitmap .now) (a .last .now) (a .opened .now) (a .held .now) (a .prepared) (a .t14)
+    stateOf (a .z) (a .head) (a .tail) (a .next) (a .page .now) (a .original .now) (a .spare .now) (a .bitmap .now) (a .last .now) (a .opened .now) (a .held .now) (a .prepared) (wideOf (a .wide) (a .count) (a .keys .now)) (a .t17)
 
 make-write-stores-requires : tie.Need-make-write-stores-requires
 make-write-stores-requires c κs = let s = c .before .before .before .before .before .before .before in
