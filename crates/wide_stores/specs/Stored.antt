@@ -15,8 +15,12 @@ use Rattle.refinement.specs.Wide.{copyAtOf, copyValueOf}
 abbrev pub entryValue : ℕ → List ℕ → ℕ → ℕ
 entryValue key line i = cond (eqb i 0) key (getD line (i - 1) 0)
 
+-- the words of an entry whose first is word a, n of them from word k on
+abbrev pub entryStores : ℕ → ℕ → List ℕ → ℕ → ℕ → List ℕ → List ℕ
+entryStores a key line k n img = upTo n (λ i m. store m (a + (k + i)) (entryValue key line (k + i))) img
+
 abbrev pub logStores : Sizes → ℕ → ℕ → List ℕ → ℕ → ℕ → List ℕ → List ℕ
-logStores z e key line from n img = upTo n (λ i m. store m (entryWord z e + (from + i)) (entryValue key line (from + i))) img
+logStores z e key line from n img = entryStores (entryWord z e) key line from n img
 
 abbrev pub copyStores : Sizes → Table → ℕ → List ℕ → ℕ → ℕ → List ℕ → List ℕ
 copyStores z t count keys from n img = upTo n (λ i m. store m (copyAtOf z t count keys m (from + i)) (copyValueOf z count m (from + i))) img

@@ -1,16 +1,16 @@
 // The stores of a wide write and of a wide commit (document 02, L14), and the state after them.
 ghost use mathlib.Core.Path.{_≡_};
-ghost use mathlib.Core.Bool.{true, false};
-ghost use Prim.Native.Nat.{_+_, _*_, _<_, _≤_};
+ghost use mathlib.Core.Bool.{false};
+ghost use Prim.Native.Nat.{ℕ, _+_, _*_, _<_, _≤_};
 ghost use lib.ListN.{length, getD, set};
 ghost use Rattle.layout.specs.Layout.{Legal, imageLength};
 ghost use Rattle.words.specs.Words.{store};
-ghost use Rattle.entries.specs.Entries.{noKeys, keyOf, keyPage, entryOf, entriesOk};
+ghost use Rattle.entries.specs.Entries.{noKeys, keyOf, keyPage, entryOf};
 ghost use Rattle.replay.specs.Table.{slotsOfArrays};
 ghost use Rattle.state.specs.Held.{letGo};
 ghost use Rattle.state.specs.Wide.{wideOf, withEntry};
 ghost use Rattle.refinement.specs.Wide.{copiedFrame, copyAtOf, copyValueOf};
-ghost use Rattle.wide_stores.specs.Stored.{entryValue, logStores, copyStores};
+ghost use Rattle.wide_stores.specs.Stored.{entryValue, entryStores, logStores, copyStores};
 use layout::Sizes;
 
 // Word i of an entry with this key and line.
@@ -22,6 +22,19 @@ fn entry_value(key: u64, line: &[u64; 8], i: usize) -> u64
         return key;
     }
     line[i - 1]
+}
+
+// Stores n words of an entry, from word k on, the entry's first being word a.
+fn store_entry_words(image: &mut [u8], a: usize, key: u64, line: &[u64; 8], k: usize, n: usize)
+    requires { ⌜ (k + n ≤ 9) × (8 * a + 72 ≤ length (now image)) ⌝ }
+    ensures { λ _. ⌜ now (image .exit) ≡ entryStores a key (now (line .entry)) k n (now (image .entry)) ⌝ }
+{
+    let mut i = 0;
+    while i < n {
+        let v = entry_value(key, line, k + i);
+        image_words::store_word(image, a + (k + i), v);
+        i += 1;
+    }
 }
 
 // Makes n stores of a wide write of line l of page p, from store `from` on.
@@ -42,12 +55,7 @@ pub fn make_log_stores<'a>(
     let key = (64 * p + l) as u64;
     let e = entries::find_entry(keys, count, key);
     let at = layout::entry_word(z, e);
-    let mut i = 0;
-    while i < n {
-        let v = entry_value(key, line, from + i);
-        image_words::store_word(image, at + (from + i), v);
-        i += 1;
-    }
+    store_entry_words(image, at, key, line, from, n);
 }
 
 // The line of page p has its entry: the one that it had, or one more. Says how many are used.
@@ -101,7 +109,7 @@ fn make_copy_store<'a>(
     keys: &'a [u64; 64],
     i: usize,
 )
-    requires { ⌜ Legal z × (entriesOk z (now keys) count ≡ true) × (i < 8 * count + 2) × (imageLength z ≤ length (now image)) ⌝ }
+    requires { ⌜ Legal z × (count ≤ z .entries) × ((e : ℕ) → e < count → keyPage (getD (now keys) e 0) < z .pages) × (i < 8 * count + 2) × (imageLength z ≤ length (now image)) ⌝ }
     ensures { λ _. ⌜ now (image .exit) ≡ store (now (image .entry)) (copyAtOf z (slotsOfArrays (now (page .entry)) (now (original .entry)) (now (spare .entry)) (now (bitmap .entry))) count (now (keys .entry)) (now (image .entry)) i) (copyValueOf z count (now (image .entry)) i) ⌝ }
 {
     if i == 0 {
@@ -134,7 +142,7 @@ pub fn make_copy_stores<'a>(
     from: usize,
     n: usize,
 )
-    requires { ⌜ Legal z × (entriesOk z (now keys) count ≡ true) × (from + n ≤ 8 * count + 2) × (imageLength z ≤ length (now image)) ⌝ }
+    requires { ⌜ Legal z × (count ≤ z .entries) × ((e : ℕ) → e < count → keyPage (getD (now keys) e 0) < z .pages) × (from + n ≤ 8 * count + 2) × (imageLength z ≤ length (now image)) ⌝ }
     ensures { λ _. ⌜ now (image .exit) ≡ copyStores z (slotsOfArrays (now (page .entry)) (now (original .entry)) (now (spare .entry)) (now (bitmap .entry))) count (now (keys .entry)) from n (now (image .entry)) ⌝ }
 {
     let mut i = 0;
