@@ -8,6 +8,7 @@ ghost use Rattle.replay.specs.Table.{slotsOfArrays, slotsShaped};
 ghost use Rattle.meters.specs.Meters.{eventKnown, eventNeeds};
 ghost use Rattle.state.specs.Parts.{stateOf};
 ghost use Rattle.state.specs.Wide.{wideOf};
+ghost use Rattle.state.specs.declared.Wide.{Wide};
 ghost use Rattle.state.specs.Held.{noWriter};
 ghost use Rattle.refinement.specs.Settled.{noPending};
 ghost use Rattle.refinement.specs.Event.{lineStores as lineStoresOf, eventDone};
@@ -127,15 +128,12 @@ fn hold_lines<'a>(
     opened: &'a [bool; 4],
     held: &mut [u64; 64],
     prepared: usize,
-    wide: usize,
-    count: usize,
-    keys: &'a [u64; 64],
     pending: Pending,
     kind: usize,
     meter: usize,
 ) -> usize
     requires { ⌜ Legal z × (next < z .slots) × (eventKnown kind meter ≡ true) ⌝ }
-    ensures { λ r. ⌜ stateOf z head tail r (now (page .exit)) (now (original .exit)) (now (spare .entry)) (now (bitmap .exit)) (now (last .entry)) (now (opened .entry)) (now (held .exit)) prepared noPending ≡ linesAfter (stateOf z head tail next (now (page .entry)) (now (original .entry)) (now (spare .entry)) (now (bitmap .entry)) (now (last .entry)) (now (opened .entry)) (now (held .entry)) prepared noPending) kind meter pending ⌝ }
+    ensures { λ r. ⌜ (d : Wide) → stateOf z head tail r (now (page .exit)) (now (original .exit)) (now (spare .entry)) (now (bitmap .exit)) (now (last .entry)) (now (opened .entry)) (now (held .exit)) prepared d noPending ≡ linesAfter (stateOf z head tail next (now (page .entry)) (now (original .entry)) (now (spare .entry)) (now (bitmap .entry)) (now (last .entry)) (now (opened .entry)) (now (held .entry)) prepared d noPending) kind meter pending ⌝ }
 {
     let l = meters::first_meter(kind, meter);
     let o = meters::own_meter(kind, meter);
@@ -161,15 +159,12 @@ pub fn complete_event(
     opened: &mut [bool; 4],
     held: &mut [u64; 64],
     prepared: usize,
-    wide: usize,
-    count: usize,
-    keys: &'a [u64; 64],
     pending: Pending,
     kind: usize,
     meter: usize,
 ) -> Moved
     requires { ⌜ Legal z × (head < 2 * z .places) × (next < z .slots) × (eventKnown kind meter ≡ true) ⌝ }
-    ensures { λ r. ⌜ stateOf z (r .head) tail (r .next) (now (page .exit)) (now (original .exit)) (now (spare .exit)) (now (bitmap .exit)) (now (last .exit)) (now (opened .exit)) (now (held .exit)) noWriter noPending ≡ eventDone (stateOf z head tail next (now (page .entry)) (now (original .entry)) (now (spare .entry)) (now (bitmap .entry)) (now (last .entry)) (now (opened .entry)) (now (held .entry)) prepared (wideOf wide count (now (keys .entry))) pending) kind meter ⌝ }
+    ensures { λ r. ⌜ (d : Wide) → stateOf z (r .head) tail (r .next) (now (page .exit)) (now (original .exit)) (now (spare .exit)) (now (bitmap .exit)) (now (last .exit)) (now (opened .exit)) (now (held .exit)) noWriter d noPending ≡ eventDone (stateOf z head tail next (now (page .entry)) (now (original .entry)) (now (spare .entry)) (now (bitmap .entry)) (now (last .entry)) (now (opened .entry)) (now (held .entry)) prepared d pending) kind meter ⌝ }
 {
     state::held::set_open(opened, 1, true);
     let after = hold_lines(
@@ -185,9 +180,6 @@ pub fn complete_event(
         opened,
         held,
         prepared,
-        wide,
-        count,
-        keys,
         pending,
         kind,
         meter,
@@ -245,9 +237,6 @@ fn make_event_commit<'a>(
         &opening,
         &mut holding,
         prepared,
-        wide,
-        count,
-        keys,
         pending,
         kind,
         meter,

@@ -1,1 +1,2 @@
 pub mod NoWriter
+pub mod WideMade

@@ -9,11 +9,11 @@ use Rattle.wide_stores.proofs.complete_copy.Tie as tie
 returns : tie.Need-returns
 returns c =
     let s = c .before .before .before .before .before .before in
-    let opened = c .before .before .before .before .four in
-    let held = c .before .before .sixty-four in
+    let opened = c .before .before .before .four in
+    let held = c .before .sixty-four in
     let four : length (opened .result) ≡ 4 = search needs in
     let sixty-four : length (held .result) ≡ 64 = search needs in
-    (open-past (s .args .opened .now) (s .args .wide) (omega (arith, ap length (opened .ensures), four)), held-past (s .args .z) (s .args .held .now) (s .args .wide) (sym (ap length (held .ensures)) ∙ sixty-four) (omega arith), refl)
+    (open-past (s .args .opened .now) (s .args .wide) (omega (arith, ap length (opened .ensures), four)), (held-past (s .args .z) (s .args .held .now) (s .args .wide) (sym (ap length (held .ensures)) ∙ sixty-four) (omega arith), refl))
 
 pub complete-copy-spec : {M : Type 1} → statement M
 complete-copy-spec =

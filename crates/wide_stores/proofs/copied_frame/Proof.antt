@@ -1,70 +1,38 @@
+use mathlib.Core.Path.{ap, _∙_}
+use Rattle.words.specs.Words.{word}
+use Rattle.replay.specs.declared.Table.{Table}
+use Rattle.replay.specs.Table.{slotsOfArrays}
+use Rattle.wide_stores.proofs.WideMade.{copied-slotted, copied-plain}
 use borrow.Author.Needs.{needs}
 use Rattle.wide_stores.proofs.copied_frame.Statement.{statement}
 use Rattle.wide_stores.proofs.copied_frame.Tie as tie
-use Rattle.wide_stores.proofs.copied_frame.Reads as reads
-use Rattle.wide_stores.proofs.copied_frame.Lts as lts
-use Rattle.frames.proofs.committed_frame.Reads as committed-frame-reads
-use Rattle.image_words.proofs.read_word.Reads as read-word-reads
-use Rattle.layout.proofs.page_word.Reads as page-word-reads
-use Rattle.replay.proofs.slot_at.Reads as slot-at-reads
-use Rattle.state.proofs.slots.slot_of.Reads as slot-of-reads
 
--- src/lib.rt:91:9
-slot-of-requires : tie.Need-slot-of-requires
-slot-of-requires c κs = search needs
+abbrev table : tie.Start → Table
+table s = slotsOfArrays (s .args .page .now) (s .args .original .now) (s .args .spare .now) (s .args .bitmap .now)
 
--- src/lib.rt:93:13
-slot-at-requires : tie.Need-slot-at-requires
-slot-at-requires c κs = search needs
-
--- src/lib.rt:94:16
-committed-frame-requires : tie.Need-committed-frame-requires
-committed-frame-requires c κs = search needs
-
--- src/lib.rt:94:49
-add-result : tie.Need-add-result
-add-result c = search needs
-
--- src/lib.rt:94:16
-rem-result : tie.Need-rem-result
-rem-result c = search needs
-
--- src/lib.rt:94:9
 returns : tie.Need-returns
-returns c = ?
+returns c =
+    let s = c .before .before .before .before .before .before .before in
+    copied-slotted (s .args .z) (table s) (s .args .image .now) (s .args .key) _ _ (c .before .before .before .before .before .slot-of .ensures) _ (c .before .before .before .if1 .taken) (c .before .before .slot-at .ensures) (c .before .committed-frame .ensures)
 
--- src/lib.rt:96:43
-page-word-requires : tie.Need-page-word-requires
-page-word-requires c κs = search needs
-
--- src/lib.rt:96:13
-read-word-requires : tie.Need-read-word-requires
-read-word-requires c κs = search needs
-
--- src/lib.rt:97:10
-add-result-2 : tie.Need-add-result-2
-add-result-2 c = search needs
-
--- src/lib.rt:97:5
-rem-result-2 : tie.Need-rem-result-2
-rem-result-2 c = search needs
-
--- src/lib.rt:77:1
 returns-2 : tie.Need-returns-2
-returns-2 c = ?
+returns-2 c =
+    let s = c .before .before .before .before .before .before .before in
+    copied-plain (s .args .z) (table s) (s .args .image .now) (s .args .key) _ _ (c .before .before .before .before .before .slot-of .ensures) (c .before .before .before .if1 .left)
+    (c .before .read-word .ensures ∙ ap (word (s .args .image .now)) (c .before .before .page-word .ensures))
 
 pub copied-frame-spec : {M : Type 1} → statement M
 copied-frame-spec =
     tie.close
     (tie.spec
-    slot-of-requires
-    slot-at-requires
-    committed-frame-requires
-    add-result
-    rem-result
+    (λ c κs. search needs)
+    (λ c κs. search needs)
+    (λ c κs. search needs)
+    (λ c. search needs)
+    (λ c. search needs)
     returns
-    page-word-requires
-    read-word-requires
-    add-result-2
-    rem-result-2
+    (λ c κs. search needs)
+    (λ c κs. search needs)
+    (λ c. search needs)
+    (λ c. search needs)
     returns-2)

@@ -7,7 +7,7 @@ returns : tie.Need-returns
 returns c = rw (eq-eqb _ _ (c .if1 .taken))
 
 returns-2 : tie.Need-returns-2
-returns-2 c = rw (ne-eqb _ _ (c .before .before .if1 .left))
+returns-2 c = rw (ne-eqb _ _ (c .before .if1 .left))
 
 pub entry-value-spec : {M : Type 1} → statement M
 entry-value-spec =
