@@ -133,7 +133,7 @@ fn hold_lines<'a>(
     meter: usize,
 ) -> usize
     requires { ⌜ Legal z × (next < z .slots) × (eventKnown kind meter ≡ true) ⌝ }
-    ensures { λ r. ⌜ (d : Wide) → stateOf z head tail r (now (page .exit)) (now (original .exit)) (now (spare .entry)) (now (bitmap .exit)) (now (last .entry)) (now (opened .entry)) (now (held .exit)) prepared d noPending ≡ linesAfter (stateOf z head tail next (now (page .entry)) (now (original .entry)) (now (spare .entry)) (now (bitmap .entry)) (now (last .entry)) (now (opened .entry)) (now (held .entry)) prepared d noPending) kind meter pending ⌝ }
+    ensures { λ r. ⌜ ((d : Wide) → stateOf z head tail r (now (page .exit)) (now (original .exit)) (now (spare .entry)) (now (bitmap .exit)) (now (last .entry)) (now (opened .entry)) (now (held .exit)) prepared d noPending ≡ linesAfter (stateOf z head tail next (now (page .entry)) (now (original .entry)) (now (spare .entry)) (now (bitmap .entry)) (now (last .entry)) (now (opened .entry)) (now (held .entry)) prepared d noPending) kind meter pending) ⌝ }
 {
     let l = meters::first_meter(kind, meter);
     let o = meters::own_meter(kind, meter);
@@ -164,7 +164,7 @@ pub fn complete_event(
     meter: usize,
 ) -> Moved
     requires { ⌜ Legal z × (head < 2 * z .places) × (next < z .slots) × (eventKnown kind meter ≡ true) ⌝ }
-    ensures { λ r. ⌜ (d : Wide) → stateOf z (r .head) tail (r .next) (now (page .exit)) (now (original .exit)) (now (spare .exit)) (now (bitmap .exit)) (now (last .exit)) (now (opened .exit)) (now (held .exit)) noWriter d noPending ≡ eventDone (stateOf z head tail next (now (page .entry)) (now (original .entry)) (now (spare .entry)) (now (bitmap .entry)) (now (last .entry)) (now (opened .entry)) (now (held .entry)) prepared d pending) kind meter ⌝ }
+    ensures { λ r. ⌜ ((d : Wide) → stateOf z (r .head) tail (r .next) (now (page .exit)) (now (original .exit)) (now (spare .exit)) (now (bitmap .exit)) (now (last .exit)) (now (opened .exit)) (now (held .exit)) noWriter d noPending ≡ eventDone (stateOf z head tail next (now (page .entry)) (now (original .entry)) (now (spare .entry)) (now (bitmap .entry)) (now (last .entry)) (now (opened .entry)) (now (held .entry)) prepared d pending) kind meter) ⌝ }
 {
     state::held::set_open(opened, 1, true);
     let after = hold_lines(

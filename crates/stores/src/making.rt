@@ -130,6 +130,24 @@ pub fn make_stores<'a>(
             n,
         ),
         Op::Confirm { writer } => commits::make_confirm_stores(image, z, head, held, writer, n),
+        Op::Log {
+            page: p,
+            line,
+            offset: _,
+            length: _,
+        } => wide_stores::make_log_stores(image, z, count, keys, &pending.line, p, line, made, n),
+        Op::Copy => wide_stores::make_copy_stores(
+            image,
+            z,
+            page,
+            original,
+            spare,
+            bitmap,
+            count,
+            keys,
+            made,
+            n,
+        ),
     }
 }
 
@@ -195,7 +213,7 @@ pub fn make_left<'a>(
         };
     }
     let op = pending.op;
-    let needed = needs::op_needs(z, head, tail, page, bitmap, last, held, op);
+    let needed = needs::op_needs(z, head, tail, page, bitmap, last, held, count, op);
     let left = needed - pending.made;
     let n = pieces::smaller(k, left);
     make_stores(

@@ -147,7 +147,17 @@ pub fn make_copy_stores<'a>(
 {
     let mut i = 0;
     while i < n {
-        make_copy_store(image, z, page, original, spare, bitmap, count, keys, from + i);
+        make_copy_store(
+            image,
+            z,
+            page,
+            original,
+            spare,
+            bitmap,
+            count,
+            keys,
+            from + i,
+        );
         i += 1;
     }
 }

@@ -43,9 +43,9 @@ returns c =
     let T = s .pre .0 in
     let b = c .before .before .before .before .before .before .before .before .before .before .before .before .before2 in
     let n = c .before .before .before .before .before .before .before .before .before .before .before .before .before .line-stores .ensures in
-    let low : b .result ≤ lineStores (a .kind) - a .t14 .made = omega (arith, b .ensures, n) in
-    event-made (st s) (a .kind) (a .meter) T (a .t14 .made) (b .result) _ (a .n) (a .image .now) _ _ (rw n at (b .ensures)) (rw n) (c .before .before .before .before .if1 .taken)
-    (c .before .before .before .before .before .before .before .make-line-stores .ensures ∙ lines-made (st s) (a .kind) (a .meter) T (a .t14 .made) (b .result) (a .image .now) low) (c .before .before .make-event-commit .ensures)
+    let low : b .result ≤ lineStores (a .kind) - a .t17 .made = omega (arith, b .ensures, n) in
+    event-made (st s) (a .kind) (a .meter) T (a .t17 .made) (b .result) _ (a .n) (a .image .now) _ _ (rw n at (b .ensures)) (rw n) (c .before .before .before .before .if1 .taken)
+    (c .before .before .before .before .before .before .before .make-line-stores .ensures ∙ lines-made (st s) (a .kind) (a .meter) T (a .t17 .made) (b .result) (a .image .now) low) (c .before .before .make-event-commit .ensures)
 
 returns-2 : tie.Need-returns-2
 unfolding eventLines
@@ -54,7 +54,7 @@ returns-2 c =
     let a = s .args in
     let b = c .before .before .before .before .before .before .before .before .before2 in
     let n = c .before .before .before .before .before .before .before .before .before .line-stores .ensures in
-    all-made (st s) (a .kind) (a .meter) (s .pre .0) (a .t14 .made) (b .result) (a .n) (a .image .now) _ (rw n at (b .ensures)) (c .if1 .left) (c .before .before .before .make-line-stores .ensures)
+    all-made (st s) (a .kind) (a .meter) (s .pre .0) (a .t17 .made) (b .result) (a .n) (a .image .now) _ (rw n at (b .ensures)) (c .if1 .left) (c .before .before .before .make-line-stores .ensures)
 
 pub make-event-stores-spec : {M : Type 1} → statement M
 make-event-stores-spec =
