@@ -96,7 +96,7 @@ fn stored_row<'a>(
 
 // A refusal by a row.
 fn refused(row: usize) -> Loaded
-    requires { ⌜ row ≤ 27 ⌝ }
+    requires { ⌜ row ≤ 30 ⌝ }
     ensures { λ r. ⌜ (loadedOf r ≡ record { number = row; moduli = replicate 24 0 }) × (storesOf (r .answer) ≡ 0) ⌝ }
 {
     let answer = answers::answer_of(row, 0);

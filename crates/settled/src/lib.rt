@@ -1,10 +1,12 @@
-// What an operation leaves behind: nothing pending, and arrays of the slots changed in place.
+// What an operation leaves behind: nothing pending, a wide transaction or none, and arrays of the slots changed in place.
 ghost use mathlib.Core.Path.{_≡_};
 ghost use Prim.Native.Nat.{_<_};
 ghost use lib.ListN.{set};
+ghost use Rattle.state.specs.Wide.{begunWide};
 ghost use Rattle.refinement.specs.Settled.{noPending};
 use state::Op;
 use state::Pending;
+use state::Wide;
 
 // No operation pending.
 pub fn no_pending() -> Pending
@@ -16,6 +18,17 @@ pub fn no_pending() -> Pending
         line: [0; 8],
         second: [0; 8],
         frame: 0,
+    }
+}
+
+// A wide transaction begun by a writer; by writer 4 it is none.
+pub fn begun_wide(writer: usize) -> Wide
+    ensures { λ r. ⌜ r ≡ begunWide writer ⌝ }
+{
+    Wide {
+        writer,
+        count: 0,
+        keys: [0; 64],
     }
 }
 

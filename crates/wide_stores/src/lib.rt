@@ -162,6 +162,29 @@ pub fn make_copy_stores<'a>(
     }
 }
 
+// Closes writer w, if there is such a one.
+pub fn close(opened: &mut [bool; 4], w: usize)
+    ensures { λ _. ⌜ now (opened .exit) ≡ set (now (opened .entry)) w false ⌝ }
+{
+    if w > 3 {
+        let _opened = settled::four(opened);
+        return;
+    }
+    state::held::set_open(opened, w, false);
+}
+
+// Empties its held lines.
+pub fn let_go(z: Sizes, held: &mut [u64; 64], w: usize)
+    requires { ⌜ Legal z ⌝ }
+    ensures { λ _. ⌜ now (held .exit) ≡ letGo z (now (held .entry)) w ⌝ }
+{
+    if w > 3 {
+        let _held = settled::sixty_four(held);
+        return;
+    }
+    state::held::let_go(z, held, w);
+}
+
 // What a wide commit leaves: its writer, if there is one, is closed, and no entry is used.
 pub fn complete_copy(
     z: Sizes,
@@ -175,12 +198,7 @@ pub fn complete_copy(
     ensures held { λ _. ⌜ now (held .exit) ≡ letGo z (now (held .entry)) wide ⌝ }
     ensures keys { λ _. ⌜ now (keys .exit) ≡ noKeys ⌝ }
 {
+    close(opened, wide);
+    let_go(z, held, wide);
     *keys = [0u64; 64];
-    let _opened = settled::four(opened);
-    let _held = settled::sixty_four(held);
-    if wide > 3 {
-        return;
-    }
-    state::held::set_open(opened, wide, false);
-    state::held::let_go(z, held, wide);
 }

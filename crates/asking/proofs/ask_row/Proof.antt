@@ -1,5 +1,7 @@
 -- The rows that come first, then the operation's.
+use native.Mathlib.Omega.{arith}
 use borrow.Author.Needs.{needs}
+use Rattle.wide_stores.proofs.WideGoing.{entries-of}
 use Rattle.state.specs.declared.State.{State}
 use Rattle.state.specs.Parts.{stateOf}
 use Rattle.state.specs.Wide.{wideOf}
@@ -25,7 +27,7 @@ returns c =
     rows-first (quietRows (st s) (s .args .n)) (opRows (st s) (s .args .op) 0) _ (c .before .first-row .ensures) (c .if1 .taken)
 
 op-row-requires : tie.Need-op-row-requires
-op-row-requires c κs = let h = ranges-of (st (c .before .before)) (quiet1 c .ok) in (h .legal, h .head-low, h .tail-low, h .live-high, h .next-low)
+op-row-requires c κs = let h = ranges-of (st (c .before .before)) (quiet1 c .ok) in (h .legal, h .head-low, h .tail-low, h .live-high, h .next-low, omega (arith, entries-of (st (c .before .before)) (quiet1 c .ok) .few, h .legal .entries-high))
 
 returns-2 : tie.Need-returns-2
 returns-2 c =
