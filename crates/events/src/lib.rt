@@ -43,7 +43,7 @@ fn turned_back(row: usize) -> Found
     }
 }
 
-// Rows 8, 4, 9, 20 and 26 of an event, the image being of the length n.
+// Rows 8, 4, 9, 29, 20 and 26 of an event, the image being of the length n.
 fn start_row<'a>(
     z: Sizes,
     head: usize,
@@ -90,6 +90,9 @@ fn start_row<'a>(
     );
     if row != 0 {
         return row;
+    }
+    if wide < 4 {
+        return 29;
     }
     if !meters::is_known(kind, meter) {
         return 20;

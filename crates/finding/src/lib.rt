@@ -2,7 +2,7 @@
 // it then asks for.
 ghost use mathlib.Core.Path.{_≡_};
 ghost use mathlib.Core.Bool.{true, false, _&&_, cond};
-ghost use lib.Dec.{ltb};
+ghost use lib.Dec.{ltb, eqb};
 ghost use Prim.Native.Nat.{_+_, _<_, _≤_};
 ghost use lib.ListN.{length as listLength};
 ghost use Rattle.layout.specs.Layout.{Legal, imageLength};
@@ -11,7 +11,7 @@ ghost use Rattle.state.specs.Held.{heldAt};
 ghost use Rattle.state.specs.Parts.{stateOf};
 ghost use Rattle.state.specs.Wide.{wideOf};
 ghost use Rattle.image.specs.Lines.{merged as mergedOf, mergeChanges, lineWords};
-ghost use Rattle.state.specs.declared.Op.the-variants.{Write, Log};
+ghost use Rattle.state.specs.declared.Op.the-variants.{Write, Commit, Log, Copy};
 ghost use Rattle.finding.specs.Finding.{FramesFound, EntryFound, WriteFound, SeenLow, foundLine};
 use layout::Sizes;
 use lines::Merged;
@@ -313,4 +313,14 @@ pub fn write_needs(wide: bool) -> usize
     ensures { λ r. ⌜ r ≡ cond wide 9 8 ⌝ }
 {
     if wide { 9 } else { 8 }
+}
+
+// The operation that a commit asks for: the wide writer's is a copying.
+pub fn commit_op(wide: usize, writer: usize) -> Op
+    ensures { λ r. ⌜ r ≡ cond (eqb wide writer) Copy (Commit writer) ⌝ }
+{
+    if wide == writer {
+        return Op::Copy;
+    }
+    Op::Commit { writer }
 }

@@ -11,7 +11,7 @@ use state::Pending;
 use stores::Places;
 use stores::making::Made;
 
-// What a run came to, where head, tail and the next slot then are, who is prepared, and what is then pending.
+// What a run came to, where head, tail and the next slot then are, who is prepared, the wide writer and its entries, and what is then pending.
 pub struct Gone {
     pub made: Made,
     pub to: Places,
@@ -72,6 +72,8 @@ pub fn go_on(
             tail,
             next,
             prepared,
+            wide,
+            count,
         };
         return Gone { made, to, pending };
     }
