@@ -11,7 +11,7 @@ use model::mount::{format, recall};
 use model::refusal::Answer;
 use model::state::State;
 
-const SIZES: Sizes = Sizes { p: 2, s: 2, j: 4 };
+const SIZES: Sizes = Sizes { p: 2, s: 2, j: 4, l: 0 };
 
 /// A page's lines beyond these are not shown.
 const SHOWN: usize = 4;

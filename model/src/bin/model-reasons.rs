@@ -338,7 +338,7 @@ impl Store {
 
 fn show_met() {
     let mut image = vec![0; 12_480];
-    let mut state = format(Sizes { p: 2, s: 1, j: 2 }, &mut image).expect("a taken format");
+    let mut state = format(Sizes { p: 2, s: 1, j: 2, l: 0 }, &mut image).expect("a taken format");
     for writer in [3, 1, 0] {
         begin(&mut state, writer).expect("a taken begin");
     }
