@@ -19,8 +19,7 @@ use Rattle.refinement.specs.Calls.{stepRows, runOf}
 use Rattle.refinement.specs.Run.{Call, begin, commit, free, checkpoint, run, write, exec}
 use Rattle.refinement.specs.Reference.{Cell, none, byte, laidOver, Task, writing, committing, moving, nothing, Work, idle, under, copying, Reference, withWork, does, starts, continues, advances, taken, turn}
 use Rattle.refinement.specs.Statement.{Lent}
-use Rattle.refinement.proofs.Cases.{Invariant}
-use Rattle.refinement.proofs.Standing.{Standing}
+use Rattle.refinement.proofs.Cases.{Invariant, standing-of}
 use Rattle.refinement.proofs.Viewed.{viewed-fits}
 use Rattle.refinement.proofs.Reached.{Reached, reached-next}
 

@@ -22,6 +22,7 @@ use Rattle.refinement.specs.Stores.{World}
 use Rattle.refinement.specs.Run.{recall, exec}
 use Rattle.refinement.specs.Recall.{recallRow}
 use Rattle.refinement.specs.Reference.{blank, recallLine}
+use Rattle.refinement.proofs.Cases.{standing-of}
 use Rattle.refinement.proofs.CaseSound.{call-sound}
 use Rattle.refinement.proofs.Reached.{reached-first}
 use Rattle.refinement.proofs.RecallCall.{row-is}
