@@ -1,5 +1,5 @@
 #!/usr/bin/env bash
-# The C host on images cut after each store of a commit: it prints what the independent model computed of each.
+# The C host on images cut after each store of a commit and of a wide one: it prints what the independent model computed of each.
 # KEEP_ARCHIVE=1 takes the archive that stands in target/staticlib, where it was proved before.
 set -euo pipefail
 cd "$(dirname "${BASH_SOURCE[0]}")/.."

@@ -7,10 +7,10 @@ use crate::meters::{moduli_fit, read_moduli, Asked};
 use crate::plan::{complete, plan};
 use crate::refusal::{row, Answer, Refusal::*};
 use crate::rows::{
-    abort_rows, begin_rows, commit_rows, confirm_rows, consolidate_rows, event_rows, frame_row, free_rows, known_row,
-    place_rows, room_row, write_rows,
+    abort_rows, begin_rows, begin_wide_rows, commit_rows, confirm_rows, consolidate_rows, event_rows,
+    frame_row, free_rows, known_rows, log_rows, place_rows, prepare_rows, room_row, write_rows,
 };
-use crate::state::{Event, Operation, Pending, State, Write};
+use crate::state::{Event, Log, Operation, Pending, State, Wide, Write};
 use crate::validity::is_broken;
 
 pub fn begin(state: &mut State, writer: u64) -> Answer<u64> {
@@ -21,11 +21,25 @@ pub fn begin(state: &mut State, writer: u64) -> Answer<u64> {
     Ok(0)
 }
 
+/// A transaction that needs no slots (document 02, L14).
+pub fn begin_wide(state: &mut State, writer: u64) -> Answer<u64> {
+    row(BrokenState, is_broken(state))?;
+    row(OperationPending, state.pending.is_some())?;
+    begin_wide_rows(state, writer)?;
+    state.writers[writer as usize].open = true;
+    state.wide = Wide { writer: Some(writer), keys: vec![] };
+    Ok(0)
+}
+
 pub fn abort(state: &mut State, writer: u64) -> Answer<u64> {
     row(BrokenState, is_broken(state))?;
     row(OperationPending, state.pending.is_some())?;
     abort_rows(state, writer)?;
-    state.close(writer);
+    if state.is_wide(writer) {
+        state.close_wide();
+    } else {
+        state.close(writer);
+    }
     Ok(0)
 }
 
@@ -45,30 +59,47 @@ pub fn write(
 ) -> Answer<u64> {
     idle_rows(state, image)?;
     row(BadArgument, (patch.data.len() as u64) < patch.length)?;
-    write_rows(state, (writer, page, line), (patch.offset, patch.length))?;
+    let place = (writer, page, line);
+    let Patch { offset, length, data } = patch;
+    let wide = state.is_wide(writer);
+    if wide {
+        log_rows(state, place, (offset, length))?;
+    } else {
+        write_rows(state, place, (offset, length))?;
+    }
     let frame = page_frame(state, image, page)?;
     let shown = line_shown(state, image, (writer, page, line), frame);
     let mut finished = shown;
-    let (from, length) = (patch.offset as usize, patch.length as usize);
-    finished[from..from + length].copy_from_slice(&patch.data[..length]);
-    let held = state.slot_of(page).is_some_and(|slot| state.holds(writer, slot, line));
-    if held && finished == shown {
+    finished[offset as usize..(offset + length) as usize].copy_from_slice(&data[..length as usize]);
+    if has_own(state, place) && finished == shown {
         return Ok(0);
     }
-    let Patch { offset, length, .. } = patch;
-    Ok(ask(state, Operation::Write(Write { writer, page, line, offset, length, frame, finished })))
+    let operation = if wide {
+        Operation::Log(Log { page, line, offset, length, frame, finished })
+    } else {
+        Operation::Write(Write { writer, page, line, offset, length, frame, finished })
+    };
+    Ok(ask(state, operation))
+}
+
+/// Whether a writer has a copy of its own of a line: an entry of the wide one's, or a held line.
+fn has_own(state: &State, (writer, page, line): (u64, u64, u64)) -> bool {
+    if state.is_wide(writer) {
+        return state.wide.entry_of(page, line).is_some();
+    }
+    state.slot_of(page).is_some_and(|slot| state.holds(writer, slot, line))
 }
 
 pub fn commit(state: &mut State, image: &[u8], writer: u64) -> Answer<u64> {
     idle_rows(state, image)?;
     commit_rows(state, writer)?;
-    Ok(ask(state, Operation::Commit { writer }))
+    Ok(ask(state, if state.is_wide(writer) { Operation::Copy } else { Operation::Commit { writer } }))
 }
 
 /// Stores a writer's records, and no head.
 pub fn prepare(state: &mut State, image: &[u8], writer: u64) -> Answer<u64> {
     idle_rows(state, image)?;
-    commit_rows(state, writer)?;
+    prepare_rows(state, writer)?;
     Ok(ask(state, Operation::Prepare { writer }))
 }
 
@@ -105,10 +136,10 @@ pub fn checkpoint(state: &mut State, image: &[u8]) -> Answer<u64> {
     Ok(ask(state, Operation::Checkpoint))
 }
 
-/// An event of document 02, lent the moduli: its meters' lines and the record that commits them. Rows 20, 26, 12, 23, 14, 15, 16, 21, 19.
+/// An event of document 02, lent the moduli: its meters' lines and the record that commits them. Rows 29, 20, 26, 12, 23, 14, 15, 16, 21, 19.
 pub fn event(state: &mut State, image: &[u8], asked: Asked, moduli: &[u64]) -> Answer<u64> {
     idle_rows(state, image)?;
-    known_row(asked)?;
+    known_rows(state, asked)?;
     row(ModulusOutOfRange, !moduli_fit(moduli))?;
     event_rows(state, asked)?;
     let frame = page_frame(state, image, 0)?;
@@ -189,13 +220,16 @@ fn page_frame(state: &State, image: &[u8], page: u64) -> Answer<u64> {
     Ok(frame)
 }
 
-/// The line as a writer reads it: its own copy if held, else the committed one.
+/// The line as a writer reads it: its own copy if it has one, else the committed one.
 fn line_shown(
     state: &State,
     image: &[u8],
     (writer, page, line): (u64, u64, u64),
     page_frame: u64,
 ) -> [u8; 64] {
+    if let Some(entry) = state.wide.entry_of(page, line).filter(|_| state.is_wide(writer)) {
+        return line_at(image, state.sizes.entry_word(entry, 1));
+    }
     let frame = match state.slot_of(page) {
         None => page_frame,
         Some(slot) if state.holds(writer, slot, line) => state.slots[slot].other_frame(line),

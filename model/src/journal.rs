@@ -57,7 +57,7 @@ pub fn record_holds(sizes: Sizes, position: u64, record: Record, before: Option<
 mod tests {
     use super::*;
 
-    const SIZES: Sizes = Sizes { p: 3, s: 3, j: 3 };
+    const SIZES: Sizes = Sizes { p: 3, s: 3, j: 3, l: 0 };
 
     #[test]
     fn head_below_tail_goes_round() {

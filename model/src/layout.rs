@@ -13,23 +13,43 @@ pub const J_AT: usize = 16;
 pub const LAYOUT_AT: usize = 24;
 pub const HEAD_AT: usize = 32;
 pub const TAIL_AT: usize = 40;
+/// Read under layout 2 alone (document 02, L14): how many entries are committed and not yet copied, and L.
+pub const COUNT_AT: usize = 48;
+pub const ENTRIES_AT: usize = 56;
 
 pub const LAYOUT: u64 = 1;
+pub const WIDE_LAYOUT: u64 = 2;
+
+/// An entry: a word for its page and line, and the line.
+pub const ENTRY: u64 = WORD + LINE;
 
 pub const MOST_SLOTS: usize = 16;
 
-/// P pages, S slots and J journal places. Any numbers until `in_range` was asked; the other
+/// P pages, S slots, J journal places and L entries. Any numbers until `in_range` was asked; the other
 /// functions are for sizes in range.
 #[derive(Clone, Copy, Debug, Default, PartialEq, Eq)]
 pub struct Sizes {
     pub p: u64,
     pub s: u64,
     pub j: u64,
+    pub l: u64,
 }
 
 impl Sizes {
     pub fn in_range(self) -> bool {
-        (1..=1024).contains(&self.p) && (1..=16).contains(&self.s) && (self.s..=256).contains(&self.j)
+        (1..=1024).contains(&self.p)
+            && (1..=16).contains(&self.s)
+            && (self.s..=256).contains(&self.j)
+            && self.l <= 64
+    }
+
+    /// The layout of an image of these sizes.
+    pub fn layout(self) -> u64 {
+        if self.l == 0 {
+            LAYOUT
+        } else {
+            WIDE_LAYOUT
+        }
     }
 
     /// F, the number of frames.
@@ -63,8 +83,13 @@ impl Sizes {
         (self.frames_start() + frame * FRAME + line * LINE) as usize
     }
 
+    /// Word i (0 to 8) of an entry; the entries follow the frames.
+    pub fn entry_word(self, entry: u64, i: u64) -> usize {
+        (self.frames_start() + self.frames() * FRAME + entry * ENTRY + i * WORD) as usize
+    }
+
     pub fn image_length(self) -> usize {
-        (self.frames_start() + self.frames() * FRAME) as usize
+        self.entry_word(self.l, 0)
     }
 }
 
@@ -74,7 +99,7 @@ mod tests {
 
     #[test]
     fn the_small_image_of_document_01() {
-        let sizes = Sizes { p: 2, s: 1, j: 2 };
+        let sizes = Sizes { p: 2, s: 1, j: 2, l: 0 };
         assert_eq!(sizes.frames_start(), 192);
         assert_eq!(sizes.image_length(), 12_480);
         assert_eq!(sizes.line_start(2, 0), 8_384);
@@ -82,7 +107,9 @@ mod tests {
 
     #[test]
     fn ranges_have_both_ends() {
-        let ok = |p, s, j| Sizes { p, s, j }.in_range();
+        let ok = |p, s, j| Sizes { p, s, j, l: 0 }.in_range();
+        let entries = |l| Sizes { p: 1, s: 1, j: 1, l }.in_range();
+        assert!(entries(0) && entries(1) && entries(64) && !entries(65) && !entries(u64::MAX));
         assert!(ok(1, 1, 1) && ok(1024, 16, 256) && ok(1, 16, 16));
         assert!(!ok(0, 1, 1) && !ok(1025, 1, 1));
         assert!(!ok(1, 0, 0) && !ok(1, 0, 1) && !ok(1, 17, 17));
@@ -93,7 +120,15 @@ mod tests {
     #[test]
     fn tables_that_end_on_64_bytes_need_no_padding() {
         // 64 + 8 + 24 + 32 = 128.
-        assert_eq!(Sizes { p: 1, s: 1, j: 1 }.frames_start(), 128);
-        assert_eq!(Sizes { p: 2, s: 1, j: 1 }.frames_start(), 192);
+        assert_eq!(Sizes { p: 1, s: 1, j: 1, l: 0 }.frames_start(), 128);
+        assert_eq!(Sizes { p: 2, s: 1, j: 1, l: 0 }.frames_start(), 192);
+    }
+
+    #[test]
+    fn entries_of_nine_words_follow_the_frames() {
+        let sizes = Sizes { p: 2, s: 1, j: 2, l: 3 };
+        assert_eq!((sizes.frames_start(), sizes.layout()), (192, 2));
+        assert_eq!((sizes.entry_word(0, 0), sizes.entry_word(1, 8)), (12_480, 12_616));
+        assert_eq!(sizes.image_length(), 12_480 + 3 * 72);
     }
 }

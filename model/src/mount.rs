@@ -2,10 +2,13 @@
 
 use crate::image::{line as line_at, put_word, word};
 use crate::journal::{bounds_hold, live_positions, record_holds, Record};
-use crate::layout::{Sizes, HEADER, HEAD_AT, J_AT, LAYOUT, LAYOUT_AT, LINES, P_AT, S_AT, TAIL_AT};
+use crate::layout::{
+    Sizes, COUNT_AT, ENTRIES_AT, HEADER, HEAD_AT, J_AT, LAYOUT, LAYOUT_AT, LINES, P_AT, S_AT, TAIL_AT,
+    WIDE_LAYOUT,
+};
 use crate::refusal::{row, Answer, Refusal::*};
 use crate::slots::{page_twice, slot_owning, Slot};
-use crate::state::State;
+use crate::state::{Operation, Pending, State, Wide};
 
 /// Writes a fresh image and gives its state. Bytes past the image stay.
 pub fn format(sizes: Sizes, buffer: &mut [u8]) -> Answer<State> {
@@ -16,7 +19,8 @@ pub fn format(sizes: Sizes, buffer: &mut [u8]) -> Answer<State> {
     put_word(image, P_AT, sizes.p);
     put_word(image, S_AT, sizes.s);
     put_word(image, J_AT, sizes.j);
-    put_word(image, LAYOUT_AT, LAYOUT);
+    put_word(image, LAYOUT_AT, sizes.layout());
+    put_word(image, ENTRIES_AT, sizes.l);
     for page in 0..sizes.p {
         put_word(image, sizes.page_word(page), page);
     }
@@ -31,19 +35,34 @@ pub fn format(sizes: Sizes, buffer: &mut [u8]) -> Answer<State> {
     Ok(state)
 }
 
-/// Reads an image: slot table, then live records in order, each replacing its slot.
+/// Reads an image: slot table, then live records in order, each replacing its slot. Entries that are committed are still
+/// to be copied, from the first on: that is pending.
 pub fn mount(buffer: &[u8]) -> Answer<State> {
     let sizes = mounted_sizes(buffer)?;
     let (head, tail) = (word(buffer, HEAD_AT), word(buffer, TAIL_AT));
     row(JournalBounds, !bounds_hold(sizes, head, tail))?;
     let live = live_positions(sizes, head, tail);
+    let wide = committed_entries(buffer, sizes)?;
     row(BadRecord, !records_hold(buffer, sizes, &live))?;
-    let state = replay(buffer, sizes, (head, tail), &live);
+    let mut state = replay(buffer, sizes, (head, tail), &live);
     row(BadTables, !tables_hold(buffer, &state))?;
+    let copying = Pending { operation: Operation::Copy, made: 1 };
+    state.pending = (!wide.keys.is_empty()).then_some(copying);
+    state.wide = wide;
     Ok(state)
 }
 
-/// Mounts, copies one committed line to the target's start and forgets.
+/// The entries that word 6 counts, past row 6.
+fn committed_entries(buffer: &[u8], sizes: Sizes) -> Answer<Wide> {
+    let count = if sizes.l == 0 { 0 } else { word(buffer, COUNT_AT) };
+    row(BadRecord, count > sizes.l)?;
+    let keys = (0..count).map(|entry| word(buffer, sizes.entry_word(entry, 0))).collect();
+    let wide = Wide { writer: None, keys };
+    row(BadRecord, !wide.entries_hold(sizes))?;
+    Ok(wide)
+}
+
+/// Mounts, copies one committed line to the target's start and forgets. A line with a committed entry is the entry's.
 pub fn recall(page: u64, line: u64, buffer: &[u8], target: &mut [u8]) -> Answer<()> {
     let state = mount(buffer)?;
     row(BadArgument, page >= state.sizes.p || line >= LINES || target.len() < 64)?;
@@ -51,16 +70,22 @@ pub fn recall(page: u64, line: u64, buffer: &[u8], target: &mut [u8]) -> Answer<
         Some(slot) => state.slots[slot].committed_frame(line),
         None => word(buffer, state.sizes.page_word(page)),
     };
-    target[..64].copy_from_slice(&line_at(buffer, state.sizes.line_start(frame, line)));
+    let at = match state.wide.entry_of(page, line) {
+        Some(entry) => state.sizes.entry_word(entry, 1),
+        None => state.sizes.line_start(frame, line),
+    };
+    target[..64].copy_from_slice(&line_at(buffer, at));
     Ok(())
 }
 
 /// Rows 1 to 4.
 fn mounted_sizes(buffer: &[u8]) -> Answer<Sizes> {
     row(UnderHeader, buffer.len() < HEADER as usize)?;
-    row(UnknownLayout, word(buffer, LAYOUT_AT) != LAYOUT)?;
-    let sizes = Sizes { p: word(buffer, P_AT), s: word(buffer, S_AT), j: word(buffer, J_AT) };
-    row(SizesOutOfRange, !sizes.in_range())?;
+    let layout = word(buffer, LAYOUT_AT);
+    row(UnknownLayout, ![LAYOUT, WIDE_LAYOUT].contains(&layout))?;
+    let l = if layout == LAYOUT { 0 } else { word(buffer, ENTRIES_AT) };
+    let sizes = Sizes { p: word(buffer, P_AT), s: word(buffer, S_AT), j: word(buffer, J_AT), l };
+    row(SizesOutOfRange, !sizes.in_range() || sizes.layout() != layout)?;
     row(BufferShort, buffer.len() < sizes.image_length())?;
     Ok(sizes)
 }

@@ -2,15 +2,40 @@
 
 use crate::image::{put_word, word};
 use crate::journal::{position_after, Record};
-use crate::layout::{Sizes, HEAD_AT, TAIL_AT};
+use crate::layout::{Sizes, COUNT_AT, HEAD_AT, LINES, TAIL_AT};
 use crate::slots::{lines_of, Slot};
-use crate::state::{Event, Operation, State, Write};
+use crate::state::{Event, Log, Operation, State, Wide, Write};
 
 /// One store: a word's address and what goes there.
 #[derive(Clone, Copy, Debug, PartialEq, Eq)]
 pub struct Store {
-    pub at: usize,
+    pub at: Place,
     pub value: Value,
+}
+
+#[derive(Clone, Copy, Debug, PartialEq, Eq)]
+pub enum Place {
+    At(usize),
+    /// A word of a line of a page without a slot, in the frame that its page-table word names when the store is made. The
+    /// remainder keeps a store inside an image whose page table is wrong.
+    InPage {
+        sizes: Sizes,
+        page: u64,
+        line: u64,
+        i: u64,
+    },
+}
+
+impl Place {
+    pub fn address(self, image: &[u8]) -> usize {
+        match self {
+            Place::At(at) => at,
+            Place::InPage { sizes, page, line, i } => {
+                let frame = word(image, sizes.page_word(page)) % sizes.frames();
+                sizes.line_start(frame, line) + 8 * i as usize
+            }
+        }
+    }
 }
 
 #[derive(Clone, Copy, Debug, PartialEq, Eq)]
@@ -26,7 +51,7 @@ impl Store {
             Value::Word(value) => value,
             Value::CopyOf(from) => word(image, from),
         };
-        put_word(image, self.at, value);
+        put_word(image, self.at.address(image), value);
     }
 }
 
@@ -40,6 +65,8 @@ pub fn plan(state: &State, operation: &Operation) -> Vec<Store> {
         Operation::Event(event) => event_plan(state, event),
         Operation::Prepare { writer } => commit_records(state, *writer),
         Operation::Confirm { writer } => head_store(state, *writer),
+        Operation::Log(log) => log_plan(state, log),
+        Operation::Copy => copy_plan(state),
     }
 }
 
@@ -56,11 +83,13 @@ pub fn complete(state: &mut State, operation: &Operation) {
             complete_commit(state, *writer);
             state.prepared = None;
         }
+        Operation::Log(log) => complete_log(state, log),
+        Operation::Copy => state.close_wide(),
     }
 }
 
 fn put(at: usize, value: u64) -> Store {
-    Store { at, value: Value::Word(value) }
+    Store { at: Place::At(at), value: Value::Word(value) }
 }
 
 /// The finished line goes to the frame that is not the committed one.
@@ -160,7 +189,7 @@ fn consolidate_plan(state: &State, page: u64) -> Vec<Store> {
     for line in lines {
         for i in 0..8 {
             let value = Value::CopyOf(sizes.line_start(from, line) + 8 * i);
-            stores.push(Store { at: sizes.line_start(to, line) + 8 * i, value });
+            stores.push(Store { at: Place::At(sizes.line_start(to, line) + 8 * i), value });
         }
     }
     stores.push(put(sizes.page_word(page), to));
@@ -188,7 +217,7 @@ fn checkpoint_plan(state: &State) -> Vec<Store> {
         let last = state.last[slot].expect("the slot has a last record");
         for i in 0..3 {
             let value = Value::CopyOf(sizes.record_word(last, i + 1));
-            stores.push(Store { at: sizes.slot_word(slot as u64, i), value });
+            stores.push(Store { at: Place::At(sizes.slot_word(slot as u64, i)), value });
         }
     }
     stores.push(put(TAIL_AT, state.head));
@@ -233,4 +262,43 @@ fn complete_event(state: &mut State, event: &Event) {
     state.slots[number] = after;
     state.last[number] = Some(state.head);
     state.head = position_after(state.sizes, state.head, 1);
+}
+
+/// The line's entry, the next one if it has none: page × 64 + line, then the finished line.
+fn log_plan(state: &State, log: &Log) -> Vec<Store> {
+    let next = state.wide.keys.len() as u64;
+    let entry = state.wide.entry_of(log.page, log.line).unwrap_or(next);
+    let line = (0..8).map(|i| word(&log.finished, 8 * i));
+    let words = [Wide::key(log.page, log.line)].into_iter().chain(line);
+    (0..).zip(words).map(|(i, value)| put(state.sizes.entry_word(entry, i), value)).collect()
+}
+
+fn complete_log(state: &mut State, log: &Log) {
+    if state.wide.entry_of(log.page, log.line).is_none() {
+        state.wide.keys.push(Wide::key(log.page, log.line));
+    }
+}
+
+/// The count of the entries, each entry's line over its committed copy, then 0 over the count.
+fn copy_plan(state: &State) -> Vec<Store> {
+    let (sizes, keys) = (state.sizes, &state.wide.keys);
+    if keys.is_empty() {
+        return vec![];
+    }
+    let mut stores = vec![put(COUNT_AT, keys.len() as u64)];
+    for (entry, key) in (0..).zip(keys) {
+        let (page, line) = (key / LINES, key % LINES);
+        for i in 0..8 {
+            let at = match state.slot_of(page) {
+                Some(slot) => {
+                    let frame = state.slots[slot].committed_frame(line);
+                    Place::At(sizes.line_start(frame, line) + 8 * i as usize)
+                }
+                None => Place::InPage { sizes, page, line, i },
+            };
+            stores.push(Store { at, value: Value::CopyOf(sizes.entry_word(entry, i + 1)) });
+        }
+    }
+    stores.push(put(COUNT_AT, 0));
+    stores
 }

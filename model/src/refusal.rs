@@ -34,6 +34,10 @@ pub enum Refusal {
     BadTableLine = 25,
     ModulusOutOfRange = 26,
     MeterNotBelow = 27,
+    /// Document 02, "Rounds wider than the slots".
+    NoWideRounds = 28,
+    OtherOpen = 29,
+    EntriesUsed = 30,
 }
 
 impl Refusal {

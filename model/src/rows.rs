@@ -18,7 +18,19 @@ fn page_row(state: &State, page: u64) -> Answer<()> {
 
 pub fn begin_rows(state: &State, writer: u64) -> Answer<()> {
     writer_row(writer)?;
+    beside_row(state)?;
     row(WriterOpen, state.is_open(writer))
+}
+
+pub fn begin_wide_rows(state: &State, writer: u64) -> Answer<()> {
+    writer_row(writer)?;
+    row(NoWideRounds, state.sizes.l == 0)?;
+    row(OtherOpen, state.writers.iter().any(|writer| writer.open))
+}
+
+/// Row 29 for what nobody may do while a wide transaction is open.
+fn beside_row(state: &State) -> Answer<()> {
+    row(OtherOpen, state.wide.writer.is_some())
 }
 
 pub fn abort_rows(state: &State, writer: u64) -> Answer<()> {
@@ -50,12 +62,28 @@ pub fn write_rows(
     (offset, length): (u64, u64),
 ) -> Answer<()> {
     place_rows(state, writer, page, line)?;
-    row(BadArgument, length == 0)?;
-    row(BadArgument, u128::from(offset) + u128::from(length) > 64)?;
+    length_row(offset, length)?;
     row(WriterClosed, !state.is_open(writer))?;
     own_row(state, writer)?;
     row(LineHeld, held_by_another(state, writer, page, line))?;
     row(NoFreeSlot, state.slot_of(page).is_none() && state.first_free().is_none())
+}
+
+/// Rows 11 (without the data), 13 and 30 of the wide writer's write, which takes no slot; nobody else holds a line.
+pub fn log_rows(
+    state: &State,
+    (writer, page, line): (u64, u64, u64),
+    (offset, length): (u64, u64),
+) -> Answer<()> {
+    place_rows(state, writer, page, line)?;
+    length_row(offset, length)?;
+    row(WriterClosed, !state.is_open(writer))?;
+    let used = state.wide.keys.len() as u64;
+    row(EntriesUsed, state.wide.entry_of(page, line).is_none() && used >= state.sizes.l)
+}
+
+fn length_row(offset: u64, length: u64) -> Answer<()> {
+    row(BadArgument, length == 0 || u128::from(offset) + u128::from(length) > 64)
 }
 
 fn held_by_another(state: &State, writer: u64, page: u64, line: u64) -> bool {
@@ -69,12 +97,24 @@ pub fn frame_row(state: &State, frame: u64) -> Answer<()> {
     row(BadPageWord, frame >= state.sizes.frames() || of_a_slot)
 }
 
-/// For commit and prepare.
+/// Row 29 comes right after 11.
+pub fn prepare_rows(state: &State, writer: u64) -> Answer<()> {
+    writer_row(writer)?;
+    beside_row(state)?;
+    commit_rows(state, writer)
+}
+
+/// For commit, and the rest of prepare.
 pub fn commit_rows(state: &State, writer: u64) -> Answer<()> {
     writer_row(writer)?;
     row(WriterClosed, !state.is_open(writer))?;
     alone_row(state)?;
     room_row(state, state.slots_held(writer).len() as u64)
+}
+
+/// What is left of a commit's rows for a copying, which may be without a writer and appends no record.
+pub fn copy_rows(state: &State) -> Answer<()> {
+    alone_row(state)
 }
 
 /// For confirm and withdraw.
@@ -91,8 +131,9 @@ pub fn consolidate_rows(state: &State, page: u64) -> Answer<()> {
     room_row(state, 1)
 }
 
-/// Row 20.
-pub fn known_row(asked: Asked) -> Answer<()> {
+/// Rows 29 and 20.
+pub fn known_rows(state: &State, asked: Asked) -> Answer<()> {
+    beside_row(state)?;
     row(UnknownEvent, asked.meters().is_empty())
 }
 

@@ -93,7 +93,7 @@ pub fn page_twice(slots: &[Slot], sizes: Sizes) -> bool {
 mod tests {
     use super::*;
 
-    const SIZES: Sizes = Sizes { p: 2, s: 2, j: 2 };
+    const SIZES: Sizes = Sizes { p: 2, s: 2, j: 2, l: 0 };
 
     #[test]
     fn the_words_of_a_slot_come_back() {

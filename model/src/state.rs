@@ -1,6 +1,6 @@
 //! What the host keeps between calls.
 
-use crate::layout::{Sizes, MOST_SLOTS};
+use crate::layout::{Sizes, LINES, MOST_SLOTS};
 use crate::meters::Asked;
 use crate::slots::{has_line, slot_owning, Slot};
 
@@ -21,6 +21,7 @@ pub struct State {
     pub writers: [Writer; WRITERS],
     /// The writer whose records are stored and wait for their confirm.
     pub prepared: Option<u64>,
+    pub wide: Wide,
     pub pending: Option<Pending>,
 }
 
@@ -29,6 +30,31 @@ pub struct Writer {
     pub open: bool,
     /// For each slot the set of lines held there.
     pub held: [u64; MOST_SLOTS],
+}
+
+/// The entries in use (document 02, L14): a wide transaction's or, with no writer, those that a mount found committed.
+#[derive(Clone, Debug, Default, PartialEq, Eq)]
+pub struct Wide {
+    pub writer: Option<u64>,
+    /// Of each entry its first word, page × 64 + line.
+    pub keys: Vec<u64>,
+}
+
+impl Wide {
+    pub fn key(page: u64, line: u64) -> u64 {
+        page * LINES + line
+    }
+
+    /// The entry of a line, if it has one.
+    pub fn entry_of(&self, page: u64, line: u64) -> Option<u64> {
+        self.keys.iter().position(|&key| key == Wide::key(page, line)).map(|entry| entry as u64)
+    }
+
+    /// At most L entries, each of a line of a page below P, none of a line twice.
+    pub fn entries_hold(&self, sizes: Sizes) -> bool {
+        let once = |key| self.keys.iter().filter(|other| *other == key).count() == 1;
+        self.keys.len() as u64 <= sizes.l && self.keys.iter().all(|key| key / LINES < sizes.p && once(key))
+    }
 }
 
 #[derive(Clone, Debug, PartialEq, Eq)]
@@ -41,12 +67,24 @@ pub struct Pending {
 #[derive(Clone, Debug, PartialEq, Eq)]
 pub enum Operation {
     Write(Write),
-    Commit { writer: u64 },
-    Consolidate { page: u64 },
+    Commit {
+        writer: u64,
+    },
+    Consolidate {
+        page: u64,
+    },
     Checkpoint,
     Event(Event),
-    Prepare { writer: u64 },
-    Confirm { writer: u64 },
+    Prepare {
+        writer: u64,
+    },
+    Confirm {
+        writer: u64,
+    },
+    /// A write by the wide writer.
+    Log(Log),
+    /// The wide writer's commit, or what a mount found of one.
+    Copy,
 }
 
 #[derive(Clone, Debug, PartialEq, Eq)]
@@ -59,6 +97,18 @@ pub struct Write {
     /// The page's frame; for a slotted page its original.
     pub frame: u64,
     /// The whole line as it will be stored.
+    pub finished: [u8; 64],
+}
+
+/// A write of the wide writer, which goes to an entry.
+#[derive(Clone, Debug, PartialEq, Eq)]
+pub struct Log {
+    pub page: u64,
+    pub line: u64,
+    pub offset: u64,
+    pub length: u64,
+    /// The page's frame; for a slotted page its original.
+    pub frame: u64,
     pub finished: [u8; 64],
 }
 
@@ -84,6 +134,7 @@ impl State {
             last: [None; MOST_SLOTS],
             writers: [Writer::default(); WRITERS],
             prepared: None,
+            wide: Wide::default(),
             pending: None,
         }
     }
@@ -127,11 +178,23 @@ impl State {
         (0..self.slot_count()).filter(|&slot| self.last[slot].is_some()).collect()
     }
 
+    pub fn is_wide(&self, writer: u64) -> bool {
+        self.wide.writer == Some(writer)
+    }
+
     /// Closes a writer and empties its held lines.
     pub fn close(&mut self, writer: u64) {
         let count = self.slot_count();
         let writer = &mut self.writers[writer as usize];
         writer.open = false;
         writer.held[..count].fill(0);
+    }
+
+    /// No wide transaction is left; its writer, if it has one, is closed.
+    pub fn close_wide(&mut self) {
+        if let Some(writer) = self.wide.writer {
+            self.close(writer);
+        }
+        self.wide = Wide::default();
     }
 }

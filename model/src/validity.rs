@@ -2,11 +2,13 @@
 
 use crate::journal::{bounds_hold, live_positions};
 use crate::plan::plan;
+use crate::refusal::Answer;
 use crate::rows::{
-    commit_rows, confirm_rows, consolidate_rows, event_rows, frame_row, known_row, room_row, write_rows,
+    commit_rows, confirm_rows, consolidate_rows, copy_rows, event_rows, frame_row, known_rows, log_rows,
+    prepare_rows, room_row, write_rows,
 };
 use crate::slots::{frames_named, page_twice};
-use crate::state::{Operation, Pending, State, WRITERS};
+use crate::state::{Operation, Pending, State, Write, WRITERS};
 
 /// What breaks a state. All are row 8; they are told apart only to see what tests reach.
 #[derive(Clone, Copy, Debug, PartialEq, Eq, PartialOrd, Ord)]
@@ -24,6 +26,13 @@ pub enum Breach {
     LastTwice,
     PreparedClosed,
     PreparedTooLong,
+    Entries,
+    WideClosed,
+    WidePrepared,
+    WideBesideHeld,
+    WideBesideOpen,
+    /// A write or commit by the wide writer that is pending as if it had slots.
+    PendingNarrow,
     PendingRefused(u8),
     PendingFrame,
     PendingMade,
@@ -46,6 +55,8 @@ pub fn breach(state: &State) -> Option<Breach> {
         .or_else(|| held_breach(state))
         .or_else(|| last_breach(state))
         .or_else(|| state.prepared.and_then(|writer| prepared_breach(state, writer)))
+        .or_else(|| (!state.wide.entries_hold(state.sizes)).then_some(Breach::Entries))
+        .or_else(|| state.wide.writer.and_then(|writer| wide_breach(state, writer)))
         .or_else(|| state.pending.as_ref().and_then(|pending| pending_breach(state, pending)))
 }
 
@@ -103,26 +114,58 @@ fn prepared_breach(state: &State, writer: u64) -> Option<Breach> {
     room_row(state, new).is_err().then_some(Breach::PreparedTooLong)
 }
 
-/// A pending call that a row from 11 on would turn back, or that has no store left to make.
-fn pending_breach(state: &State, pending: &Pending) -> Option<Breach> {
-    let rows = match &pending.operation {
+/// A wide writer is open and alone, is not prepared, and nobody holds a line.
+fn wide_breach(state: &State, writer: u64) -> Option<Breach> {
+    if !state.is_open(writer) {
+        return Some(Breach::WideClosed);
+    }
+    if state.prepared == Some(writer) {
+        return Some(Breach::WidePrepared);
+    }
+    let all = 0..WRITERS as u64;
+    if all.clone().any(|other| !state.slots_held(other).is_empty()) {
+        return Some(Breach::WideBesideHeld);
+    }
+    let mut others = all.filter(|&other| other != writer);
+    others.any(|other| state.is_open(other)).then_some(Breach::WideBesideOpen)
+}
+
+/// The rows from 11 on for a pending call, 16 aside. A copying without a writer has no 11 and no 13.
+fn pending_rows(state: &State, operation: &Operation) -> Answer<()> {
+    match operation {
         Operation::Write(write) => {
             write_rows(state, (write.writer, write.page, write.line), (write.offset, write.length))
         }
-        Operation::Commit { writer } | Operation::Prepare { writer } => commit_rows(state, *writer),
+        Operation::Commit { writer } => commit_rows(state, *writer),
+        Operation::Prepare { writer } => prepare_rows(state, *writer),
         Operation::Confirm { writer } => confirm_rows(state, *writer),
         Operation::Consolidate { page } => consolidate_rows(state, *page),
         Operation::Checkpoint => Ok(()),
         // row 21 is left out, as document 02 says
-        Operation::Event(event) => known_row(event.asked)
+        Operation::Event(event) => known_rows(state, event.asked)
             .and_then(|()| event_rows(state, event.asked))
             .and_then(|()| room_row(state, 1)),
-    };
-    if let Err(refusal) = rows {
+        Operation::Log(log) => {
+            let writer = state.wide.writer.unwrap_or(WRITERS as u64);
+            log_rows(state, (writer, log.page, log.line), (log.offset, log.length))
+        }
+        Operation::Copy => copy_rows(state),
+    }
+}
+
+/// A pending call that a row from 11 on would turn back, or that has no store left to make.
+fn pending_breach(state: &State, pending: &Pending) -> Option<Breach> {
+    if let Operation::Write(Write { writer, .. }) | Operation::Commit { writer } = &pending.operation {
+        if state.is_wide(*writer) {
+            return Some(Breach::PendingNarrow);
+        }
+    }
+    if let Err(refusal) = pending_rows(state, &pending.operation) {
         return Some(Breach::PendingRefused(refusal.number()));
     }
     let stands = match &pending.operation {
         Operation::Write(write) => frame_stands(state, write.page, write.frame),
+        Operation::Log(log) => frame_stands(state, log.page, log.frame),
         Operation::Event(event) => frame_stands(state, 0, event.frame),
         _ => true,
     };

@@ -7,7 +7,7 @@ use model::layout::{Sizes, HEAD_AT, TAIL_AT};
 use model::mount::{format, mount, recall};
 use model::slots::Slot;
 
-const SIZES: Sizes = Sizes { p: 2, s: 1, j: 2 };
+const SIZES: Sizes = Sizes { p: 2, s: 1, j: 2, l: 0 };
 
 /// The image of the cases, with byte 165 committed at page 0, line 0.
 fn committed() -> Store {

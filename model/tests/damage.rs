@@ -51,7 +51,8 @@ fn rows_1_to_4() {
     assert_eq!(mounted(&image[..64]), 4);
     assert_eq!(mounted(&image[..image.len() - 1]), 4);
     assert_eq!(mounted(&[&image[..], &[7]].concat()), 0);
-    assert_eq!((with(&[(LAYOUT_AT, 0)]), with(&[(LAYOUT_AT, 2)])), (2, 2));
+    assert_eq!((with(&[(LAYOUT_AT, 0)]), with(&[(LAYOUT_AT, 3)])), (2, 2));
+    assert_eq!(with(&[(LAYOUT_AT, 2)]), 3, "no entries under layout 2");
     for (at, value) in
         [(P_AT, 0), (P_AT, 1_025), (S_AT, 0), (S_AT, 17), (J_AT, 1), (J_AT, 257), (J_AT, u64::MAX)]
     {

@@ -8,10 +8,19 @@ use model::calls::{self, Patch};
 use model::compare::rng::Rng;
 use model::image::{put_word, word};
 use model::journal::live_positions;
+use model::layout::Sizes;
 use model::mount::{mount, recall};
 
 /// The items of the list, in its order.
-const ITEMS: [&str; 5] = ["dead places", "slots under a record", "slotted pages", "padding", "other copies"];
+const ITEMS: [&str; 7] = [
+    "dead places",
+    "slots under a record",
+    "slotted pages",
+    "padding",
+    "other copies",
+    "entries past word 6",
+    "lines under live entries",
+];
 
 /// Byte addresses of the words that are left over right after a mount, with the number of their item.
 fn leftovers(store: &Store) -> Vec<(usize, usize)> {
@@ -32,7 +41,14 @@ fn leftovers(store: &Store) -> Vec<(usize, usize)> {
     let other = lines.filter(|&(frame, line)| (0..sizes.p).all(|page| committed(page, line) != frame));
     let other =
         other.flat_map(|(frame, line)| (0..8).map(move |i| (4, sizes.line_start(frame, line) + 8 * i)));
-    dead.chain(recorded).chain(slotted).chain(padding.map(|at| (3, at))).chain(other).collect()
+    let narrow = dead.chain(recorded).chain(slotted).chain(padding.map(|at| (3, at))).chain(other);
+    let live = &state.wide.keys;
+    let past =
+        (live.len() as u64..sizes.l).flat_map(|entry| (0..9).map(move |i| (5, sizes.entry_word(entry, i))));
+    let under = live.iter().map(|key| (committed(key / 64, key % 64), key % 64));
+    let under =
+        under.flat_map(|(frame, line)| (0..8).map(move |i| (6, sizes.line_start(frame, line) + 8 * i)));
+    narrow.chain(past).chain(under).collect()
 }
 
 /// Any word, or one that could stand in an image: a small number, a free slot's page, a word from elsewhere.
@@ -47,8 +63,8 @@ fn scribbled_word(rng: &mut Rng, image: &[u8]) -> u64 {
 }
 
 /// How many words of each item were replaced by another.
-fn scribble(store: &mut Store, rng: &mut Rng) -> [u64; 5] {
-    let mut replaced = [0; 5];
+fn scribble(store: &mut Store, rng: &mut Rng) -> [u64; 7] {
+    let mut replaced = [0; 7];
     for (item, at) in leftovers(store) {
         let value = scribbled_word(rng, &store.image);
         replaced[item] += u64::from(value != store.word(at));
@@ -59,6 +75,7 @@ fn scribble(store: &mut Store, rng: &mut Rng) -> [u64; 5] {
 
 enum Call {
     Begin(u64),
+    BeginWide(u64),
     Abort(u64),
     Write((u64, u64, u64), u64, Vec<u8>),
     Commit(u64),
@@ -76,11 +93,12 @@ enum Call {
     Recall(u64, u64),
 }
 
-fn any_call(rng: &mut Rng, pages: u64) -> Call {
+fn any_call(rng: &mut Rng, pages: u64, wide: bool) -> Call {
     let pages = pages + rng.pick(&[0, 0, 0, 1]);
     let (writer, page) = (rng.pick(&[0, 0, 0, 1, 1, 2, 4]), rng.below(pages));
     let line = rng.pick(&[0, 1, 31, 63, 63, 64]);
     match rng.below(27) {
+        0..=3 if wide && rng.percent(60) => Call::BeginWide(writer),
         0..=3 => Call::Begin(writer),
         4 if rng.percent(50) => Call::Abort(writer),
         5..=9 => {
@@ -111,6 +129,7 @@ fn perform(store: &mut Store, call: &Call) -> (Result<u64, u8>, [u8; 64]) {
     let mut target = [7; 64];
     let answer = match call {
         Call::Begin(writer) => store.begin(*writer),
+        Call::BeginWide(writer) => store.begin_wide(*writer),
         Call::Abort(writer) => store.abort(*writer),
         Call::Write(place, offset, data) => {
             let patch = Patch { offset: *offset, length: data.len() as u64, data };
@@ -149,13 +168,16 @@ fn screen(store: &Store) -> Vec<[u8; 64]> {
     places.map(shown).collect()
 }
 
-fn one_list(seed: u64) -> [u64; 5] {
+fn one_list(seed: u64, l: u64) -> [u64; 7] {
     let mut rng = Rng::new(seed, 13);
     let (p, s) = (rng.between(1, 3), rng.between(1, 3));
-    let mut store = Store::fresh(p, s, rng.between(s, 4));
+    let mut store = Store::of(Sizes { p, s, j: rng.between(s, 4), l });
     for _ in 0..rng.between(0, 250) {
-        let call = any_call(&mut rng, p);
+        let call = any_call(&mut rng, p, l > 0);
         perform(&mut store, &call).0.ok();
+    }
+    if l > 0 && rng.percent(50) {
+        cut_in_a_copying(&mut store, &mut rng);
     }
     store.mount().expect("a mount is taken");
     let mut other = Store { state: store.state.clone(), image: store.image.clone() };
@@ -163,18 +185,32 @@ fn one_list(seed: u64) -> [u64; 5] {
     assert_eq!(numbered(mount(&other.image)), Ok(store.state.clone()), "seed {seed}: another state");
     for number in 0..60 {
         assert_eq!(screen(&store), screen(&other), "seed {seed}, before call {number}: another screen");
-        let call = any_call(&mut rng, p);
+        let call = any_call(&mut rng, p, l > 0);
         assert_eq!(perform(&mut store, &call), perform(&mut other, &call), "seed {seed}, call {number}");
         assert_eq!(store.state, other.state, "seed {seed}, after call {number}: another state");
     }
     replaced
 }
 
+/// A wide round of some lines, its commit cut after its first store.
+fn cut_in_a_copying(store: &mut Store, rng: &mut Rng) {
+    store.run(u64::MAX).ok();
+    store.mount().expect("a mount is taken");
+    store.run(u64::MAX).ok();
+    store.begin_wide(1).expect("all are closed");
+    for line in [0, 1, 31, 63] {
+        store.write(1, rng.below(store.state.sizes.p), line, 1 + rng.below(255) as u8).ok();
+    }
+    let needed = store.ask_commit(1).expect("a commit is taken");
+    store.run(rng.between(1, needed - 1)).expect("stores are left");
+}
+
 #[test]
 fn leftovers_never_show() {
-    let mut replaced = [0; 5];
-    for seed in 0..400 {
-        for (sum, count) in replaced.iter_mut().zip(one_list(seed)) {
+    let mut replaced = [0; 7];
+    for seed in 0..600 {
+        let entries = [0, 0, 0, 2, 3, 64][seed as usize % 6];
+        for (sum, count) in replaced.iter_mut().zip(one_list(seed, entries)) {
             *sum += count;
         }
     }
@@ -183,13 +219,31 @@ fn leftovers_never_show() {
     }
 }
 
-/// The list is as long as it can be: a word that is not on it, the header's two unread ones aside, matters to a mount or to a recall.
+/// The list is as long as it can be: a word that is not on it, the header's two unread ones under layout 1 aside, matters to a mount or to a recall.
 #[test]
 fn no_other_word_is_left_over() {
     let mut store = Store::fresh(3, 2, 3);
     store.begin(0).unwrap();
     store.write(0, 1, 5, 9).unwrap();
     store.commit(0).unwrap();
+    others_matter(store, &[48, 56]);
+}
+
+#[test]
+fn no_other_word_is_left_over_by_a_wide_round() {
+    let mut store = Store::of(Sizes { p: 3, s: 2, j: 3, l: 4 });
+    store.begin(0).unwrap();
+    store.write(0, 1, 5, 9).unwrap();
+    store.commit(0).unwrap();
+    store.begin_wide(3).unwrap();
+    store.write(3, 1, 5, 8).unwrap();
+    store.write(3, 2, 6, 8).unwrap();
+    store.ask_commit(3).unwrap();
+    store.run(12).unwrap();
+    others_matter(store, &[]);
+}
+
+fn others_matter(mut store: Store, unread: &[usize]) {
     store.mount().unwrap();
     let left: Vec<usize> = leftovers(&store).iter().map(|&(_, at)| at).collect();
     let all = |image: &[u8]| {
@@ -202,7 +256,7 @@ fn no_other_word_is_left_over() {
     };
     let before = all(&store.image);
     let mut changed = store.image.clone();
-    for at in (0..changed.len()).step_by(8).filter(|at| !left.contains(at) && ![48, 56].contains(at)) {
+    for at in (0..changed.len()).step_by(8).filter(|at| !left.contains(at) && !unread.contains(at)) {
         let old = word(&changed, at);
         put_word(&mut changed, at, !old);
         assert!(all(&changed) != before, "the word at {at} does not matter");

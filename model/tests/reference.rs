@@ -7,8 +7,10 @@ use std::collections::BTreeMap;
 use common::{numbered, Store};
 use model::calls::{self, Patch};
 use model::compare::rng::Rng;
+use model::layout::Sizes;
 use model::meters::{fixed_moduli, Asked, CREDIT, METERS};
 use model::mount::recall;
+use model::state::Operation;
 
 /// A byte's page, line and offset.
 type Spot = (u64, u64, u64);
@@ -17,6 +19,8 @@ type Spot = (u64, u64, u64);
 enum Underway {
     Write { writer: usize, spot: Spot, data: Vec<u8> },
     Commit { writer: usize },
+    /// The commit of a wide round, before its first store.
+    Copying { writer: usize },
     Event(Asked, Vec<u64>),
     Other,
 }
@@ -26,12 +30,28 @@ enum Underway {
 struct Reference {
     pages: BTreeMap<Spot, u8>,
     unfinished: [BTreeMap<Spot, u8>; 4],
+    wide: Option<usize>,
+    /// Wide rounds taken.
+    rounds: u64,
     underway: Option<(Underway, u64)>,
     /// The completed events, in their order.
     events: Vec<Asked>,
 }
 
 impl Reference {
+    fn commit_of(&self, writer: usize) -> Underway {
+        if self.wide == Some(writer) {
+            Underway::Copying { writer }
+        } else {
+            Underway::Commit { writer }
+        }
+    }
+
+    fn aborted(&mut self, writer: usize) {
+        self.unfinished[writer].clear();
+        self.wide = self.wide.filter(|&wide| wide != writer);
+    }
+
     /// A taken call that needs so many stores.
     fn taken(&mut self, call: Underway, needs: u64) {
         self.underway = Some((call, needs));
@@ -40,7 +60,13 @@ impl Reference {
 
     /// So many stores were made; with none left the operation does what it does.
     fn stored(&mut self, made: u64) {
-        let Some((call, left)) = self.underway.take() else { return };
+        let Some((mut call, left)) = self.underway.take() else { return };
+        if let (Underway::Copying { writer }, true) = (&call, made > 0 || left == 0) {
+            self.rounds += u64::from(left > 0);
+            self.committed(*writer);
+            self.wide = None;
+            call = Underway::Other;
+        }
         if left > made {
             self.underway = Some((call, left - made));
             return;
@@ -50,13 +76,15 @@ impl Reference {
                 let spots = (offset..).map(|offset| (page, line, offset));
                 self.unfinished[writer].extend(spots.zip(data));
             }
-            Underway::Commit { writer } => {
-                let unfinished = std::mem::take(&mut self.unfinished[writer]);
-                self.pages.extend(unfinished);
-            }
+            Underway::Commit { writer } => self.committed(writer),
             Underway::Event(asked, moduli) => self.moved(asked, &moduli),
-            Underway::Other => {}
+            Underway::Copying { .. } | Underway::Other => {}
         }
+    }
+
+    fn committed(&mut self, writer: usize) {
+        let unfinished = std::mem::take(&mut self.unfinished[writer]);
+        self.pages.extend(unfinished);
     }
 
     /// A completed event moves its meters on the pages.
@@ -75,7 +103,7 @@ impl Reference {
 
     fn mounted(&mut self) {
         self.unfinished = Default::default();
-        self.underway = None;
+        (self.underway, self.wide) = (None, None);
     }
 
     fn line(&self, writer: Option<u64>, page: u64, line: u64) -> Vec<u8> {
@@ -95,6 +123,8 @@ struct Both {
     written: Option<(u64, u64, u64)>,
     idle: u64,
     confirmed: u64,
+    /// Mounts that left lines to copy.
+    copyings: u64,
     /// Only events write to page 0.
     metered: bool,
     /// The moduli last loaded, each meter's number then, and the events completed before.
@@ -109,10 +139,14 @@ const LINES: [u64; 5] = [0, 1, 3, 23, 63];
 
 impl Both {
     fn new(seed: u64, metered: bool) -> Both {
+        Both::with_entries(seed, metered, 0)
+    }
+
+    fn with_entries(seed: u64, metered: bool, l: u64) -> Both {
         let mut rng = Rng::new(seed, 0);
         let (p, s) = (rng.between(1, 3), rng.between(1, 3));
         let j = rng.between(s, 4);
-        let (store, moduli) = (Store::fresh(p, s, j), fixed_moduli());
+        let (store, moduli) = (Store::of(Sizes { p, s, j, l }), fixed_moduli());
         Both {
             store,
             reference: Reference::default(),
@@ -122,6 +156,7 @@ impl Both {
             written: None,
             idle: 0,
             confirmed: 0,
+            copyings: 0,
             metered,
             moduli,
             starts: vec![0; METERS],
@@ -136,7 +171,7 @@ impl Both {
                 self.taken += 1;
                 self.reference.taken(call, needs);
             }
-            Err(number) => assert!((9..=27).contains(&number) && number != 16, "{number} on such a list"),
+            Err(number) => assert!((9..=30).contains(&number) && number != 16, "{number} on such a list"),
         }
     }
 
@@ -181,7 +216,7 @@ impl Both {
         }
         let (writer, page) =
             (self.rng.pick(&[0, 0, 1, 2]), self.rng.between(first, self.store.state.sizes.p - 1));
-        let place = (writer, page, self.rng.pick(&LINES));
+        let place = (self.often_wide(writer), page, self.rng.pick(&LINES));
         // In a third of them the bytes that the writer of the last one reads there.
         let again = self.written.filter(|_| self.rng.percent(33));
         let (writer, page, line) = again.unwrap_or(place);
@@ -200,21 +235,48 @@ impl Both {
         self.note(call, numbered(answer));
     }
 
+    /// The wide writer, where there is one, in most calls.
+    fn often_wide(&mut self, writer: u64) -> u64 {
+        let wide = self.store.state.wide.writer;
+        wide.filter(|_| self.rng.percent(80)).unwrap_or(writer)
+    }
+
+    fn abort(&mut self, writer: u64) {
+        if self.store.abort(writer).is_ok() {
+            self.reference.aborted(writer as usize);
+        }
+    }
+
+    fn copies(&self) -> bool {
+        self.store.state.pending.as_ref().is_some_and(|pending| pending.operation == Operation::Copy)
+    }
+
+    fn mount(&mut self) {
+        self.store.mount().expect("a mount is taken");
+        self.copyings += u64::from(self.copies());
+        self.reference.mounted();
+    }
+
     fn turn(&mut self) {
         let writer = self.rng.pick(&[0, 0, 0, 1, 1, 2, 3]);
+        let writer = self.often_wide(writer);
         match self.rng.below(23) {
-            0..=2 => self.store.begin(writer).map_or((), |_| ()),
-            3 => {
-                if self.store.abort(writer).is_ok() {
-                    self.reference.unfinished[writer as usize].clear();
+            0..=2 if self.store.state.sizes.l > 0 && self.rng.percent(60) => {
+                let alone = self.store.state.wide.writer.is_none() && self.rng.percent(60);
+                (0..4).filter(|_| alone).for_each(|other| self.abort(other));
+                if self.store.begin_wide(writer).is_ok() {
+                    self.reference.wide = Some(writer as usize);
                 }
             }
+            0..=2 => self.store.begin(writer).map_or((), |_| ()),
+            3 => self.abort(writer),
             4..=8 if self.rng.percent(if self.metered { 60 } else { 20 }) => self.event(),
             4..=8 => self.write(),
             9 if self.rng.percent(25) => self.load(),
             9..=11 => {
+                let call = self.reference.commit_of(writer as usize);
                 let answer = self.store.ask_commit(writer);
-                self.note(Underway::Commit { writer: writer as usize }, answer);
+                self.note(call, answer);
             }
             20 => {
                 let answer = self.store.ask_prepare(writer);
@@ -244,10 +306,8 @@ impl Both {
                 let answer = self.store.ask_checkpoint();
                 self.note(Underway::Other, answer);
             }
-            14 if self.rng.percent(20) => {
-                self.store.mount().expect("a mount is taken");
-                self.reference.mounted();
-            }
+            14 if self.rng.percent(20) => self.mount(),
+            15 if self.copies() => self.mount(),
             _ => {
                 let k = self.rng.pick(&[0, 1, 3, 9, 600, 600, 600]);
                 let made = self.store.run(k).unwrap_or(0);
@@ -318,6 +378,29 @@ fn the_model_agrees_with_the_reference() {
     assert!(confirmed > 50, "only {confirmed} transactions were confirmed");
     assert!(events > 30, "only {events} events were completed");
     assert!(idle > 30, "only {idle} writes changed nothing");
+}
+
+/// Document 02, L14: the reference takes a wide round with the first store of its commit, and what a mount left to copy changes nothing there.
+#[test]
+fn wide_rounds_agree_with_the_reference() {
+    let (mut rounds, mut copyings, mut idle, mut events, mut freed) = (0, 0, 0, 0, 0);
+    for seed in 0..200 {
+        let mut both = Both::with_entries(seed, false, [1, 2, 3, 64][seed as usize % 4]);
+        for _ in 0..200 {
+            both.turn();
+            both.agree();
+        }
+        rounds += both.reference.rounds;
+        copyings += both.copyings;
+        idle += both.idle;
+        events += both.reference.events.len();
+        freed += both.freed;
+    }
+    assert!(rounds > 150, "only {rounds} wide rounds were taken");
+    assert!(copyings > 20, "only {copyings} mounts left lines to copy");
+    assert!(idle > 30, "only {idle} writes changed nothing");
+    assert!(events > 20, "only {events} events were completed");
+    assert!(freed > 20, "only {freed} slots were freed");
 }
 
 /// Document 02: where nothing but events writes to page 0, each lent the moduli last loaded, credit is cash in minus cash out minus bet plus won over the

@@ -22,11 +22,11 @@ use Rattle.answers.specs.declared.Done.{Done}
 -- each row's number is one of the answers'
 abbrev pub Known : List Row → Type 0
 Known [] = Unit {0}
-Known (r ∷ rs) = (r .1 ≤ 27) × Known rs
+Known (r ∷ rs) = (r .1 ≤ 30) × Known rs
 
-pub row-known : (rs : List Row) → Known rs → refusal rs ≤ 27
+pub row-known : (rs : List Row) → Known rs → refusal rs ≤ 30
 row-known [] k = omega arith
-row-known (r ∷ rs) k = row-keeps (λ (x : ℕ). x ≤ 27) (r .0) (r .1) (refusal rs) (k .0) (row-known rs (k .1))
+row-known (r ∷ rs) k = row-keeps (λ (x : ℕ). x ≤ 30) (r .0) (r .1) (refusal rs) (k .0) (row-known rs (k .1))
 
 -- rows before others: the first of them that applies, or none and the others
 pub rows-first : (rs ss : List Row) (row : ℕ) → row ≡ refusal rs → (row ≡ 0 → ⊥) → row ≡ refusal (rs ++ ss)
@@ -59,17 +59,17 @@ module _ (d : Done) (rs : List Row) (row stores : ℕ) (st after : State) (e : r
 
 -- ---- the answers
 
--- each number up to 27 is that of the answer that it makes, which makes no stores
-pub as-known : (row : ℕ) → row ≤ 27 → (numberOf (asAnswer row 0) ≡ row) × (storesOf (asAnswer row 0) ≡ 0)
+-- each number up to 30 is that of the answer that it makes, which makes no stores
+pub as-known : (row : ℕ) → row ≤ 30 → (numberOf (asAnswer row 0) ≡ row) × (storesOf (asAnswer row 0) ≡ 0)
 unfolding allBelow
 as-known row l =
     let test : ℕ → Bool = λ (k : ℕ). eqb (numberOf (asAnswer k 0)) k && eqb (storesOf (asAnswer k 0)) 0 in
-    let t : test row ≡ true = all-at test 28 row (omega arith) refl in
+    let t : test row ≡ true = all-at test 31 row (omega arith) refl in
     let a = eqb (numberOf (asAnswer row 0)) row in
     let b = eqb (storesOf (asAnswer row 0)) 0 in
     (eqb-true (numberOf (asAnswer row 0)) row (and-left a b t), eqb-true (storesOf (asAnswer row 0)) 0 (and-right a b t))
 
-pub refused-known : (a : Answer) (row : ℕ) (st : State) → row ≤ 27 → a ≡ asAnswer row 0 → outcomeOf (record { answer = a; state = st }) ≡ answered row st 0 st
+pub refused-known : (a : Answer) (row : ℕ) (st : State) → row ≤ 30 → a ≡ asAnswer row 0 → outcomeOf (record { answer = a; state = st }) ≡ answered row st 0 st
 refused-known a row st l e =
     let k = as-known row l in
     let n : numberOf a ≡ row = ap numberOf e ∙ k .0 in
@@ -77,7 +77,7 @@ refused-known a row st l e =
     caseOn (eqb row 0) (λ t. rw (t, n, s)) (λ t. rw (t, n, s))
 
 -- the answer with a row's number, or taken with n stores
-pub answer-known : (a : Answer) (row n : ℕ) (st : State) → row ≤ 27 → a ≡ asAnswer row n → outcomeOf (record { answer = a; state = st }) ≡ answered row st n st
+pub answer-known : (a : Answer) (row n : ℕ) (st : State) → row ≤ 30 → a ≡ asAnswer row n → outcomeOf (record { answer = a; state = st }) ≡ answered row st n st
 answer-known a row n st l e =
     caseOn (eqb row 0)
     (λ t. let z = eqb-true row 0 t in rw (z, rw z at e))

@@ -35,6 +35,9 @@ pub enum Answer {
     BadTableLine,
     ModulusOutOfRange,
     MeterNotBelow,
+    NoWideRounds,
+    OtherOpen,
+    EntriesUsed,
 }
 
 // A call's answer and the state after it.
@@ -75,7 +78,10 @@ pub fn answer_of(row: usize, stores: usize) -> Answer
         24 => Answer::WriterNotPrepared,
         25 => Answer::BadTableLine,
         26 => Answer::ModulusOutOfRange,
-        _ => Answer::MeterNotBelow,
+        27 => Answer::MeterNotBelow,
+        28 => Answer::NoWideRounds,
+        29 => Answer::OtherOpen,
+        _ => Answer::EntriesUsed,
     }
 }
 
@@ -112,12 +118,15 @@ pub fn number_of(a: Answer) -> usize
         Answer::BadTableLine => 25,
         Answer::ModulusOutOfRange => 26,
         Answer::MeterNotBelow => 27,
+        Answer::NoWideRounds => 28,
+        Answer::OtherOpen => 29,
+        Answer::EntriesUsed => 30,
     }
 }
 
 // A refusal by a row, with the state as it was.
 pub fn refused(row: usize, st: State) -> Done
-    requires { ⌜ row ≤ 27 ⌝ }
+    requires { ⌜ row ≤ 30 ⌝ }
     ensures { λ r. ⌜ outcomeOf r ≡ answered row st 0 st ⌝ }
 {
     let answer = answer_of(row, 0);

@@ -14,16 +14,20 @@ use Rattle.bounded.proofs.Below.{up-none}
 use Rattle.journal.proofs.Ring.{pos-none}
 use Rattle.replay.specs.Table.{noPosition}
 use Rattle.state.specs.Held.{noWriter, letGo}
+use Rattle.state.specs.Wide.{noWide}
+use Rattle.state.specs.declared.Wide.{Wide}
+use Rattle.entries.specs.Entries.{noKeys}
 use Rattle.layout.specs.Layout.{imageLength}
 use Rattle.state.specs.declared.State.{State}
 use Rattle.state.specs.declared.Pending.{Pending}
 use Rattle.state.specs.declared.Op.{Op}
-use Rattle.state.specs.declared.Op.the-variants.{Idle, Write, Commit, Consolidate, Checkpoint, Event, Prepare, Confirm}
-use Rattle.operations.specs.Operations.{Ranged, isIdle, writeRows, commitRows, confirmRows, consolidateRows, opRows, needs}
+use Rattle.state.specs.declared.Op.the-variants.{Idle, Write, Commit, Consolidate, Checkpoint, Event, Prepare, Confirm, Log, Copy}
+use Rattle.operations.specs.Operations.{Ranged, isIdle, writeRows, logRows, commitRows, prepareRows, confirmRows, consolidateRows, opRows, needs}
 use Rattle.validity.specs.Validity.{stateOk}
 use Rattle.refinement.specs.Settled.{noPending, withPrepared}
 use Rattle.refinement.specs.Commit.{commitSlots, commitDone}
 use Rattle.commits.proofs.CommitMade.{commit-done}
+use Rattle.wide_stores.proofs.WideMade.{copy-done}
 use Rattle.refinement.specs.Stores.{completed}
 use Rattle.refinement.specs.Outcome.{answered}
 use Rattle.answers.specs.Answers.{outcomeOf}
@@ -32,15 +36,17 @@ use Rattle.answers.proofs.Answered.{row-known, refused-by}
 use Rattle.refinement.specs.Calls.{quietRows, withPending, asked}
 use Rattle.refinement.proofs.EventRows.{event-some}
 
-op-known : (st : State) (op : Op) (f : ℕ) → refusal (opRows st op f) ≤ 27
+op-known : (st : State) (op : Op) (f : ℕ) → refusal (opRows st op f) ≤ 30
 op-known st Idle f = row-known [] tt
 op-known st (Write w p l o n) f = row-known (writeRows st w p l o n f) (omega arith)
 op-known st (Commit w) f = row-known (commitRows st w) (omega arith)
 op-known st (Consolidate p) f = row-known (consolidateRows st p) (omega arith)
 op-known st Checkpoint f = row-known [] tt
 op-known st (Event k m a) f = row-known (opRows st (Event k m a) f) (omega arith)
-op-known st (Prepare w) f = row-known (commitRows st w) (omega arith)
+op-known st (Prepare w) f = row-known (prepareRows st w) (omega arith)
 op-known st (Confirm w) f = row-known (confirmRows st w) (omega arith)
+op-known st (Log p l o n) f = row-known (logRows st p l o n f) (omega arith)
+op-known st Copy f = row-known (opRows st Copy f) (omega arith)
 
 -- an operation with none of its stores made, and the state with it pending
 abbrev pub pendingFrom : Op → List ℕ → ℕ → Pending
@@ -48,12 +54,12 @@ pendingFrom op line frame = record { op = op; made = 0; line = line; second = re
 
 abbrev pub pendingWith : State → Pending → State
 pendingWith st p =
-    record { sizes = st .sizes; head = st .head; tail = st .tail; next = st .next; table = st .table; writers = st .writers; pending = p }
+    record { sizes = st .sizes; head = st .head; tail = st .tail; next = st .next; table = st .table; writers = st .writers; wide = st .wide; pending = p }
 
 -- each number of the rows of an operation is an answer's
-pub ask-known : (st : State) (n : ℕ) (op : Op) → refusal (quietRows st n ++ opRows st op 0) ≤ 27
+pub ask-known : (st : State) (n : ℕ) (op : Op) → refusal (quietRows st n ++ opRows st op 0) ≤ 30
 ask-known st n op =
-    let low : ℕ → Type 0 = λ (x : ℕ). x ≤ 27 in
+    let low : ℕ → Type 0 = λ (x : ℕ). x ≤ 30 in
     row-keeps low (not (stateOk st)) 8 _ (omega arith)
     (row-keeps low (ltb n (imageLength (st .sizes))) 4 _ (omega arith)
     (row-keeps low (not (isIdle (st .pending .op))) 9 _ (omega arith) (op-known st op 0)))
@@ -111,16 +117,20 @@ unfolding needs
 confirm-none st w e = none-held (length (commitSlots st w)) 1 (omega arith) e
 
 pub empty-commit : (st : State) (w : ℕ) (h : List ℕ) (o : List Bool) (i : Pending) → Ranged st → 0 ≡ length (commitSlots st w) → h ≡ letGo (st .sizes) (st .writers .held) w → o ≡ set (st .writers .opened) w false → i ≡ noPending
-    → _≡_ {A = State} (record { sizes = st .sizes; head = st .head; tail = st .tail; next = st .next; table = st .table; writers = record { opened = o; held = h; prepared = noWriter }; pending = i }) (commitDone st w)
+    → _≡_ {A = State} (record { sizes = st .sizes; head = st .head; tail = st .tail; next = st .next; table = st .table; writers = record { opened = o; held = h; prepared = noWriter }; wide = st .wide; pending = i }) (commitDone st w)
 empty-commit st w h o i g e a b c =
     commit-done st w 0 (st .head) (st .table .bitmap) (st .table .last) h o i e (sym (pos-none (st .sizes) (st .head) (g .head-low))) (up-none _ _) (up-none _ _) a b c
 
 pub empty-prepare : (st : State) (w : ℕ) (i : Pending) → i ≡ noPending
-    → _≡_ {A = State} (record { sizes = st .sizes; head = st .head; tail = st .tail; next = st .next; table = st .table; writers = withPrepared (st .writers) w; pending = i }) (completed st (Prepare w))
+    → _≡_ {A = State} (record { sizes = st .sizes; head = st .head; tail = st .tail; next = st .next; table = st .table; writers = withPrepared (st .writers) w; wide = st .wide; pending = i }) (completed st (Prepare w))
 empty-prepare st w i a = rw a
 
+pub empty-copy : (st : State) (o : List Bool) (h : List ℕ) (d : Wide) (i : Pending) → o ≡ set (st .writers .opened) (st .wide .writer) false → h ≡ letGo (st .sizes) (st .writers .held) (st .wide .writer) → d ≡ noWide → i ≡ noPending
+    → _≡_ {A = State} (record { sizes = st .sizes; head = st .head; tail = st .tail; next = st .next; table = st .table; writers = record { opened = o; held = h; prepared = st .writers .prepared }; wide = d; pending = i }) (completed st Copy)
+empty-copy st o h d i a b c q = rw (c, q) (copy-done st o h noKeys a b refl)
+
 pub empty-checkpoint : (st : State) (l : List ℕ) (i : Pending) → l ≡ filled (st .sizes .slots) (λ s. noPosition) (st .table .last) → i ≡ noPending
-    → _≡_ {A = State} (record { sizes = st .sizes; head = st .head; tail = st .head; next = st .next; table = record { page = st .table .page; original = st .table .original; spare = st .table .spare; bitmap = st .table .bitmap; last = l }; writers = st .writers; pending = i }) (completed st Checkpoint)
+    → _≡_ {A = State} (record { sizes = st .sizes; head = st .head; tail = st .head; next = st .next; table = record { page = st .table .page; original = st .table .original; spare = st .table .spare; bitmap = st .table .bitmap; last = l }; writers = st .writers; wide = st .wide; pending = i }) (completed st Checkpoint)
 empty-checkpoint st l i a b = rw (a, b)
 
 -- a write and a consolidation need some
@@ -131,6 +141,10 @@ write-needs st w p l o n e = omega arith
 pub consolidate-needs : (st : State) (p : ℕ) → needs st (Consolidate p) ≡ 0 → ⊥
 unfolding needs
 consolidate-needs st p e = omega arith
+
+pub log-needs : (st : State) (p l o n : ℕ) → needs st (Log p l o n) ≡ 0 → ⊥
+unfolding needs
+log-needs st p l o n e = omega arith
 
 -- and an event
 pub event-needs : (st : State) (k m a : ℕ) → needs st (Event k m a) ≡ 0 → ⊥

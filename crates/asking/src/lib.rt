@@ -5,6 +5,7 @@ ghost use mathlib.Core.List.{_++_};
 ghost use lib.ListN.{replicate};
 ghost use Rattle.bounded.specs.Rows.{refusal};
 ghost use Rattle.state.specs.Parts.{stateOf};
+ghost use Rattle.state.specs.Wide.{wideOf};
 ghost use Rattle.operations.specs.Operations.{Ranged, isIdle, opRows, needs};
 ghost use Rattle.answers.specs.Answers.{outcomeOf};
 ghost use Rattle.refinement.specs.Stores.{completed};
@@ -42,11 +43,14 @@ pub fn ask_row<'a>(
     opened: &'a [bool; 4],
     held: &'a [u64; 64],
     prepared: usize,
+    wide: usize,
+    count: usize,
+    keys: &'a [u64; 64],
     pending: Pending,
     op: Op,
     n: usize,
 ) -> usize
-    ensures { λ r. ⌜ r ≡ refusal (quietRows (stateOf z head tail next (now (page .entry)) (now (original .entry)) (now (spare .entry)) (now (bitmap .entry)) (now (last .entry)) (now (opened .entry)) (now (held .entry)) prepared pending) n ++ opRows (stateOf z head tail next (now (page .entry)) (now (original .entry)) (now (spare .entry)) (now (bitmap .entry)) (now (last .entry)) (now (opened .entry)) (now (held .entry)) prepared pending) op 0) ⌝ }
+    ensures { λ r. ⌜ r ≡ refusal (quietRows (stateOf z head tail next (now (page .entry)) (now (original .entry)) (now (spare .entry)) (now (bitmap .entry)) (now (last .entry)) (now (opened .entry)) (now (held .entry)) prepared (wideOf wide count (now (keys .entry))) pending) n ++ opRows (stateOf z head tail next (now (page .entry)) (now (original .entry)) (now (spare .entry)) (now (bitmap .entry)) (now (last .entry)) (now (opened .entry)) (now (held .entry)) prepared (wideOf wide count (now (keys .entry))) pending) op 0) ⌝ }
 {
     let row = rows::first_row(
         z,
@@ -61,6 +65,9 @@ pub fn ask_row<'a>(
         opened,
         held,
         prepared,
+        wide,
+        count,
+        keys,
         pending,
         n,
         false,
@@ -79,12 +86,15 @@ pub fn ask_row<'a>(
         opened,
         held,
         prepared,
+        wide,
+        count,
+        keys,
         op,
         0,
     )
 }
 
-// The state when an operation that needs no store is complete: a commit or a confirm of nothing closes its writer, a prepare of nothing prepares it, and a
+// The state when an operation that needs no store is complete: a commit, a wide commit or a confirm of nothing closes its writer, a prepare of nothing prepares it, and a
 // checkpoint of no record leaves none.
 fn completed_at_once(st: State, op: Op) -> State
     requires { ⌜ Ranged st × (refusal (opRows st op 0) ≡ 0) × (isIdle op ≡ false) × (needs st op ≡ 0) ⌝ }
@@ -130,13 +140,27 @@ fn completed_at_once(st: State, op: Op) -> State
             next.writers.prepared = 4;
             next
         }
+        Op::Log {
+            page: _,
+            line: _,
+            offset: _,
+            length: _,
+        } => next,
+        Op::Copy => {
+            let wide = next.wide.writer;
+            wide_stores::close(&mut next.writers.opened, wide);
+            wide_stores::let_go(z, &mut next.writers.held, wide);
+            let none = settled::begun_wide(4);
+            next.wide = none;
+            next
+        }
     }
 }
 
-// Asks for one of them.
-pub fn ask(st: State, n: usize, op: Op) -> Done
-    requires { ⌜ isIdle op ≡ false ⌝ }
-    ensures { λ r. ⌜ outcomeOf r ≡ asked (refusal (quietRows st n ++ opRows st op 0)) st op (replicate 8 0) 0 ⌝ }
+// Asks for one of them, by the rows of `call`, which is the same but of a commit by the wide writer: that asks for a copying.
+pub fn ask(st: State, n: usize, call: Op, op: Op) -> Done
+    requires { ⌜ (isIdle op ≡ false) × (refusal (opRows st call 0) ≡ 0 → refusal (opRows st op 0) ≡ 0) ⌝ }
+    ensures { λ r. ⌜ outcomeOf r ≡ asked (refusal (quietRows st n ++ opRows st call 0)) st op (replicate 8 0) 0 ⌝ }
 {
     let mut next = st;
     let row = ask_row(
@@ -152,8 +176,11 @@ pub fn ask(st: State, n: usize, op: Op) -> Done
         &next.writers.opened,
         &next.writers.held,
         next.writers.prepared,
+        next.wide.writer,
+        next.wide.count,
+        &next.wide.keys,
         next.pending,
-        op,
+        call,
         n,
     );
     if row != 0 {
@@ -167,6 +194,7 @@ pub fn ask(st: State, n: usize, op: Op) -> Done
         &next.table.bitmap,
         &next.table.last,
         &next.writers.held,
+        next.wide.count,
         op,
     );
     if needed == 0 {

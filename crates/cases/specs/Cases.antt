@@ -63,7 +63,7 @@ words img (a ∷ l) = word img a ∷ words img l
 unfoldable pub seen : Result → List ℕ → List ℕ
 seen d l =
     let st = d .world .st in
-    d .number ∷ d .stores ∷ (tab (d .stores) (storeAt st (st .pending .op)) ++ words (exec (run (d .stores)) (d .world) .world .image) l)
+    d .number ∷ d .stores ∷ (tab (d .stores) (storeAt st (d .world .image) (st .pending .op)) ++ words (exec (run (d .stores)) (d .world) .world .image) l)
 
 unfoldable pub gives : List Call → Call → List ℕ → List ℕ
 gives before c l = seen (exec c (after before fresh)) l

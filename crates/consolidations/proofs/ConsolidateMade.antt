@@ -23,6 +23,7 @@ use Rattle.replay.specs.Table.{slotIn, slotsOfArrays, slotOf}
 use Rattle.state.specs.Slots.{slotOfPage}
 use Rattle.consolidations.specs.Completed.{freedSlot}
 use Rattle.state.specs.declared.State.{State}
+use Rattle.state.specs.Wide.{noWide}
 use Rattle.state.specs.declared.Pending.{Pending}
 use Rattle.operations.specs.Operations.{Ranged, slotFor}
 use Rattle.pieces.specs.Pieces.{lineCopies, recordStores}
@@ -109,7 +110,7 @@ consolidate-stores-of st p from n img = refl
 
 -- a state with the parts that these stores read, for laws about states
 abbrev pub reading : Sizes → ℕ → Table → State
-reading z head t = record { sizes = z; head = head; tail = 0; next = 0; table = t; writers = record { opened = []; held = []; prepared = 0 }; pending = noPending }
+reading z head t = record { sizes = z; head = head; tail = 0; next = 0; table = t; writers = record { opened = []; held = []; prepared = 0 }; wide = noWide; pending = noPending }
 
 -- the slot as the code frees it
 pub slot-freed : (z : Sizes) (page original spare bitmap : List ℕ) (p s f : ℕ) (t v : Slot) → s ≡ slotOfPage z page p → t ≡ slotIn (slotsOfArrays page original spare bitmap) s
@@ -122,7 +123,7 @@ pub consolidate-done : (st : State) (p s f q : ℕ) (t v : Slot) (i : Pending) (
     → s ≡ slotFor st p → t ≡ slotIn (st .table) s → f ≡ copyFrom t → v ≡ freeSlot f → i ≡ noPending → q ≡ position (st .sizes) (st .head) 1
     → page ≡ set (st .table .page) s (v .page) → original ≡ set (st .table .original) s (v .original) → spare ≡ set (st .table .spare) s (v .spare)
     → bitmap ≡ set (st .table .bitmap) s (v .bitmap) → last ≡ set (st .table .last) s (st .head)
-    → _≡_ {A = State} (record { sizes = st .sizes; head = q; tail = st .tail; next = st .next; table = record { page = page; original = original; spare = spare; bitmap = bitmap; last = last }; writers = st .writers; pending = i })
+    → _≡_ {A = State} (record { sizes = st .sizes; head = q; tail = st .tail; next = st .next; table = record { page = page; original = original; spare = spare; bitmap = bitmap; last = last }; writers = st .writers; wide = st .wide; pending = i })
     (settled st (position (st .sizes) (st .head) 1) (st .tail) (st .next) (consolidateTable st p) (st .writers))
 unfolding freeingRecord
 consolidate-done st p s f q t v i page original spare bitmap last h a b c d e g j k l m n =

@@ -27,7 +27,7 @@ pub line-put : (s : State) (l x f : ℕ) (words : List ℕ) → l ≡ x → (nex
     → original ≡ putFresh (s .sizes) (s .next) (s .table .page) 0 f (s .table .original)
     → bitmap ≡ putFresh (s .sizes) (s .next) (s .table .page) 0 0 (s .table .bitmap)
     → held ≡ heldAfter (s .sizes) (s .next) (s .table .page) 0 1 l (s .writers .held)
-    → stateOf (s .sizes) (s .head) (s .tail) next page original (s .table .spare) bitmap (s .table .last) (s .writers .opened) held (s .writers .prepared) noPending ≡ lineDone s x words f
+    → stateOf (s .sizes) (s .head) (s .tail) next page original (s .table .spare) bitmap (s .table .last) (s .writers .opened) held (s .writers .prepared) (s .wide) noPending ≡ lineDone s x words f
 unfolding lineDone
 line-put s l x f words q next page original bitmap held a b c d e =
     write-done (lineAsked s l words f) 1 0 l 0 8 next page original bitmap held a b c d e ∙ ap (λ (i : ℕ). lineDone s i words f) q

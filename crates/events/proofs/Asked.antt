@@ -116,7 +116,7 @@ module _ (st : State) (img ms : List ℕ) (k m a : ℕ) (d : Done) (found : Foun
   pub event-asked : (v l n : ℕ) (line second : List ℕ) (q : Pending) → found .row ≡ 0 → v ≡ firstNumber ms k m (found .stored) a → l ≡ firstMeter k m
       → line ≡ lineWords (merged (lineBytes img (st .sizes) (found .first) l) 0 8 (bytesOf 8 v)) → second ≡ secondOf img ms (st .sizes) (found .own) k m a
       → q ≡ record { op = Event k m a; made = 0; line = line; second = second; frame = found .frame } → n ≡ eventNeeds k
-      → outcomeOf d ≡ answered 0 (record { sizes = st .sizes; head = st .head; tail = st .tail; next = st .next; table = st .table; writers = st .writers; pending = q }) n (record { sizes = st .sizes; head = st .head; tail = st .tail; next = st .next; table = st .table; writers = st .writers; pending = q })
+      → outcomeOf d ≡ answered 0 (record { sizes = st .sizes; head = st .head; tail = st .tail; next = st .next; table = st .table; writers = st .writers; wide = st .wide; pending = q }) n (record { sizes = st .sizes; head = st .head; tail = st .tail; next = st .next; table = st .table; writers = st .writers; wide = st .wide; pending = q })
       → outcomeOf d ≡ eventOf st img ms k m a
   unfolding eventOf
   event-asked v l n line second q z ev el eline esecond eq en h =
@@ -128,7 +128,7 @@ module _ (st : State) (img ms : List ℕ) (k m a : ℕ) (d : Done) (found : Foun
       let two : second ≡ eventSecond st img ms k m a = esecond ∙ ap (λ (x : ℕ). secondOf img ms (st .sizes) x k m a) (g .2) in
       let pending : q ≡ record { op = Event k m a; made = 0; line = eventLine st img ms k m a; second = eventSecond st img ms k m a; frame = pageFrame st img 0 } = eq ∙ rw (one, two, g .0) in
       taken-by d (eventCallRows st img ms k m a) (found .row) (eventNeeds k) st after (f .0) z
-      (h ∙ ap₂ (λ (i : ℕ) (p : Pending). answered 0 (record { sizes = st .sizes; head = st .head; tail = st .tail; next = st .next; table = st .table; writers = st .writers; pending = p }) i (record { sizes = st .sizes; head = st .head; tail = st .tail; next = st .next; table = st .table; writers = st .writers; pending = p })) en pending)
+      (h ∙ ap₂ (λ (i : ℕ) (p : Pending). answered 0 (record { sizes = st .sizes; head = st .head; tail = st .tail; next = st .next; table = st .table; writers = st .writers; wide = st .wide; pending = p }) i (record { sizes = st .sizes; head = st .head; tail = st .tail; next = st .next; table = st .table; writers = st .writers; wide = st .wide; pending = p })) en pending)
 
 -- what a taken one has made sure of
 pub asked-facts : (st : State) (img ms : List ℕ) (k m a : ℕ) → refusal (eventCallRows st img ms k m a) ≡ 0

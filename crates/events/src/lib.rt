@@ -10,6 +10,7 @@ ghost use Rattle.words.specs.Words.{bytesOf};
 ghost use Rattle.image.specs.Lines.{lineBytes, merged, lineWords};
 ghost use Rattle.meters.specs.Meters.{moduliOk, eventKnown};
 ghost use Rattle.state.specs.Parts.{stateOf};
+ghost use Rattle.state.specs.Wide.{wideOf};
 ghost use Rattle.answers.specs.Answers.{outcomeOf};
 ghost use Rattle.refinement.specs.Calls.{eventOf};
 ghost use Rattle.events.specs.Found.{startRows, EventFound, secondOf};
@@ -42,7 +43,7 @@ fn turned_back(row: usize) -> Found
     }
 }
 
-// Rows 8, 4, 9, 20 and 26 of an event, the image being of the length n.
+// Rows 8, 4, 9, 29, 20 and 26 of an event, the image being of the length n.
 fn start_row<'a>(
     z: Sizes,
     head: usize,
@@ -56,13 +57,16 @@ fn start_row<'a>(
     opened: &'a [bool; 4],
     held: &'a [u64; 64],
     prepared: usize,
+    wide: usize,
+    count: usize,
+    keys: &'a [u64; 64],
     pending: Pending,
     n: usize,
     kind: usize,
     meter: usize,
     moduli: &[u64],
 ) -> usize
-    ensures { λ r. ⌜ r ≡ refusal (startRows (stateOf z head tail next (now (page .entry)) (now (original .entry)) (now (spare .entry)) (now (bitmap .entry)) (now (last .entry)) (now (opened .entry)) (now (held .entry)) prepared pending) n (now (moduli .entry)) kind meter) ⌝ }
+    ensures { λ r. ⌜ r ≡ refusal (startRows (stateOf z head tail next (now (page .entry)) (now (original .entry)) (now (spare .entry)) (now (bitmap .entry)) (now (last .entry)) (now (opened .entry)) (now (held .entry)) prepared (wideOf wide count (now (keys .entry))) pending) n (now (moduli .entry)) kind meter) ⌝ }
 {
     let row = rows::first_row(
         z,
@@ -77,12 +81,18 @@ fn start_row<'a>(
         opened,
         held,
         prepared,
+        wide,
+        count,
+        keys,
         pending,
         n,
         false,
     );
     if row != 0 {
         return row;
+    }
+    if wide < 4 {
+        return 29;
     }
     if !meters::is_known(kind, meter) {
         return 20;
@@ -107,6 +117,9 @@ fn event_found<'a>(
     opened: &'a [bool; 4],
     held: &'a [u64; 64],
     prepared: usize,
+    wide: usize,
+    count: usize,
+    keys: &'a [u64; 64],
     pending: Pending,
     image: &[u8],
     kind: usize,
@@ -114,7 +127,7 @@ fn event_found<'a>(
     amount: u64,
     moduli: &[u64],
 ) -> Found
-    ensures { λ r. ⌜ EventFound (stateOf z head tail next (now (page .entry)) (now (original .entry)) (now (spare .entry)) (now (bitmap .entry)) (now (last .entry)) (now (opened .entry)) (now (held .entry)) prepared pending) (now (image .entry)) (now (moduli .entry)) kind meter amount r ⌝ }
+    ensures { λ r. ⌜ EventFound (stateOf z head tail next (now (page .entry)) (now (original .entry)) (now (spare .entry)) (now (bitmap .entry)) (now (last .entry)) (now (opened .entry)) (now (held .entry)) prepared (wideOf wide count (now (keys .entry))) pending) (now (image .entry)) (now (moduli .entry)) kind meter amount r ⌝ }
 {
     let row = start_row(
         z,
@@ -129,6 +142,9 @@ fn event_found<'a>(
         opened,
         held,
         prepared,
+        wide,
+        count,
+        keys,
         pending,
         image.len(),
         kind,
@@ -235,6 +251,9 @@ pub fn event(
         &next.writers.opened,
         &next.writers.held,
         next.writers.prepared,
+        next.wide.writer,
+        next.wide.count,
+        &next.wide.keys,
         next.pending,
         image,
         kind,

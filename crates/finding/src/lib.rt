@@ -1,23 +1,44 @@
-// What a write finds before it is taken: the row that turns it back, or the frames of its page and its line and whether the writer holds the line.
+// What a write finds before it is taken: the row that turns it back, or the frames of its page and its line and whether the writer holds the line; and what
+// it then asks for.
 ghost use mathlib.Core.Path.{_≡_};
-ghost use mathlib.Core.Bool.{_&&_};
-ghost use lib.Dec.{ltb};
-ghost use Prim.Native.Nat.{_<_, _≤_};
+ghost use mathlib.Core.Bool.{true, false, _&&_, cond};
+ghost use lib.Dec.{ltb, eqb};
+ghost use Prim.Native.Nat.{_+_, _<_, _≤_};
 ghost use lib.ListN.{length as listLength};
 ghost use Rattle.layout.specs.Layout.{Legal, imageLength};
 ghost use Rattle.masks.specs.Lines.{inMask};
 ghost use Rattle.state.specs.Held.{heldAt};
 ghost use Rattle.state.specs.Parts.{stateOf};
-ghost use Rattle.finding.specs.Finding.{FramesFound, WriteFound};
+ghost use Rattle.state.specs.Wide.{wideOf};
+ghost use Rattle.image.specs.Lines.{merged as mergedOf, mergeChanges, lineWords};
+ghost use Rattle.state.specs.declared.Op.the-variants.{Write, Commit, Log, Copy};
+ghost use Rattle.finding.specs.Finding.{FramesFound, EntryFound, WriteFound, SeenLow, foundLine};
 use layout::Sizes;
+use lines::Merged;
+use state::Op;
 use state::Pending;
 
-// The row, 0 where none turns the write back; then the page's frame, the one that the line is read from, and whether the writer holds the line.
+// The row, 0 where none turns the write back; then the page's frame, the one that the line is read from, whether the writer holds the line, and whether it
+// is the wide one. That one holds a line as an entry: it is then `seen`.
 pub struct Found {
     pub row: usize,
     pub frame: usize,
     pub seen: usize,
     pub held: bool,
+    pub wide: bool,
+}
+
+// A refusal.
+fn turned_back(row: usize) -> Found
+    ensures { λ r. ⌜ r ≡ record { row = row; frame = 0; seen = 0; held = false; wide = false } ⌝ }
+{
+    Found {
+        row,
+        frame: 0,
+        seen: 0,
+        held: false,
+        wide: false,
+    }
 }
 
 // Whether the writer holds the line, s being its page's slot, S where it has none.
@@ -72,12 +93,7 @@ fn frames_found<'a>(
         frame,
     );
     if row != 0 {
-        return Found {
-            row,
-            frame,
-            seen: frame,
-            held: false,
-        };
+        return turned_back(row);
     }
     let seen = frames::seen_frame(z, original, spare, bitmap, held, writer, p, s, line, frame);
     let own = holds_line(z, held, writer, s, line);
@@ -86,6 +102,69 @@ fn frames_found<'a>(
         frame,
         seen,
         held: own,
+        wide: false,
+    }
+}
+
+// The same of a wide write.
+fn entry_found<'a>(
+    z: Sizes,
+    page: &'a [usize; 16],
+    original: &'a [usize; 16],
+    spare: &'a [usize; 16],
+    bitmap: &'a [u64; 16],
+    opened: &'a [bool; 4],
+    held: &'a [u64; 64],
+    wide: usize,
+    count: usize,
+    keys: &'a [u64; 64],
+    image: &[u8],
+    p: usize,
+    line: usize,
+    offset: usize,
+    length: usize,
+) -> Found
+    requires { ⌜ Legal z × (count ≤ 64) × (p < z .pages) × (imageLength z ≤ listLength (now image)) ⌝ }
+    ensures { λ r. ⌜ EntryFound z (now (page .entry)) (now (original .entry)) (now (spare .entry)) (now (bitmap .entry)) (now (opened .entry)) (now (held .entry)) (wideOf wide count (now (keys .entry))) (now (image .entry)) p line offset length r ⌝ }
+{
+    let s = state::slots::slot_of(z, page, p);
+    let frame = frames::page_frame(z, original, image, p, s);
+    let row = operations::log_row(
+        z,
+        page,
+        original,
+        spare,
+        opened,
+        wide,
+        count,
+        keys,
+        p,
+        s,
+        line,
+        offset,
+        length,
+        frame,
+    );
+    if row != 0 {
+        return turned_back(row);
+    }
+    let e = entries::find_entry(keys, count, (64 * p + line) as u64);
+    if e < count {
+        return Found {
+            row,
+            frame,
+            seen: e,
+            held: true,
+            wide: true,
+        };
+    }
+    let seen = frames::seen_frame(z, original, spare, bitmap, held, wide, p, s, line, frame);
+    Found {
+        row,
+        frame,
+        seen,
+        held: false,
+        wide: true,
     }
 }
 
@@ -103,6 +182,9 @@ pub fn write_found<'a>(
     opened: &'a [bool; 4],
     held: &'a [u64; 64],
     prepared: usize,
+    wide: usize,
+    count: usize,
+    keys: &'a [u64; 64],
     pending: Pending,
     image: &[u8],
     writer: usize,
@@ -112,7 +194,7 @@ pub fn write_found<'a>(
     length: usize,
     data: &[u8],
 ) -> Found
-    ensures { λ r. ⌜ WriteFound (stateOf z head tail next (now (page .entry)) (now (original .entry)) (now (spare .entry)) (now (bitmap .entry)) (now (last .entry)) (now (opened .entry)) (now (held .entry)) prepared pending) (now (image .entry)) writer p line offset length (now («data» .entry)) r ⌝ }
+    ensures { λ r. ⌜ WriteFound (stateOf z head tail next (now (page .entry)) (now (original .entry)) (now (spare .entry)) (now (bitmap .entry)) (now (last .entry)) (now (opened .entry)) (now (held .entry)) prepared (wideOf wide count (now (keys .entry))) pending) (now (image .entry)) writer p line offset length (now («data» .entry)) r ⌝ }
 {
     let row = rows::first_row(
         z,
@@ -127,25 +209,37 @@ pub fn write_found<'a>(
         opened,
         held,
         prepared,
+        wide,
+        count,
+        keys,
         pending,
         image.len(),
         false,
     );
     if row != 0 {
-        return Found {
-            row,
-            frame: 0,
-            seen: 0,
-            held: false,
-        };
+        return turned_back(row);
     }
     if (data.len() < length) | (p >= z.pages) {
-        return Found {
-            row: 11,
-            frame: 0,
-            seen: 0,
-            held: false,
-        };
+        return turned_back(11);
+    }
+    if wide == writer {
+        return entry_found(
+            z,
+            page,
+            original,
+            spare,
+            bitmap,
+            opened,
+            held,
+            wide,
+            count,
+            keys,
+            image,
+            p,
+            line,
+            offset,
+            length,
+        );
     }
     frames_found(
         z,
@@ -164,4 +258,69 @@ pub fn write_found<'a>(
         offset,
         length,
     )
+}
+
+// The line that was found, with the first n bytes of data laid over it from offset on.
+pub fn merged(
+    image: &[u8],
+    z: Sizes,
+    found: Found,
+    line: usize,
+    offset: usize,
+    data: &[u8],
+    n: usize,
+) -> Merged
+    requires { ⌜ Legal z × SeenLow z found × (line < 64) × (imageLength z ≤ listLength (now image)) × (offset + n ≤ 64) × (n ≤ listLength (now «data»)) ⌝ }
+    ensures words { λ r. ⌜ r .words ≡ lineWords (mergedOf (foundLine (now (image .entry)) z found line) offset n (now («data» .entry))) ⌝ }
+    ensures changed { λ r. ⌜ r .changed ≡ mergeChanges (foundLine (now (image .entry)) z found line) offset n (now («data» .entry)) ⌝ }
+{
+    if found.wide & found.held {
+        return entry_lines::merged_entry(image, z, found.seen, offset, data, n);
+    }
+    lines::merged_line(image, z, found.seen, line, offset, data, n)
+}
+
+// The operation that a write asks for: a wide writer's is a `Log`.
+pub fn write_op(
+    wide: bool,
+    writer: usize,
+    page: usize,
+    line: usize,
+    offset: usize,
+    length: usize,
+) -> Op
+    ensures { λ r. ⌜ r ≡ cond wide (Log page line offset length) (Write writer page line offset length) ⌝ }
+{
+    if wide {
+        return Op::Log {
+            page,
+            line,
+            offset,
+            length,
+        };
+    }
+    Op::Write {
+        writer,
+        page,
+        line,
+        offset,
+        length,
+    }
+}
+
+// The stores that it needs.
+pub fn write_needs(wide: bool) -> usize
+    ensures { λ r. ⌜ r ≡ cond wide 9 8 ⌝ }
+{
+    if wide { 9 } else { 8 }
+}
+
+// The operation that a commit asks for: the wide writer's is a copying.
+pub fn commit_op(wide: usize, writer: usize) -> Op
+    ensures { λ r. ⌜ r ≡ cond (eqb wide writer) Copy (Commit writer) ⌝ }
+{
+    if wide == writer {
+        return Op::Copy;
+    }
+    Op::Commit { writer }
 }

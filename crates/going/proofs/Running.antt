@@ -24,7 +24,7 @@ use Rattle.stores.proofs.LeftMade.{made-row, made-stores, made-none}
 
 -- m is what the code found of the stores that it made
 module _ (st : State) (img : List ℕ) (k : ℕ) (m : Made) (e : m ≡ madeOf st (length img) k) where
-  pub row-low : m .row ≤ 27
+  pub row-low : m .row ≤ 30
   row-low = rw (made-row st (length img) k m e) (row-known (busyRows st (length img)) (omega arith))
 
   -- no row applies

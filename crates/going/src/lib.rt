@@ -2,6 +2,7 @@
 ghost use mathlib.Core.Path.{_≡_};
 ghost use Prim.Native.Nat.{_≤_};
 ghost use Rattle.state.specs.Parts.{stateOf};
+ghost use Rattle.state.specs.Wide.{wideOf};
 ghost use Rattle.event_stores.specs.Taken.{Lengths};
 ghost use Rattle.refinement.specs.Outcome.{answered};
 ghost use Rattle.refinement.specs.Calls.{runOf, runBytes};
@@ -10,7 +11,7 @@ use state::Pending;
 use stores::Places;
 use stores::making::Made;
 
-// What a run came to, where head, tail and the next slot then are, who is prepared, and what is then pending.
+// What a run came to, where head, tail and the next slot then are, who is prepared, the wide writer and its entries, and what is then pending.
 pub struct Gone {
     pub made: Made,
     pub to: Places,
@@ -32,13 +33,16 @@ pub fn go_on(
     opened: &mut [bool; 4],
     held: &mut [u64; 64],
     prepared: usize,
+    wide: usize,
+    count: usize,
+    keys: &mut [u64; 64],
     pending: Pending,
     k: usize,
 ) -> Gone
     requires { ⌜ Lengths (now page) (now original) (now spare) (now bitmap) (now last) (now opened) (now held) ⌝ }
-    ensures row { λ r. ⌜ r .made .row ≤ 27 ⌝ }
-    ensures outcome { λ r. ⌜ answered (r .made .row) (stateOf z (r .to .head) (r .to .tail) (r .to .next) (now (page .exit)) (now (original .exit)) (now (spare .exit)) (now (bitmap .exit)) (now (last .exit)) (now (opened .exit)) (now (held .exit)) (r .to .prepared) (r .pending)) (r .made .stores) (stateOf z (r .to .head) (r .to .tail) (r .to .next) (now (page .exit)) (now (original .exit)) (now (spare .exit)) (now (bitmap .exit)) (now (last .exit)) (now (opened .exit)) (now (held .exit)) (r .to .prepared) (r .pending)) ≡ runOf (stateOf z head tail next (now (page .entry)) (now (original .entry)) (now (spare .entry)) (now (bitmap .entry)) (now (last .entry)) (now (opened .entry)) (now (held .entry)) prepared pending) (now (image .entry)) k ⌝ }
-    ensures bytes { λ _. ⌜ now (image .exit) ≡ runBytes (stateOf z head tail next (now (page .entry)) (now (original .entry)) (now (spare .entry)) (now (bitmap .entry)) (now (last .entry)) (now (opened .entry)) (now (held .entry)) prepared pending) (now (image .entry)) k ⌝ }
+    ensures row { λ r. ⌜ r .made .row ≤ 30 ⌝ }
+    ensures outcome { λ r. ⌜ answered (r .made .row) (stateOf z (r .to .head) (r .to .tail) (r .to .next) (now (page .exit)) (now (original .exit)) (now (spare .exit)) (now (bitmap .exit)) (now (last .exit)) (now (opened .exit)) (now (held .exit)) (r .to .prepared) (wideOf (r .to .wide) (r .to .count) (now (keys .exit))) (r .pending)) (r .made .stores) (stateOf z (r .to .head) (r .to .tail) (r .to .next) (now (page .exit)) (now (original .exit)) (now (spare .exit)) (now (bitmap .exit)) (now (last .exit)) (now (opened .exit)) (now (held .exit)) (r .to .prepared) (wideOf (r .to .wide) (r .to .count) (now (keys .exit))) (r .pending)) ≡ runOf (stateOf z head tail next (now (page .entry)) (now (original .entry)) (now (spare .entry)) (now (bitmap .entry)) (now (last .entry)) (now (opened .entry)) (now (held .entry)) prepared (wideOf wide count (now (keys .entry))) pending) (now (image .entry)) k ⌝ }
+    ensures bytes { λ _. ⌜ now (image .exit) ≡ runBytes (stateOf z head tail next (now (page .entry)) (now (original .entry)) (now (spare .entry)) (now (bitmap .entry)) (now (last .entry)) (now (opened .entry)) (now (held .entry)) prepared (wideOf wide count (now (keys .entry))) pending) (now (image .entry)) k ⌝ }
 {
     let made = stores::making::make_left(
         image,
@@ -54,6 +58,9 @@ pub fn go_on(
         opened,
         held,
         prepared,
+        wide,
+        count,
+        keys,
         pending,
         k,
     );
@@ -65,6 +72,8 @@ pub fn go_on(
             tail,
             next,
             prepared,
+            wide,
+            count,
         };
         return Gone { made, to, pending };
     }
@@ -81,6 +90,9 @@ pub fn go_on(
         opened,
         held,
         prepared,
+        wide,
+        count,
+        keys,
         pending,
     );
     let pending = settled::no_pending();

@@ -28,7 +28,7 @@ pub fn read_line(image: &[u8], z: Sizes, f: usize, l: usize, target: &mut [u8])
 }
 
 // Whether two lines differ, told by their words.
-fn words_differ<'a>(a: &'a [u64; 8], b: &'a [u64; 8]) -> bool
+pub fn words_differ<'a>(a: &'a [u64; 8], b: &'a [u64; 8]) -> bool
     ensures { λ r. ⌜ r ≡ differ 8 (now (a .entry)) (now (b .entry)) ⌝ }
 {
     (a[0] != b[0])

@@ -36,7 +36,7 @@ use Rattle.loading.specs.declared.Loaded.{Loaded}
 use Rattle.loading.specs.Loaded.{loadedOf, committedAt, meterHighAt, highAt, storedRows, FramesLow}
 
 -- the number of a text is a row's
-pub text-low : (text : List ℕ) → textRow text ≤ 27
+pub text-low : (text : List ℕ) → textRow text ≤ 30
 text-low text =
     caseOn (eqb (textRow text) 25)
     (λ t. omega (arith, eqb-true (textRow text) 25 t))

@@ -96,7 +96,7 @@ fn stored_row<'a>(
 
 // A refusal by a row.
 fn refused(row: usize) -> Loaded
-    requires { ⌜ row ≤ 27 ⌝ }
+    requires { ⌜ row ≤ 30 ⌝ }
     ensures { λ r. ⌜ (loadedOf r ≡ record { number = row; moduli = replicate 24 0 }) × (storesOf (r .answer) ≡ 0) ⌝ }
 {
     let answer = answers::answer_of(row, 0);
@@ -121,6 +121,9 @@ pub fn load(st: State, image: &[u8], text: &[u8]) -> Loaded
         &st.writers.opened,
         &st.writers.held,
         st.writers.prepared,
+        st.wide.writer,
+        st.wide.count,
+        &st.wide.keys,
         st.pending,
         image.len(),
         false,

@@ -26,7 +26,7 @@ use Rattle.answers.proofs.Answered.{row-known, call-refused, call-taken}
 
 -- m is what the code found
 module _ (img : List ℕ) (m : Mounted) (e : m ≡ mountOf img) where
-  pub mount-known : m .row ≤ 27
+  pub mount-known : m .row ≤ 30
   unfolding mountOf mountRead
   mount-known =
       let row = refusal (mountRows (length img) (word img)) in
@@ -43,7 +43,7 @@ module _ (img : List ℕ) (m : Mounted) (e : m ≡ mountOf img) where
       call-taken d (mountOf img .row) 0 noState (mountedState (mountOf img)) (sym (ap (λ (x : Mounted). x .row) e) ∙ z) (rw (a, e) at h)
 
 module _ (z : Sizes) (img : List ℕ) (row : ℕ) (e : row ≡ formatRow z img) where
-  pub format-known : row ≤ 27
+  pub format-known : row ≤ 30
   format-known = rw e (row-known (formatRows z (length img)) (omega arith))
 
   pub format-legal : row ≡ 0 → Legal z

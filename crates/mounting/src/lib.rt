@@ -3,11 +3,14 @@ ghost use mathlib.Core.Path.{_≡_};
 ghost use Rattle.layout.specs.declared.Sizes.{Sizes};
 ghost use Rattle.fresh.specs.Fresh.{formatBytes};
 ghost use Rattle.answers.specs.Answers.{outcomeOf};
-ghost use Rattle.refinement.specs.Mount.{allClosed, quietState, noState, mountCall, formatCall};
+ghost use Rattle.refinement.specs.Mount.{allClosed, quietState, copyingState, noState, mountCall, formatCall};
 use answers::Done;
 use layout::Sizes;
 use replay::Table;
+use state::Op;
+use state::Pending;
 use state::State;
+use state::Wide;
 use state::Writers;
 
 // A state in which no writer is open or prepared, next slot is 0 and nothing is pending.
@@ -19,6 +22,7 @@ fn quiet_state(z: Sizes, head: usize, tail: usize, table: Table) -> State
         held: [0; 64],
         prepared: 4,
     };
+    let wide = settled::begun_wide(4);
     let pending = settled::no_pending();
     State {
         sizes: z,
@@ -27,8 +31,38 @@ fn quiet_state(z: Sizes, head: usize, tail: usize, table: Table) -> State
         next: 0,
         table,
         writers,
+        wide,
         pending,
     }
+}
+
+// The same with the copying of n entries pending, the store of their count made.
+fn copying_state(
+    z: Sizes,
+    head: usize,
+    tail: usize,
+    table: Table,
+    n: usize,
+    keys: [u64; 64],
+) -> State
+    ensures { λ r. ⌜ r ≡ copyingState z head tail table n keys ⌝ }
+{
+    let mut st = quiet_state(z, head, tail, table);
+    let wide = Wide {
+        writer: 4,
+        count: n,
+        keys,
+    };
+    let pending = Pending {
+        op: Op::Copy,
+        made: 1,
+        line: [0; 8],
+        second: [0; 8],
+        frame: 0,
+    };
+    st.wide = wide;
+    st.pending = pending;
+    st
 }
 
 // A state with nothing in it.
@@ -44,7 +78,7 @@ fn no_state() -> State
     quiet_state(z, 0, 0, replay::empty_table())
 }
 
-// Mounts an image: reads only.
+// Mounts an image: reads only. Entries that are counted are still to be copied.
 pub fn mount(image: &[u8]) -> Done
     ensures { λ r. ⌜ outcomeOf r ≡ mountCall (now (image .entry)) ⌝ }
 {
@@ -54,7 +88,11 @@ pub fn mount(image: &[u8]) -> Done
     }
     let z = m.sizes;
     let t = m.table;
-    answers::taken(0, quiet_state(z, m.head, m.tail, t))
+    if m.count == 0 {
+        return answers::taken(0, quiet_state(z, m.head, m.tail, t));
+    }
+    let keys = m.keys;
+    answers::taken(0, copying_state(z, m.head, m.tail, t, m.count, keys))
 }
 
 // Writes a fresh image and returns its state.

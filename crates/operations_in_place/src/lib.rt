@@ -23,6 +23,7 @@ fn ask(
     last: &mut [usize; 16],
     opened: &mut [bool; 4],
     held: &mut [u64; 64],
+    keys: &mut [u64; 64],
     op: Op,
 ) -> Went
     requires { ⌜ isIdle op ≡ false ⌝ }
@@ -43,6 +44,9 @@ fn ask(
         opened,
         held,
         at.prepared,
+        at.wide,
+        at.count,
+        keys,
         idle,
         op,
         n,
@@ -67,6 +71,9 @@ fn ask(
             opened,
             held,
             at.prepared,
+            at.wide,
+            at.count,
+            keys,
             pending,
         );
         return Went {
@@ -106,6 +113,7 @@ pub fn commit(
     last: &mut [usize; 16],
     opened: &mut [bool; 4],
     held: &mut [u64; 64],
+    keys: &mut [u64; 64],
     writer: usize,
 ) -> Went
     ensures { λ r. ⌜ Through (wentTo z r (now (page .exit)) (now (original .exit)) (now (spare .exit)) (now (bitmap .exit)) (now (last .exit)) (now (opened .exit)) (now (held .exit))) (now (image .exit)) (commitOf (quietAt z at (now (page .entry)) (now (original .entry)) (now (spare .entry)) (now (bitmap .entry)) (now (last .entry)) (now (opened .entry)) (now (held .entry))) (now (image .entry)) writer) (now (image .entry)) ⌝ }
@@ -138,6 +146,7 @@ pub fn consolidate(
     last: &mut [usize; 16],
     opened: &mut [bool; 4],
     held: &mut [u64; 64],
+    keys: &mut [u64; 64],
     p: usize,
 ) -> Went
     ensures { λ r. ⌜ Through (wentTo z r (now (page .exit)) (now (original .exit)) (now (spare .exit)) (now (bitmap .exit)) (now (last .exit)) (now (opened .exit)) (now (held .exit))) (now (image .exit)) (consolidateOf (quietAt z at (now (page .entry)) (now (original .entry)) (now (spare .entry)) (now (bitmap .entry)) (now (last .entry)) (now (opened .entry)) (now (held .entry))) (now (image .entry)) p) (now (image .entry)) ⌝ }
@@ -170,6 +179,7 @@ pub fn checkpoint(
     last: &mut [usize; 16],
     opened: &mut [bool; 4],
     held: &mut [u64; 64],
+    keys: &mut [u64; 64],
 ) -> Went
     ensures { λ r. ⌜ Through (wentTo z r (now (page .exit)) (now (original .exit)) (now (spare .exit)) (now (bitmap .exit)) (now (last .exit)) (now (opened .exit)) (now (held .exit))) (now (image .exit)) (checkpointOf (quietAt z at (now (page .entry)) (now (original .entry)) (now (spare .entry)) (now (bitmap .entry)) (now (last .entry)) (now (opened .entry)) (now (held .entry))) (now (image .entry))) (now (image .entry)) ⌝ }
 {

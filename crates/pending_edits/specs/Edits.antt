@@ -5,7 +5,7 @@ use mathlib.Core.List.{List}
 use lib.Dec.{leb, eqb}
 use lib.ListN.{getD, set, replicate}
 use Rattle.words.specs.Words.{leOf, bytesOf}
-use Rattle.state.specs.declared.Op.the-variants.{Idle, Write, Commit, Consolidate, Checkpoint, Event, Prepare, Confirm}
+use Rattle.state.specs.declared.Op.the-variants.{Idle, Write, Commit, Consolidate, Checkpoint, Event, Prepare, Confirm, Log, Copy}
 use Rattle.state.specs.declared.Op.{Op}
 use Rattle.state.specs.declared.Pending.{Pending}
 use Rattle.state.specs.declared.State.{State}
@@ -30,7 +30,7 @@ pendingOf line =
 
 abbrev pub withPending : State → Pending → State
 withPending st p =
-    record { sizes = st .sizes; head = st .head; tail = st .tail; next = st .next; table = st .table; writers = st .writers; pending = p }
+    record { sizes = st .sizes; head = st .head; tail = st .tail; next = st .next; table = st .table; writers = st .writers; wide = st .wide; pending = p }
 
 abbrev pub pendingTurn : Bench → Line → Turn
 pendingTurn b line =
@@ -47,6 +47,8 @@ isWrite Checkpoint = false
 isWrite (Event k m a) = false
 isWrite (Prepare w) = false
 isWrite (Confirm w) = false
+isWrite (Log p l o n) = false
+isWrite Copy = false
 
 -- the words of a line with its byte i set to v
 abbrev pub withLineByte : List ℕ → ℕ → ℕ → List ℕ

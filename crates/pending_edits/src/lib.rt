@@ -95,6 +95,13 @@ fn is_write(op: Op) -> bool
         } => false,
         Op::Prepare { writer: _ } => false,
         Op::Confirm { writer: _ } => false,
+        Op::Log {
+            page: _,
+            line: _,
+            offset: _,
+            length: _,
+        } => false,
+        Op::Copy => false,
     }
 }
 

@@ -5,7 +5,7 @@ use mathlib.Core.Path.{_≡_, refl}
 use native.Mathlib.Omega.{arith}
 use lib.ListN.{length, getD, length-append}
 use Rattle.words.proofs.Bytes.{length-bytes}
-use Rattle.state.specs.declared.Op.the-variants.{Idle, Write, Commit, Consolidate, Checkpoint, Event, Prepare, Confirm}
+use Rattle.state.specs.declared.Op.the-variants.{Idle, Write, Commit, Consolidate, Checkpoint, Event, Prepare, Confirm, Log, Copy}
 use Rattle.state.specs.declared.Op.{Op}
 use Rattle.state.specs.declared.Pending.{Pending}
 use Rattle.number_text.proofs.Puts.{length-each}
@@ -23,6 +23,8 @@ length-op Checkpoint made frame = refl
 length-op (Event k m a) made frame = refl
 length-op (Prepare w) made frame = refl
 length-op (Confirm w) made frame = refl
+length-op (Log p l o n) made frame = refl
+length-op Copy made frame = refl
 
 finished-long : (op : Op) (words : List ℕ) → length (finishedNumbers op words) ≤ 64
 finished-long Idle words = omega arith
@@ -33,6 +35,8 @@ finished-long Checkpoint words = omega arith
 finished-long (Event k m a) words = omega arith
 finished-long (Prepare w) words = omega arith
 finished-long (Confirm w) words = omega arith
+finished-long (Log p l o n) words = omega arith
+finished-long Copy words = omega arith
 
 pub pending-long : (p : Pending) → length (pendingNumbers p) ≤ 72
 pending-long p =

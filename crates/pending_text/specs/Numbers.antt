@@ -3,7 +3,7 @@ use Prim.Native.Nat.{ℕ}
 use mathlib.Core.List.{List, [], _∷_, _++_}
 use lib.ListN.{getD}
 use Rattle.words.specs.Words.{bytesOf}
-use Rattle.state.specs.declared.Op.the-variants.{Idle, Write, Commit, Consolidate, Checkpoint, Event, Prepare, Confirm}
+use Rattle.state.specs.declared.Op.the-variants.{Idle, Write, Commit, Consolidate, Checkpoint, Event, Prepare, Confirm, Log, Copy}
 use Rattle.state.specs.declared.Op.{Op}
 use Rattle.state.specs.declared.Pending.{Pending}
 use Rattle.number_text.specs.Text.{each}
@@ -15,10 +15,12 @@ opNumbers (Write w p l o n) made frame = 1 ∷ w ∷ p ∷ l ∷ o ∷ n ∷ mad
 opNumbers (Commit w) made frame = 2 ∷ w ∷ 0 ∷ 0 ∷ 0 ∷ 0 ∷ made ∷ 0 ∷ []
 opNumbers (Consolidate p) made frame = 3 ∷ p ∷ 0 ∷ 0 ∷ 0 ∷ 0 ∷ made ∷ 0 ∷ []
 opNumbers Checkpoint made frame = 4 ∷ 0 ∷ 0 ∷ 0 ∷ 0 ∷ 0 ∷ made ∷ 0 ∷ []
--- no line of probe makes an event, a prepare or a confirm; an event that is pending has kind, meter and amount, the others their writer
+-- no line of probe makes one of the others, but a mount may leave a copying; an event that is pending has kind, meter and amount, a wide write its place
 opNumbers (Event k m a) made frame = 5 ∷ k ∷ m ∷ a ∷ 0 ∷ 0 ∷ made ∷ frame ∷ []
 opNumbers (Prepare w) made frame = 6 ∷ w ∷ 0 ∷ 0 ∷ 0 ∷ 0 ∷ made ∷ 0 ∷ []
 opNumbers (Confirm w) made frame = 7 ∷ w ∷ 0 ∷ 0 ∷ 0 ∷ 0 ∷ made ∷ 0 ∷ []
+opNumbers (Log p l o n) made frame = 8 ∷ p ∷ l ∷ o ∷ n ∷ 0 ∷ made ∷ frame ∷ []
+opNumbers Copy made frame = 9 ∷ 0 ∷ 0 ∷ 0 ∷ 0 ∷ 0 ∷ made ∷ 0 ∷ []
 
 -- the 64 bytes of a line of words
 abbrev pub lineBytes : List ℕ → ℕ → List ℕ
@@ -37,6 +39,8 @@ finishedNumbers Checkpoint words = []
 finishedNumbers (Event k m a) words = []
 finishedNumbers (Prepare w) words = []
 finishedNumbers (Confirm w) words = []
+finishedNumbers (Log p l o n) words = []
+finishedNumbers Copy words = []
 
 abbrev pub pendingNumbers : Pending → List ℕ
 pendingNumbers p = opNumbers (p .op) (p .made) (p .frame) ++ finishedNumbers (p .op) (p .line)

@@ -40,6 +40,22 @@ fn op_numbers(op: Op, made: usize, frame: usize) -> [u64; 8]
         } => [5, kind as u64, meter as u64, amount, 0, 0, m, frame as u64],
         Op::Prepare { writer } => [6, writer as u64, 0, 0, 0, 0, m, 0],
         Op::Confirm { writer } => [7, writer as u64, 0, 0, 0, 0, m, 0],
+        Op::Log {
+            page,
+            line,
+            offset,
+            length,
+        } => [
+            8,
+            page as u64,
+            line as u64,
+            offset as u64,
+            length as u64,
+            0,
+            m,
+            frame as u64,
+        ],
+        Op::Copy => [9, 0, 0, 0, 0, 0, m, 0],
     }
 }
 
@@ -105,6 +121,13 @@ fn put_finished(out: &mut [u8], at: usize, op: Op, line: [u64; 8]) -> usize
         } => at,
         Op::Prepare { writer: _ } => at,
         Op::Confirm { writer: _ } => at,
+        Op::Log {
+            page: _,
+            line: _,
+            offset: _,
+            length: _,
+        } => at,
+        Op::Copy => at,
     }
 }
 

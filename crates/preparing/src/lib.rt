@@ -11,14 +11,16 @@ use state::State;
 pub fn prepare(st: State, image: &[u8], writer: usize) -> Done
     ensures { λ r. ⌜ outcomeOf r ≡ prepareOf st (now (image .entry)) writer ⌝ }
 {
-    asking::ask(st, image.len(), Op::Prepare { writer })
+    let op = Op::Prepare { writer };
+    asking::ask(st, image.len(), op, op)
 }
 
 // Asks for head, which commits the records.
 pub fn confirm(st: State, image: &[u8], writer: usize) -> Done
     ensures { λ r. ⌜ outcomeOf r ≡ confirmOf st (now (image .entry)) writer ⌝ }
 {
-    asking::ask(st, image.len(), Op::Confirm { writer })
+    let op = Op::Confirm { writer };
+    asking::ask(st, image.len(), op, op)
 }
 
 // Lets the transaction go on: no writer is prepared.
@@ -39,6 +41,9 @@ pub fn withdraw(st: State, image: &[u8], writer: usize) -> Done
         &next.writers.opened,
         &next.writers.held,
         next.writers.prepared,
+        next.wide.writer,
+        next.wide.count,
+        &next.wide.keys,
         next.pending,
         Op::Confirm { writer },
         image.len(),

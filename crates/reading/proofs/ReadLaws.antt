@@ -37,7 +37,7 @@ asking z w p l n e =
     }
 
 module _ (st : State) (img : List ℕ) (w p l : ℕ) (target : List ℕ) where
-  pub read-refused : (a : Answer) (row : ℕ) → a ≡ asAnswer row 0 → row ≤ 27 → (row ≡ 0 → ⊥) → row ≡ refusal (readRows st img w p l target)
+  pub read-refused : (a : Answer) (row : ℕ) → a ≡ asAnswer row 0 → row ≤ 30 → (row ≡ 0 → ⊥) → row ≡ refusal (readRows st img w p l target)
       → ((numberOf a ≡ readRow st img w p l target) × (storesOf a ≡ 0)) × (target ≡ readBytes st img w p l target)
   unfolding readRow readBytes
   read-refused a row e k n h =

@@ -7,7 +7,7 @@ ghost use Rattle.refinement.specs.Calls.{readRow, readBytes};
 use answers::Answer;
 use state::State;
 
-// Reads a line as a writer sees it.
+// Reads a line as a writer sees it, a wide one its own entry first.
 pub fn read(
     st: State,
     image: &[u8],
@@ -32,6 +32,9 @@ pub fn read(
         &st.writers.opened,
         &st.writers.held,
         st.writers.prepared,
+        st.wide.writer,
+        st.wide.count,
+        &st.wide.keys,
         st.pending,
         image.len(),
         false,
@@ -56,6 +59,18 @@ pub fn read(
     );
     if found.bad {
         return Answer::BadFrame;
+    }
+    let e = entry_lines::own_entry(
+        st.wide.writer,
+        st.wide.count,
+        &st.wide.keys,
+        writer,
+        page,
+        line,
+    );
+    if e < st.wide.count {
+        entry_lines::read_entry(image, st.sizes, e, target);
+        return Answer::Taken(0);
     }
     lines::read_line(image, st.sizes, found.seen, line, target);
     Answer::Taken(0)

@@ -5,7 +5,7 @@ mod odd;
 mod samples;
 
 fn main() {
-    for call in 0..19 {
+    for call in 0..20 {
         samples::show_call(call);
     }
     odd::show_odd();

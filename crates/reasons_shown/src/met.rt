@@ -7,8 +7,10 @@ use state::State;
 // Calls with their writer, page and line, an event with its kind, meter and amount. Writers 3 and 1 hold lines 5 and 6 of page 1; then 0 and 3 want
 // line 6, and 0 line 5 and another page, and pages 1 and 0 are to be consolidated and a slot freed. Then come an unknown event and bets: writer 1 is
 // open, there is no slot, writer 0 holds credit's line and 2 the bet's, 2 the bet's alone; then there is no credit to cash out, and of two counts the
-// second has no room. At last writer 0, who holds nothing, is prepared: what others and it may not do then; and writer 2's records have no room.
-const CALLS: [[usize; 4]; 41] = [
+// second has no room. Then writer 0, who holds nothing, is prepared: what others and it may not do then; and writer 2's records have no room. A wide
+// begin finds no entries. Format gives one: beside an open writer, and with writer 4, a wide begin is turned back; then writer 1's is taken, and another
+// begin, an event, a prepare, a confirm, a second line and another's write are not.
+const CALLS: [[usize; 4]; 55] = [
     [wording::BEGIN, 3, 0, 0],
     [wording::BEGIN, 1, 0, 0],
     [wording::BEGIN, 0, 0, 0],
@@ -50,6 +52,20 @@ const CALLS: [[usize; 4]; 41] = [
     [wording::WITHDRAW, 2, 0, 0],
     [wording::WITHDRAW, 0, 0, 0],
     [wording::PREPARE, 2, 0, 0],
+    [wording::BEGIN_WIDE, 0, 0, 0],
+    [wording::FORMAT, 1, 0, 0],
+    [wording::BEGIN, 0, 0, 0],
+    [wording::BEGIN_WIDE, 1, 0, 0],
+    [wording::ABORT, 0, 0, 0],
+    [wording::BEGIN_WIDE, 4, 0, 0],
+    [wording::BEGIN_WIDE, 1, 0, 0],
+    [wording::BEGIN, 0, 0, 0],
+    [wording::EVENT, 3, 0, 1],
+    [wording::PREPARE, 1, 0, 0],
+    [wording::CONFIRM, 1, 0, 0],
+    [wording::WRITE, 1, 0, 5],
+    [wording::WRITE, 1, 1, 5],
+    [wording::WRITE, 0, 1, 5],
 ];
 
 // Makes a call.
@@ -57,6 +73,7 @@ fn make(st: State, image: &[u8], row: &[usize; 4]) -> Done {
     let moduli = meters::fixed_moduli();
     match row[0] {
         wording::BEGIN => writers::begin(st, row[1]),
+        wording::BEGIN_WIDE => writers::begin_wide(st, row[1]),
         wording::ABORT => writers::abort(st, row[1]),
         wording::WRITE => transactions::write(st, image, row[1], row[2], row[3], 0, 1, b"x"),
         wording::CONSOLIDATE => transactions::consolidate(st, image, row[2]),
@@ -90,20 +107,28 @@ fn tell(done: Done, row: &[usize; 4]) {
     crate::samples::write_both(&target[..n], b"\n");
 }
 
-// The calls one after the other, each run to its end.
-pub fn show_met() {
-    let mut image = [0u8; 12480];
+fn fresh(image: &mut [u8], entries: usize) -> State {
     let z = Sizes {
         pages: 2,
         slots: 1,
         places: 2,
-        entries: 0,
+        entries,
     };
-    let mut st = mounting::format(&mut image, z).state;
-    for k in 0..41 {
+    mounting::format(image, z).state
+}
+
+// The calls one after the other, each run to its end. A format starts anew with so many entries.
+pub fn show_met() {
+    let mut image = [0u8; 12552];
+    let mut st = fresh(&mut image, 0);
+    for k in 0..55 {
         let row = CALLS[k];
-        let done = make(st, &image, &row);
-        tell(done, &row);
-        st = stepping::run(done.state, &mut image, 13).state;
+        if row[0] == wording::FORMAT {
+            st = fresh(&mut image, row[1]);
+        } else {
+            let done = make(st, &image, &row);
+            tell(done, &row);
+            st = stepping::run(done.state, &mut image, 13).state;
+        }
     }
 }

@@ -80,10 +80,10 @@ fn show(reason: Reason) -> usize
 }
 
 // The sentences of a call, for the smallest arguments, the largest that a call takes and the largest that fit a word, and how many numbers below
-// 30 are turned back.
+// 33 are turned back.
 pub fn show_call(call: usize) {
     let mut none: usize = 0;
-    for number in 0..30 {
+    for number in 0..33 {
         none += show(Reason {
             call,
             number,

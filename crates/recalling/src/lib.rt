@@ -1,4 +1,4 @@
-// Recall, for a host screen written in C: it mounts, copies one committed line and forgets.
+// Recall, for a host screen written in C: it mounts, copies one committed line, which is that of its entry where there is one, and forgets.
 ghost use mathlib.Core.Path.{_≡_};
 ghost use Prim.Native.Nat.{_<_, _≤_};
 ghost use lib.ListN.{length};
@@ -32,6 +32,11 @@ pub extern "C" fn recall(page: usize, line: usize, image: &[u8], target: &mut [u
     }
     if (page >= m.sizes.pages) | (line > 63) | (target.len() < 64) {
         return 11;
+    }
+    let e = entries::find_entry(&m.keys, m.count, (64 * page + line) as u64);
+    if e < m.count {
+        entry_lines::read_entry(image, m.sizes, e, target);
+        return 0;
     }
     let f = recall_frame(image, m.sizes, m.table, page, line);
     lines::read_line(image, m.sizes, f, line, target);

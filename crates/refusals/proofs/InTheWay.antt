@@ -17,13 +17,15 @@ use Rattle.meters.specs.Meters.{eventKnown, firstMeter, ownMeter}
 use Rattle.meters.proofs.MeterLaws.{first-low, own-range}
 use Rattle.state.specs.declared.State.{State}
 use Rattle.state.specs.Held.{othersHold, someHold}
+use Rattle.state.specs.Wide.{isWide}
 use Rattle.operations.specs.Operations.{slotFor, slotted}
 use Rattle.validity.specs.Validity.{stateOk, slotsOk}
 use Rattle.validity.proofs.Ranged.{slots-good}
 use Rattle.refinement.specs.Calls.{writeCallRows, consolidateCallRows, eventCallRows}
 use Rattle.refusals.specs.Met.{holdsLine, holdsSlot, slotMet, lineHolder, pageHolder, eventHolder, Lowest}
 use Rattle.refusals.proofs.Slots.{has-slot, line-first, page-first}
-use Rattle.refusals.proofs.OnlyRow.{Stopped, stopped}
+use Rattle.refusals.proofs.OnlyRow.{Stopped, stopped, never}
+use Rattle.refusals.proofs.Returned.{writeTable}
 
 -- some of the four stand in the way, so the first is one of them
 lowest : (f : ℕ → Bool) → someBelow 4 f ≡ true → Lowest f (firstBelow 4 f)
@@ -53,12 +55,12 @@ module _ (st : State) (p : ℕ) (ok : not (stateOk st) ≡ false) (has : slotted
   slot-low : slotFor st p < 16
   slot-low = let l = legal (st .sizes) sizes in omega (arith, ltb-true (slotFor st p) (st .sizes .slots) has)
 
--- 14
-pub write-met : (st : State) (img : List ℕ) (w p l o n : ℕ) (bytes : List ℕ) → refusal (writeCallRows st img w p l o n bytes) ≡ 14
+-- 14, which a wide writer never meets
+narrow-met : (st : State) (img : List ℕ) (w p l o n : ℕ) (bytes : List ℕ) → refusal (writeTable st img w p l o n bytes false) ≡ 14
     → Lowest (holdsLine (st .writers .held) w (slotFor st p) l) (lineHolder st w p l)
 unfolding othersHold
-write-met st img w p l o n bytes e =
-    let s = stopped (writeCallRows st img w p l o n bytes) 7 14 refl e in
+narrow-met st img w p l o n bytes e =
+    let s = stopped (writeTable st img w p l o n bytes false) 7 14 refl e in
     let others = othersHold (st .writers .held) w (slotFor st p) l in
     let has = and-left (slotted st p) others (s .applies) in
     let args = s .past .1 .1 .1 .1 .0 in
@@ -67,6 +69,13 @@ write-met st img w p l o n bytes e =
     subst (λ (v : ℕ). Lowest (holdsLine (st .writers .held) w (slotFor st p) l) v)
     (line-first st p (slotFor st p) (slot st p (s .past .0) has) w l (slot-low st p (s .past .0) has) (ltb-false 63 l high))
     (lowest (holdsLine (st .writers .held) w (slotFor st p) l) (and-right (slotted st p) others (s .applies)))
+
+pub write-met : (st : State) (img : List ℕ) (w p l o n : ℕ) (bytes : List ℕ) → refusal (writeCallRows st img w p l o n bytes) ≡ 14
+    → Lowest (holdsLine (st .writers .held) w (slotFor st p) l) (lineHolder st w p l)
+write-met st img w p l o n bytes e =
+    caseOn (isWide (st .wide) w)
+    (λ t. never (writeTable st img w p l o n bytes true) 14 refl (rw t at e))
+    (λ t. narrow-met st img w p l o n bytes (rw t at e))
 
 -- 18
 pub consolidate-met : (st : State) (img : List ℕ) (p : ℕ) → refusal (consolidateCallRows st img p) ≡ 18
@@ -111,11 +120,11 @@ pub event-met : (st : State) (img ms : List ℕ) (k m a : ℕ) → refusal (even
     → Lowest (λ v. holdsLine (st .writers .held) 1 (slotFor st 0) (firstMeter k m) v || holdsLine (st .writers .held) 1 (slotFor st 0) (ownMeter k m) v) (eventHolder st k m)
 unfolding othersHold eventHolder
 event-met st img ms k m a e =
-    let s = stopped (eventCallRows st img ms k m a) 7 14 refl e in
+    let s = stopped (eventCallRows st img ms k m a) 8 14 refl e in
     let f = holdsLine (st .writers .held) 1 (slotFor st 0) (firstMeter k m) in
     let g = holdsLine (st .writers .held) 1 (slotFor st 0) (ownMeter k m) in
     let h = both (slotted st 0) (someBelow 4 f) (someBelow 4 g) (s .applies) in
-    let known = not-false (eventKnown k m) (s .past .1 .1 .1 .0) in
+    let known = not-false (eventKnown k m) (s .past .1 .1 .1 .1 .0) in
     let first = line-first st 0 (slotFor st 0) (slot st 0 (s .past .0) (h .0)) 1 (firstMeter k m) (slot-low st 0 (s .past .0) (h .0)) (omega (arith, first-low k m known)) in
     let own = line-first st 0 (slotFor st 0) (slot st 0 (s .past .0) (h .0)) 1 (ownMeter k m) (slot-low st 0 (s .past .0) (h .0)) (omega (arith, own-range k m known .1)) in
     rw (← first, ← own) (two-lowest f g (h .1))

@@ -22,7 +22,7 @@ only (suc k) n (r ∷ rs) = not (eqb (r .1) n) && only k n rs
 differs : {X : Type 0} {m n : ℕ} → not (eqb m n) ≡ true → m ≡ n → X
 differs {m = m} {n} t e = contradicts (eq-eqb m n e) (not-true (eqb m n) t)
 
-never : {X : Type 0} (rs : List Row) (n : ℕ) → nowhere n rs ≡ true → refusal rs ≡ n → X
+pub never : {X : Type 0} (rs : List Row) (n : ℕ) → nowhere n rs ≡ true → refusal rs ≡ n → X
 never [] n t e = differs t e
 never (r ∷ rs) n t e =
     caseOn (r .0)

@@ -1,8 +1,9 @@
 -- The table of numbers that each call can return is that of its rows: a call answers with no other number, and each number stands in a row.
 use mathlib.Core.Path.{_≡_, refl, sym, subst}
-use mathlib.Core.Bool.{Bool, true, false, not, _&&_}
+use mathlib.Core.Bool.{Bool, true, false, cond, not, _&&_, _||_}
 use mathlib.Core.List.{List, [], _∷_}
 use Prim.Native.Nat.{ℕ, _<_}
+use lib.Dec.{ltb}
 use lib.ListN.{length}
 use Rattle.bounded.specs.Below.{allBelow}
 use Rattle.bounded.specs.Rows.{Row, refusal}
@@ -13,9 +14,12 @@ use Rattle.words.specs.Words.{word}
 use Rattle.mount.specs.Mount.{mountRows}
 use Rattle.fresh.specs.Fresh.{formatRows}
 use Rattle.state.specs.declared.State.{State}
-use Rattle.refinement.specs.Calls.{beginRows, abortRows, writeCallRows, commitCallRows, confirmCallRows, consolidateCallRows, freeCallRows, checkpointCallRows, readRows, stepRows, eventCallRows, loadRows}
+use Rattle.state.specs.Wide.{isWide}
+use Rattle.operations.specs.Operations.{writeRows, logRows}
+use Rattle.refinement.specs.Calls.{beginRows, beginWideRows, abortRows, rowState, rowShort, rowPending, writeCallRows, commitCallRows, prepareCallRows, confirmCallRows, consolidateCallRows, freeCallRows, checkpointCallRows, readRows, stepRows, eventCallRows, loadRows}
+use Rattle.refinement.specs.Frames.{pageFrame}
 use Rattle.refinement.specs.Recall.{recallRows}
-use Rattle.wording.specs.Calls.{format, mount, recall, begin, abort, write, commit, consolidate, checkpoint, read, step, run, freeSlot, event, load, prepare, confirm, withdraw, numberCount, places, oneMore, oneOf, standsIn, canReturn}
+use Rattle.wording.specs.Calls.{format, mount, recall, begin, beginWide, abort, write, commit, consolidate, checkpoint, read, step, run, freeSlot, event, load, prepare, confirm, withdraw, numberCount, places, oneMore, oneOf, standsIn, canReturn}
 
 abbrev numbersOf : List Row → List ℕ
 numbersOf [] = []
@@ -54,6 +58,24 @@ returns c rows t u =
       stands = λ n h. agreed (canReturn c n) (oneOf (numbersOf rows) n) (all-at (λ k. agree (canReturn c k) (oneOf (numbersOf rows) k)) numberCount n h u);
     }
 
+-- the same of a call with two tables, of which a test picks one: a number stands in either
+pub record ReturnsByOne (c : ℕ) (b : Bool) (rows : Bool → List Row) : Type 0 where
+  pub answers : (n : ℕ) → refusal (rows b) ≡ n → (n ≡ 0 → ⊥) → canReturn c n ≡ true
+  pub stands : (n : ℕ) → n < numberCount → canReturn c n ≡ (oneOf (numbersOf (rows false)) n || oneOf (numbersOf (rows true)) n)
+
+listed-both : (c : ℕ) (rows : Bool → List Row) (b : Bool) → listed c (rows false) ≡ true → listed c (rows true) ≡ true → listed c (rows b) ≡ true
+listed-both c rows true f t = t
+listed-both c rows false f t = f
+
+returns-by-one : (c : ℕ) (b : Bool) (rows : Bool → List Row) → listed c (rows false) ≡ true → listed c (rows true) ≡ true
+    → allBelow numberCount (λ n. agree (canReturn c n) (oneOf (numbersOf (rows false)) n || oneOf (numbersOf (rows true)) n)) ≡ true → ReturnsByOne c b rows
+returns-by-one c b rows f t u =
+    let either : ℕ → Bool = λ (n : ℕ). oneOf (numbersOf (rows false)) n || oneOf (numbersOf (rows true)) n in
+    record {
+      answers = answered c (rows b) (listed-both c rows b f t);
+      stands = λ n h. agreed (canReturn c n) (either n) (all-at (λ k. agree (canReturn c k) (either k)) numberCount n h u);
+    }
+
 -- ---- call by call
 
 module _ (z : Sizes) (k : ℕ) where
@@ -75,21 +97,34 @@ module _ (st : State) (img : List ℕ) where
   unfolding canReturn standsIn places oneOf oneMore allBelow
   begin-returns w = returns begin (beginRows st w) refl refl
 
+  pub begin-wide-returns : (w : ℕ) → Returns beginWide (beginWideRows st w)
+  unfolding canReturn standsIn places oneOf oneMore allBelow
+  begin-wide-returns w = returns beginWide (beginWideRows st w) refl refl
+
   pub abort-returns : (w : ℕ) → Returns abort (abortRows st w)
   unfolding canReturn standsIn places oneOf oneMore allBelow
   abort-returns w = returns abort (abortRows st w) refl refl
 
-  pub write-returns : (w p l o n : ℕ) (bytes : List ℕ) → Returns write (writeCallRows st img w p l o n bytes)
+  -- a write's rows, where its writer is the wide one and where it is not
+  abbrev pub writeTable : ℕ → ℕ → ℕ → ℕ → ℕ → List ℕ → Bool → List Row
+  writeTable w p l o n bytes wide =
+      rowState st ∷ rowShort st (length img) ∷ rowPending st ∷ (ltb (length bytes) n, 11)
+      ∷ cond wide (logRows st p l o n (pageFrame st img p)) (writeRows st w p l o n (pageFrame st img p))
+
+  pub write-table : (w p l o n : ℕ) (bytes : List ℕ) → writeTable w p l o n bytes (isWide (st .wide) w) ≡ writeCallRows st img w p l o n bytes
+  write-table w p l o n bytes = refl
+
+  pub write-returns : (w p l o n : ℕ) (bytes : List ℕ) → ReturnsByOne write (isWide (st .wide) w) (writeTable w p l o n bytes)
   unfolding canReturn standsIn places oneOf oneMore allBelow
-  write-returns w p l o n bytes = returns write (writeCallRows st img w p l o n bytes) refl refl
+  write-returns w p l o n bytes = returns-by-one write (isWide (st .wide) w) (writeTable w p l o n bytes) refl refl refl
 
   pub commit-returns : (w : ℕ) → Returns commit (commitCallRows st img w)
   unfolding canReturn standsIn places oneOf oneMore allBelow
   commit-returns w = returns commit (commitCallRows st img w) refl refl
 
-  pub prepare-returns : (w : ℕ) → Returns prepare (commitCallRows st img w)
+  pub prepare-returns : (w : ℕ) → Returns prepare (prepareCallRows st img w)
   unfolding canReturn standsIn places oneOf oneMore allBelow
-  prepare-returns w = returns prepare (commitCallRows st img w) refl refl
+  prepare-returns w = returns prepare (prepareCallRows st img w) refl refl
 
   pub confirm-returns : (w : ℕ) → Returns confirm (confirmCallRows st img w)
   unfolding canReturn standsIn places oneOf oneMore allBelow

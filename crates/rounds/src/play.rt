@@ -9,6 +9,7 @@ use in_place::Went;
 use layout::Sizes;
 use replay::Table;
 use state::State;
+use state::Wide;
 use state::Writers;
 use stores::Places;
 
@@ -64,6 +65,7 @@ fn call(
     last: &mut [usize; 16],
     opened: &mut [bool; 4],
     held: &mut [u64; 64],
+    keys: &mut [u64; 64],
     c: u8,
     r: usize,
     stay: usize,
@@ -80,6 +82,7 @@ fn call(
                 last,
                 opened,
                 held,
+                keys,
                 0,
             );
             Went { answer, to: at }
@@ -104,6 +107,7 @@ fn call(
                 last,
                 opened,
                 held,
+                keys,
                 0,
                 2 * pair_of(r, stay) + second,
                 line_of(r, second),
@@ -123,6 +127,7 @@ fn call(
             last,
             opened,
             held,
+            keys,
             0,
         ),
         b'P' => operations_in_place::checkpoint(
@@ -136,6 +141,7 @@ fn call(
             last,
             opened,
             held,
+            keys,
         ),
         _ => {
             let p = page_after(page, at.next, c as usize);
@@ -150,6 +156,7 @@ fn call(
                 last,
                 opened,
                 held,
+                keys,
                 p,
             )
         }
@@ -173,11 +180,14 @@ pub fn rounds(image: &mut [u8; 84288], n: usize, stay: usize) -> Played {
     let mut last = fresh.table.last;
     let mut opened = fresh.writers.opened;
     let mut held = fresh.writers.held;
+    let mut keys = fresh.wide.keys;
     let mut at = Places {
         head: fresh.head,
         tail: fresh.tail,
         next: fresh.next,
         prepared: fresh.writers.prepared,
+        wide: fresh.wide.writer,
+        count: fresh.wide.count,
     };
     let mut stores = 0;
     let end = 32 * (n % 4294967296);
@@ -195,6 +205,7 @@ pub fn rounds(image: &mut [u8; 84288], n: usize, stay: usize) -> Played {
             &mut last,
             &mut opened,
             &mut held,
+            &mut keys,
             calls[i % 32],
             i / 32,
             stay,
@@ -216,6 +227,11 @@ pub fn rounds(image: &mut [u8; 84288], n: usize, stay: usize) -> Played {
         held,
         prepared: at.prepared,
     };
+    let wide = Wide {
+        writer: at.wide,
+        count: at.count,
+        keys,
+    };
     let pending = settled::no_pending();
     let state = State {
         sizes: z,
@@ -224,6 +240,7 @@ pub fn rounds(image: &mut [u8; 84288], n: usize, stay: usize) -> Played {
         next: at.next,
         table,
         writers,
+        wide,
         pending,
     };
     Played { state, stores }

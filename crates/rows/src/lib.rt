@@ -2,6 +2,7 @@
 ghost use mathlib.Core.Path.{_≡_};
 ghost use Rattle.bounded.specs.Rows.{refusal};
 ghost use Rattle.state.specs.Parts.{stateOf};
+ghost use Rattle.state.specs.Wide.{wideOf};
 ghost use Rattle.rows.specs.First.{firstRows};
 use layout::Sizes;
 use state::Pending;
@@ -20,11 +21,14 @@ pub fn first_row<'a>(
     opened: &'a [bool; 4],
     held: &'a [u64; 64],
     prepared: usize,
+    wide: usize,
+    count: usize,
+    keys: &'a [u64; 64],
     pending: Pending,
     n: usize,
     busy: bool,
 ) -> usize
-    ensures { λ r. ⌜ r ≡ refusal (firstRows busy (stateOf z head tail next (now (page .entry)) (now (original .entry)) (now (spare .entry)) (now (bitmap .entry)) (now (last .entry)) (now (opened .entry)) (now (held .entry)) prepared pending) n) ⌝ }
+    ensures { λ r. ⌜ r ≡ refusal (firstRows busy (stateOf z head tail next (now (page .entry)) (now (original .entry)) (now (spare .entry)) (now (bitmap .entry)) (now (last .entry)) (now (opened .entry)) (now (held .entry)) prepared (wideOf wide count (now (keys .entry))) pending) n) ⌝ }
 {
     if !validity::state_ok(
         z,
@@ -39,6 +43,9 @@ pub fn first_row<'a>(
         opened,
         held,
         prepared,
+        wide,
+        count,
+        keys,
         pending,
     ) {
         return 8;

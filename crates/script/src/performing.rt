@@ -27,6 +27,7 @@ pub fn start() -> Machine
         prepared: 4,
     };
     let table = replay::empty_table();
+    let wide = settled::begun_wide(4);
     let pending = settled::no_pending();
     let st = State {
         sizes,
@@ -35,6 +36,7 @@ pub fn start() -> Machine
         next: 0,
         table,
         writers,
+        wide,
         pending,
     };
     Machine {

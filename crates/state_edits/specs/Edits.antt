@@ -27,6 +27,7 @@ withHeader st f v =
       next = newest f 5 v (st .next);
       table = st .table;
       writers = st .writers;
+      wide = st .wide;
       pending = st .pending;
     }
 
@@ -46,7 +47,7 @@ withSlotNumber t f i v =
 
 abbrev pub withTable : State → Table → State
 withTable st t =
-    record { sizes = st .sizes; head = st .head; tail = st .tail; next = st .next; table = t; writers = st .writers; pending = st .pending }
+    record { sizes = st .sizes; head = st .head; tail = st .tail; next = st .next; table = t; writers = st .writers; wide = st .wide; pending = st .pending }
 
 -- 11 writer i open, 12 held lines at i = 16 × writer + slot
 abbrev pub withOpen : Writers → ℕ → ℕ → Writers

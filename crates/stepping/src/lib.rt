@@ -5,6 +5,7 @@ ghost use Rattle.refinement.specs.Calls.{stepOf, stepBytes, runOf, runBytes};
 use answers::Done;
 use replay::Table;
 use state::State;
+use state::Wide;
 use state::Writers;
 
 // Makes one store: a run of one.
@@ -27,6 +28,7 @@ pub fn run(st: State, image: &mut [u8], k: usize) -> Done
     let mut last = st.table.last;
     let mut opened = st.writers.opened;
     let mut held = st.writers.held;
+    let mut keys = st.wide.keys;
     let sizes = st.sizes;
     let pending = st.pending;
     let gone = going::go_on(
@@ -43,6 +45,9 @@ pub fn run(st: State, image: &mut [u8], k: usize) -> Done
         &mut opened,
         &mut held,
         st.writers.prepared,
+        st.wide.writer,
+        st.wide.count,
+        &mut keys,
         pending,
         k,
     );
@@ -60,6 +65,11 @@ pub fn run(st: State, image: &mut [u8], k: usize) -> Done
         held,
         prepared: gone.to.prepared,
     };
+    let wide = Wide {
+        writer: gone.to.wide,
+        count: gone.to.count,
+        keys,
+    };
     let state = State {
         sizes,
         head: gone.to.head,
@@ -67,6 +77,7 @@ pub fn run(st: State, image: &mut [u8], k: usize) -> Done
         next: gone.to.next,
         table,
         writers,
+        wide,
         pending,
     };
     Done { answer, state }

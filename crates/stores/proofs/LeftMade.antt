@@ -12,6 +12,7 @@ use Rattle.bounded.specs.Rows.{refusal}
 use Rattle.layout.specs.declared.Sizes.{Sizes}
 use Rattle.state.specs.declared.State.{State}
 use Rattle.state.specs.declared.Pending.{Pending}
+use Rattle.state.specs.declared.Wide.{Wide}
 use Rattle.state.specs.Parts.{stateOf}
 use Rattle.refinement.specs.Settled.{noPending}
 use Rattle.operations.specs.Operations.{needs}
@@ -57,7 +58,7 @@ module _ (st : State) (n k : ℕ) (m : Made) (e : m ≡ madeOf st n k) where
       (rw q at (ap (λ (x : Made). x .stores) e), rw q at (ap (λ (x : Made). x .total) e), rw q at (ap (λ (x : Made). x .whole) e))
 
 -- the state that the code puts together, with i pending
-pub put-together : (z : Sizes) (head tail next : ℕ) (page original spare bitmap last : List ℕ) (opened : List Bool) (held : List ℕ) (prepared : ℕ) (i : Pending) (after : State)
-    → i ≡ noPending → stateOf z head tail next page original spare bitmap last opened held prepared noPending ≡ after
-    → stateOf z head tail next page original spare bitmap last opened held prepared i ≡ after
-put-together z head tail next page original spare bitmap last opened held prepared i after a b = rw a b
+pub put-together : (z : Sizes) (head tail next : ℕ) (page original spare bitmap last : List ℕ) (opened : List Bool) (held : List ℕ) (prepared : ℕ) (d : Wide) (i : Pending) (after : State)
+    → i ≡ noPending → stateOf z head tail next page original spare bitmap last opened held prepared d noPending ≡ after
+    → stateOf z head tail next page original spare bitmap last opened held prepared d i ≡ after
+put-together z head tail next page original spare bitmap last opened held prepared d i after a b = rw a b

@@ -3,8 +3,10 @@ pub mod making;
 
 ghost use mathlib.Core.Path.{_≡_};
 ghost use mathlib.Core.Bool.{false};
+ghost use Prim.Native.Nat.{_≤_};
 ghost use Rattle.bounded.specs.Rows.{refusal};
 ghost use Rattle.state.specs.Parts.{stateOf};
+ghost use Rattle.state.specs.Wide.{wideOf};
 ghost use Rattle.operations.specs.Operations.{Ranged, isIdle, opRows};
 ghost use Rattle.refinement.specs.Settled.{noPending};
 ghost use Rattle.refinement.specs.Stores.{completed as completedOf};
@@ -12,12 +14,14 @@ use layout::Sizes;
 use state::Op;
 use state::Pending;
 
-// Head, tail, the next slot to try, and the prepared writer.
+// Head, tail, the next slot to try, the prepared writer, the wide one, and how many entries it uses.
 pub struct Places {
     pub head: usize,
     pub tail: usize,
     pub next: usize,
     pub prepared: usize,
+    pub wide: usize,
+    pub count: usize,
 }
 
 // Completes the pending operation: the arrays are changed where they lie, since a state that is passed on by value is copied each time.
@@ -34,19 +38,25 @@ pub fn complete(
     opened: &mut [bool; 4],
     held: &mut [u64; 64],
     prepared: usize,
+    wide: usize,
+    count: usize,
+    keys: &mut [u64; 64],
     pending: Pending,
 ) -> Places
-    requires { ⌜ Ranged (stateOf z head tail next (now page) (now original) (now spare) (now bitmap) (now last) (now opened) (now held) prepared pending) × (refusal (opRows (stateOf z head tail next (now page) (now original) (now spare) (now bitmap) (now last) (now opened) (now held) prepared pending) (pending .op) (pending .frame)) ≡ 0) × (isIdle (pending .op) ≡ false) ⌝ }
-    ensures { λ r. ⌜ stateOf z (r .head) (r .tail) (r .next) (now (page .exit)) (now (original .exit)) (now (spare .exit)) (now (bitmap .exit)) (now (last .exit)) (now (opened .exit)) (now (held .exit)) (r .prepared) noPending ≡ completedOf (stateOf z head tail next (now (page .entry)) (now (original .entry)) (now (spare .entry)) (now (bitmap .entry)) (now (last .entry)) (now (opened .entry)) (now (held .entry)) prepared pending) (pending .op) ⌝ }
+    requires { ⌜ Ranged (stateOf z head tail next (now page) (now original) (now spare) (now bitmap) (now last) (now opened) (now held) prepared (wideOf wide count (now keys)) pending) × (refusal (opRows (stateOf z head tail next (now page) (now original) (now spare) (now bitmap) (now last) (now opened) (now held) prepared (wideOf wide count (now keys)) pending) (pending .op) (pending .frame)) ≡ 0) × (isIdle (pending .op) ≡ false) × (count ≤ z .entries) ⌝ }
+    ensures { λ r. ⌜ stateOf z (r .head) (r .tail) (r .next) (now (page .exit)) (now (original .exit)) (now (spare .exit)) (now (bitmap .exit)) (now (last .exit)) (now (opened .exit)) (now (held .exit)) (r .prepared) (wideOf (r .wide) (r .count) (now (keys .exit))) noPending ≡ completedOf (stateOf z head tail next (now (page .entry)) (now (original .entry)) (now (spare .entry)) (now (bitmap .entry)) (now (last .entry)) (now (opened .entry)) (now (held .entry)) prepared (wideOf wide count (now (keys .entry))) pending) (pending .op) ⌝ }
 {
+    let mut to = Places {
+        head,
+        tail,
+        next,
+        prepared,
+        wide,
+        count,
+    };
     let op = pending.op;
     match op {
-        Op::Idle => Places {
-            head,
-            tail,
-            next,
-            prepared,
-        },
+        Op::Idle => to,
         Op::Write {
             writer,
             page: p,
@@ -54,60 +64,27 @@ pub fn complete(
             offset: _,
             length: _,
         } => {
-            let next = writes::complete_write(
-                z,
-                next,
-                page,
-                original,
-                bitmap,
-                held,
-                pending.frame,
-                writer,
-                p,
-                line,
+            let f = pending.frame;
+            to.next = writes::complete_write(
+                z, next, page, original, bitmap, held, f, writer, p, line,
             );
-            Places {
-                head,
-                tail,
-                next,
-                prepared,
-            }
+            to
         }
         Op::Commit { writer } => {
-            let head = commits::complete_commit(z, head, bitmap, last, opened, held, writer);
-            Places {
-                head,
-                tail,
-                next,
-                prepared: 4,
-            }
+            to.head = commits::complete_commit(z, head, bitmap, last, opened, held, writer);
+            to.prepared = 4;
+            to
         }
         Op::Consolidate { page: p } => {
-            let head = consolidations::complete_consolidate(
-                z,
-                head,
-                page,
-                original,
-                spare,
-                bitmap,
-                last,
-                p,
+            to.head = consolidations::complete_consolidate(
+                z, head, page, original, spare, bitmap, last, p,
             );
-            Places {
-                head,
-                tail,
-                next,
-                prepared,
-            }
+            to
         }
         Op::Checkpoint => {
             checkpoints::complete_checkpoint(last, z);
-            Places {
-                head,
-                tail: head,
-                next,
-                prepared,
-            }
+            to.tail = head;
+            to
         }
         Op::Event {
             kind,
@@ -115,43 +92,37 @@ pub fn complete(
             amount: _,
         } => {
             let moved = event_stores::complete_event(
-                z,
-                head,
-                tail,
-                next,
-                page,
-                original,
-                spare,
-                bitmap,
-                last,
-                opened,
-                held,
-                prepared,
-                pending,
-                kind,
-                meter,
+                z, head, tail, next, page, original, spare, bitmap, last, opened, held, prepared,
+                pending, kind, meter,
             );
-            Places {
-                head: moved.head,
-                tail,
-                next: moved.next,
-                prepared: 4,
-            }
+            to.head = moved.head;
+            to.next = moved.next;
+            to.prepared = 4;
+            to
         }
-        Op::Prepare { writer } => Places {
-            head,
-            tail,
-            next,
-            prepared: writer,
-        },
+        Op::Prepare { writer } => {
+            to.prepared = writer;
+            to
+        }
         Op::Confirm { writer } => {
-            let head = commits::complete_commit(z, head, bitmap, last, opened, held, writer);
-            Places {
-                head,
-                tail,
-                next,
-                prepared: 4,
-            }
+            to.head = commits::complete_commit(z, head, bitmap, last, opened, held, writer);
+            to.prepared = 4;
+            to
+        }
+        Op::Log {
+            page: p,
+            line,
+            offset: _,
+            length: _,
+        } => {
+            to.count = wide_stores::complete_log(keys, count, p, line);
+            to
+        }
+        Op::Copy => {
+            wide_stores::complete_copy(z, opened, held, keys, wide);
+            to.wide = 4;
+            to.count = 0;
+            to
         }
     }
 }

@@ -5,6 +5,7 @@ ghost use Prim.Native.Nat.{_≤_};
 ghost use lib.ListN.{length};
 ghost use Rattle.layout.specs.Layout.{imageLength};
 ghost use Rattle.state.specs.Parts.{stateOf};
+ghost use Rattle.state.specs.Wide.{wideOf};
 ghost use Rattle.operations.specs.Operations.{isIdle};
 ghost use Rattle.validity.specs.Validity.{stateOk};
 ghost use Rattle.refinement.specs.Stores.{storesMade, left};
@@ -30,11 +31,14 @@ pub fn make_stores<'a>(
     opened: &'a [bool; 4],
     held: &'a [u64; 64],
     prepared: usize,
+    wide: usize,
+    count: usize,
+    keys: &'a [u64; 64],
     pending: Pending,
     n: usize,
 )
-    requires { ⌜ (stateOk (stateOf z head tail next (now page) (now original) (now spare) (now bitmap) (now last) (now opened) (now held) prepared pending) ≡ true) × (isIdle (pending .op) ≡ false) × (n ≤ left (stateOf z head tail next (now page) (now original) (now spare) (now bitmap) (now last) (now opened) (now held) prepared pending)) × (imageLength z ≤ length (now image)) × Lengths (now page) (now original) (now spare) (now bitmap) (now last) (now opened) (now held) ⌝ }
-    ensures { λ _. ⌜ now (image .exit) ≡ storesMade (stateOf z head tail next (now (page .entry)) (now (original .entry)) (now (spare .entry)) (now (bitmap .entry)) (now (last .entry)) (now (opened .entry)) (now (held .entry)) prepared pending) n (now (image .entry)) ⌝ }
+    requires { ⌜ (stateOk (stateOf z head tail next (now page) (now original) (now spare) (now bitmap) (now last) (now opened) (now held) prepared (wideOf wide count (now keys)) pending) ≡ true) × (isIdle (pending .op) ≡ false) × (n ≤ left (stateOf z head tail next (now page) (now original) (now spare) (now bitmap) (now last) (now opened) (now held) prepared (wideOf wide count (now keys)) pending)) × (imageLength z ≤ length (now image)) × Lengths (now page) (now original) (now spare) (now bitmap) (now last) (now opened) (now held) ⌝ }
+    ensures { λ _. ⌜ now (image .exit) ≡ storesMade (stateOf z head tail next (now (page .entry)) (now (original .entry)) (now (spare .entry)) (now (bitmap .entry)) (now (last .entry)) (now (opened .entry)) (now (held .entry)) prepared (wideOf wide count (now (keys .entry))) pending) n (now (image .entry)) ⌝ }
 {
     let op = pending.op;
     let made = pending.made;
@@ -104,6 +108,9 @@ pub fn make_stores<'a>(
             opened,
             held,
             prepared,
+            wide,
+            count,
+            keys,
             pending,
             kind,
             meter,
@@ -123,6 +130,24 @@ pub fn make_stores<'a>(
             n,
         ),
         Op::Confirm { writer } => commits::make_confirm_stores(image, z, head, held, writer, n),
+        Op::Log {
+            page: p,
+            line,
+            offset: _,
+            length: _,
+        } => wide_stores::make_log_stores(image, z, count, keys, &pending.line, p, line, made, n),
+        Op::Copy => wide_stores::make_copy_stores(
+            image,
+            z,
+            page,
+            original,
+            spare,
+            bitmap,
+            count,
+            keys,
+            made,
+            n,
+        ),
     }
 }
 
@@ -149,12 +174,15 @@ pub fn make_left<'a>(
     opened: &'a [bool; 4],
     held: &'a [u64; 64],
     prepared: usize,
+    wide: usize,
+    count: usize,
+    keys: &'a [u64; 64],
     pending: Pending,
     k: usize,
 ) -> Made
     requires { ⌜ Lengths (now page) (now original) (now spare) (now bitmap) (now last) (now opened) (now held) ⌝ }
-    ensures made { λ r. ⌜ r ≡ madeOf (stateOf z head tail next (now (page .entry)) (now (original .entry)) (now (spare .entry)) (now (bitmap .entry)) (now (last .entry)) (now (opened .entry)) (now (held .entry)) prepared pending) (length (now (image .entry))) k ⌝ }
-    ensures bytes { λ _. ⌜ now (image .exit) ≡ runBytes (stateOf z head tail next (now (page .entry)) (now (original .entry)) (now (spare .entry)) (now (bitmap .entry)) (now (last .entry)) (now (opened .entry)) (now (held .entry)) prepared pending) (now (image .entry)) k ⌝ }
+    ensures made { λ r. ⌜ r ≡ madeOf (stateOf z head tail next (now (page .entry)) (now (original .entry)) (now (spare .entry)) (now (bitmap .entry)) (now (last .entry)) (now (opened .entry)) (now (held .entry)) prepared (wideOf wide count (now (keys .entry))) pending) (length (now (image .entry))) k ⌝ }
+    ensures bytes { λ _. ⌜ now (image .exit) ≡ runBytes (stateOf z head tail next (now (page .entry)) (now (original .entry)) (now (spare .entry)) (now (bitmap .entry)) (now (last .entry)) (now (opened .entry)) (now (held .entry)) prepared (wideOf wide count (now (keys .entry))) pending) (now (image .entry)) k ⌝ }
 {
     let row = rows::first_row(
         z,
@@ -169,6 +197,9 @@ pub fn make_left<'a>(
         opened,
         held,
         prepared,
+        wide,
+        count,
+        keys,
         pending,
         image.len(),
         true,
@@ -182,7 +213,7 @@ pub fn make_left<'a>(
         };
     }
     let op = pending.op;
-    let needed = needs::op_needs(z, head, tail, page, bitmap, last, held, op);
+    let needed = needs::op_needs(z, head, tail, page, bitmap, last, held, count, op);
     let left = needed - pending.made;
     let n = pieces::smaller(k, left);
     make_stores(
@@ -199,6 +230,9 @@ pub fn make_left<'a>(
         opened,
         held,
         prepared,
+        wide,
+        count,
+        keys,
         pending,
         n,
     );

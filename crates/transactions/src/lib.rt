@@ -34,6 +34,9 @@ pub fn write(
         &next.writers.opened,
         &next.writers.held,
         next.writers.prepared,
+        next.wide.writer,
+        next.wide.count,
+        &next.wide.keys,
         next.pending,
         image,
         writer,
@@ -46,40 +49,38 @@ pub fn write(
     if found.row != 0 {
         return answers::refused(found.row, next);
     }
-    let merged = lines::merged_line(image, next.sizes, found.seen, line, offset, data, length);
+    let merged = finding::merged(image, next.sizes, found, line, offset, data, length);
     if found.held & !merged.changed {
         return answers::taken(0, next);
     }
     let words = merged.words;
-    let op = Op::Write {
-        writer,
-        page,
-        line,
-        offset,
-        length,
-    };
+    let op = finding::write_op(found.wide, writer, page, line, offset, length);
     let pending = asking::pending_from(op, words, [0; 8], found.frame);
     next.pending = pending;
-    answers::taken(8, next)
+    answers::taken(finding::write_needs(found.wide), next)
 }
 
-// Asks for a commit.
+// Asks for a commit; by the wide writer, for a copying.
 pub fn commit(st: State, image: &[u8], writer: usize) -> Done
     ensures { λ r. ⌜ outcomeOf r ≡ commitOf st (now (image .entry)) writer ⌝ }
 {
-    asking::ask(st, image.len(), Op::Commit { writer })
+    let call = Op::Commit { writer };
+    let op = finding::commit_op(st.wide.writer, writer);
+    asking::ask(st, image.len(), call, op)
 }
 
 // Asks for a consolidation.
 pub fn consolidate(st: State, image: &[u8], page: usize) -> Done
     ensures { λ r. ⌜ outcomeOf r ≡ consolidateOf st (now (image .entry)) page ⌝ }
 {
-    asking::ask(st, image.len(), Op::Consolidate { page })
+    let op = Op::Consolidate { page };
+    asking::ask(st, image.len(), op, op)
 }
 
 // Asks for a checkpoint.
 pub fn checkpoint(st: State, image: &[u8]) -> Done
     ensures { λ r. ⌜ outcomeOf r ≡ checkpointOf st (now (image .entry)) ⌝ }
 {
-    asking::ask(st, image.len(), Op::Checkpoint)
+    let op = Op::Checkpoint;
+    asking::ask(st, image.len(), op, op)
 }

@@ -1,5 +1,5 @@
 -- The stores that an operation needs, at most, in a state that row 8 takes.
-use Prim.Native.Nat.{ℕ, _-_, _≤_}
+use Prim.Native.Nat.{ℕ, _+_, _-_, _*_, _≤_}
 use mathlib.Core.Bool.{Bool, true, false, cond, not}
 use mathlib.Core.List.{List, _∷_}
 use mathlib.Core.Path.{_≡_, refl}
@@ -14,12 +14,13 @@ use Rattle.bounded.proofs.Tests.{caseOn}
 use Rattle.masks.specs.Lines.{countLines}
 use Rattle.replay.specs.Table.{noPosition}
 use Rattle.state.specs.declared.State.{State}
-use Rattle.state.specs.declared.Op.the-variants.{Commit, Consolidate, Checkpoint}
+use Rattle.state.specs.declared.Op.the-variants.{Commit, Consolidate, Checkpoint, Copy}
 use Rattle.state.specs.Held.{heldAt, heldSlots}
 use Rattle.state.specs.Slots.{slotOfPage}
 use Rattle.operations.specs.Operations.{needs, copyCount, recordedSlots}
 use Rattle.validity.specs.Validity.{stateOk}
 use Rattle.refinement.proofs.Valid.{legal-sizes}
+use Rattle.refinement.proofs.StateValid.{valid}
 
 -- a refused call has none
 pub answered-low : (row n b : ℕ) → (row ≡ 0 → n ≤ b) → cond (eqb row 0) n 0 ≤ b
@@ -53,6 +54,13 @@ module _ (st : State) (ok : stateOk st ≡ true) where
   commit-low w =
       let n = length (heldSlots (st .sizes) (st .writers .held) w) in
       caseOn (eqb n 0) (λ t. rw t (omega arith)) (λ t. rw t (omega (arith, held-low w)))
+
+  -- a wide commit copies at most as many lines as there are entries
+  pub wide-low : needs st Copy ≤ 8 * st .sizes .entries + 2
+  unfolding needs
+  wide-low =
+      let n = st .wide .count in
+      caseOn (eqb n 0) (λ t. rw t (omega arith)) (λ t. rw t (omega (arith, valid st ok .entries .few)))
 
   recorded-low : length (recordedSlots (st .sizes) (st .table .last)) ≤ 16
   unfolding recordedSlots

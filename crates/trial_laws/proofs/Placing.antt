@@ -1,6 +1,7 @@
 -- Where the stores of a round's operations go.
 use Prim.Native.Nat.{ℕ, _+_, _-_, _*_, _/_, _%_, _<_, _≤_}
 use mathlib.Core.Bool.{Bool, true, false, cond}
+use mathlib.Core.List.{List}
 use mathlib.Core.Logic.{inl, inr}
 use mathlib.Core.Path.{_≡_, refl}
 use native.Mathlib.Nat.{mod-lt}
@@ -30,18 +31,18 @@ in-journal z legal q k h =
     let low : q % z .places < z .places = mod-lt q (omega (arith, legal .slots-low, legal .places-low)) in
     inr (omega arith, omega (arith, low))
 
-module _ (st : State) (legal : Legal (st .sizes)) where
+module _ (st : State) (img : List ℕ) (legal : Legal (st .sizes)) where
   abbrev z : Sizes
   z = st .sizes
 
-  commit-placed : (w i : ℕ) → OfJournal z (storeAt st (Commit w) i)
+  commit-placed : (w i : ℕ) → OfJournal z (storeAt st img (Commit w) i)
   unfolding commitAtOf
   commit-placed w i =
       caseOn (ltb i (4 * length (heldSlots z (st .writers .held) w)))
       (λ t. rw t (in-journal z legal (position z (st .head) (i / 4)) (i % 4) (omega arith)))
       (λ t. rw t (inl refl))
 
-  checkpoint-placed : (i : ℕ) → OfTables z (storeAt st Checkpoint i)
+  checkpoint-placed : (i : ℕ) → OfTables z (storeAt st img Checkpoint i)
   unfolding checkpointAtOf
   checkpoint-placed i =
       let s = checkpointSlotOf z (st .table .last) i in
@@ -55,14 +56,14 @@ module _ (st : State) (legal : Legal (st .sizes)) where
   unfolding needs
   needed p = refl
 
-  copies-placed : (p i : ℕ) → i + 6 < needs st (Consolidate p) → OfFrames z (storeAt st (Consolidate p) i)
+  copies-placed : (p i : ℕ) → i + 6 < needs st (Consolidate p) → OfFrames z (storeAt st img (Consolidate p) i)
   unfolding consolidateAt
   copies-placed p i h =
       let c = copyStoreCount (pageSlot st p) in
       let t : ltb i c ≡ true = lt-ltb i c (omega (arith, needed p)) in
       rw t (omega arith)
 
-  page-placed : (p i : ℕ) → i + 6 ≡ needs st (Consolidate p) → p < z .pages → OfTables z (storeAt st (Consolidate p) i)
+  page-placed : (p i : ℕ) → i + 6 ≡ needs st (Consolidate p) → p < z .pages → OfTables z (storeAt st img (Consolidate p) i)
   unfolding consolidateAt
   page-placed p i h low =
       let c = copyStoreCount (pageSlot st p) in
@@ -71,7 +72,7 @@ module _ (st : State) (legal : Legal (st .sizes)) where
       let u : eqb i c ≡ true = eq-eqb i c e in
       rw (t, u) (inr (omega arith, omega arith))
 
-  freeing-placed : (p i : ℕ) → needs st (Consolidate p) < i + 6 → OfJournal z (storeAt st (Consolidate p) i)
+  freeing-placed : (p i : ℕ) → needs st (Consolidate p) < i + 6 → OfJournal z (storeAt st img (Consolidate p) i)
   unfolding consolidateAt
   freeing-placed p i h =
       let c = copyStoreCount (pageSlot st p) in
@@ -82,12 +83,12 @@ module _ (st : State) (legal : Legal (st .sizes)) where
       (λ d. rw (t, u, d) (inl refl))
 
 pub stores-placed : StoresPlaced
-stores-placed st legal =
+stores-placed st img legal =
     record {
       write = λ w p l o n i. omega arith;
-      commit = commit-placed st legal;
-      copies = copies-placed st legal;
-      page = page-placed st legal;
-      freeing = freeing-placed st legal;
-      checkpoint = checkpoint-placed st legal;
+      commit = commit-placed st img legal;
+      copies = copies-placed st img legal;
+      page = page-placed st img legal;
+      freeing = freeing-placed st img legal;
+      checkpoint = checkpoint-placed st img legal;
     }

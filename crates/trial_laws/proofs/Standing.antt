@@ -8,18 +8,19 @@ use lib.Dec.{ltb, leb, eqb}
 use lib.ListN.{length, getD}
 use borrow.Author.Tests.{le-ltb, eqb-true, eqb-false}
 use Rattle.bounded.proofs.Rows.{row-none}
-use Rattle.bounded.proofs.Tests.{caseOn, contradicts}
+use Rattle.bounded.proofs.Tests.{caseOn, contradicts, row-keeps}
 use Rattle.layout.specs.declared.Sizes.{Sizes}
 use Rattle.layout.specs.Layout.{imageLength}
+use Rattle.state.specs.Held.{noWriter}
 use Rattle.operations.specs.Operations.{isIdle}
 use Rattle.validity.specs.Validity.{stateOk}
 use Rattle.refinement.specs.Stores.{World}
 use Rattle.refinement.specs.Calls.{stepRows, runOf}
 use Rattle.refinement.specs.Run.{Call, begin, commit, free, checkpoint, run, write, exec}
-use Rattle.refinement.specs.Reference.{Cell, none, byte, laidOver, Task, writing, committing, moving, nothing, Work, idle, under, Reference, withWork, does, starts, continues, advances, taken, turn}
+use Rattle.refinement.specs.Reference.{Cell, none, byte, laidOver, Task, writing, committing, moving, nothing, Work, idle, under, copying, Reference, withWork, does, starts, continues, advances, taken, turn}
 use Rattle.refinement.specs.Statement.{Lent}
-use Rattle.refinement.proofs.Copies.{durable-fits}
-use Rattle.refinement.proofs.Between.{Between, between-valid, between-durable, between-pending}
+use Rattle.refinement.proofs.Cases.{Invariant, standing-of}
+use Rattle.refinement.proofs.Viewed.{viewed-fits}
 use Rattle.refinement.proofs.Reached.{Reached, reached-next}
 
 -- ---- a run of what is under way
@@ -27,18 +28,17 @@ use Rattle.refinement.proofs.Reached.{Reached, reached-next}
 no-work : Work → Bool
 no-work idle = true
 no-work (under t k) = false
+no-work (copying w k) = false
 
-busy : {past : List ℕ} (v : World) (b : Reference) (t : Task) (m : ℕ) → Between past v b → b .work ≡ under t m → isIdle (v .st .pending .op) ≡ false
-unfolding no-work
-busy v b t m h u = between-pending v b h (λ q. contradicts (ap no-work q) (ap no-work u))
-
-run-taken : {past : List ℕ} (v : World) (b : Reference) (t : Task) (m k : ℕ) → Between past v b → b .work ≡ under t m → exec (run k) v .number ≡ 0
-unfolding exec runOf
-run-taken {past} v b t m k h u =
-    let valid : not (stateOk (v .st)) ≡ false = ap not (between-valid v b h) in
+run-taken : {past : List ℕ} (v : World) (b : Reference) (t : Task) (m k : ℕ) → Invariant past v b → b .work ≡ under t m → exec (run k) v .number ≡ 0
+unfolding exec runOf no-work
+run-taken v b t m k h u =
+    let s = standing-of v b h in
+    let valid : not (stateOk (v .st)) ≡ false = ap not (s .valid) in
     let fits : ltb (length (v .image)) (imageLength (v .st .sizes)) ≡ false =
-    le-ltb (length (v .image)) (imageLength (v .st .sizes)) (durable-fits past (v .st) (v .image) b (between-durable v b h)) in
-    sym (row-none (stepRows (v .st) (v .image)) (valid, (fits, (busy v b t m h u, tt))))
+    le-ltb (length (v .image)) (imageLength (v .st .sizes)) (viewed-fits (v .st) (v .image) b (s .viewed)) in
+    let busy : isIdle (v .st .pending .op) ≡ false = s .busy (λ q. contradicts (ap no-work q) (ap no-work u)) in
+    sym (row-none (stepRows (v .st) (v .image)) (valid, (fits, (busy, tt))))
 
 -- with nothing under way it changes nothing
 idle-run : (b : Reference) (k m n : ℕ) → b .work ≡ idle → turn (run k) m n b ≡ b
@@ -53,6 +53,13 @@ does-work (writing w p l o n bytes) b h = h
 does-work (committing w) b h = h
 does-work (moving ms e m a) b h = caseOn (ltb e 5) (λ t. rw t h) (λ t. rw t h)
 does-work nothing b h = h
+
+-- without a wide transaction none begins
+does-narrow : (t : Task) (b : Reference) → b .wide ≡ noWriter → does t b .wide ≡ noWriter
+does-narrow (writing w p l o n bytes) b h = h
+does-narrow (committing w) b h = row-keeps (λ (x : ℕ). x ≡ noWriter) (eqb (b .wide) w) noWriter (b .wide) refl h
+does-narrow (moving ms e m a) b h = caseOn (ltb e 5) (λ t. rw t h) (λ t. rw t h)
+does-narrow nothing b h = h
 
 -- a task of n stores, and a run of n
 ran : (t : Task) (n m k : ℕ) (b : Reference) → b .work ≡ idle → ((i : ℕ) → n ≡ suc i → m ≡ 0) → turn (run n) m k (starts t n b) ≡ does t (withWork idle b)
@@ -69,6 +76,7 @@ pub record Stands (z : Sizes) (past : List ℕ) (v : World) (f : ℕ → ℕ →
   pub machine : Reference
   pub reached : Reached z past v machine
   pub work : machine .work ≡ idle
+  pub narrow : machine .wide ≡ noWriter
   pub pages : (p l i : ℕ) → machine .pages p l i ≡ f p l i
   pub writes : (p l i : ℕ) → machine .writes 0 p l i ≡ s p l i
 
@@ -99,12 +107,13 @@ module _ {z : Sizes} {past : List ℕ} {v : World} {f : ℕ → ℕ → ℕ → 
         machine = st .machine;
         reached = subst (Reached z past (through c v)) back finished-reached;
         work = st .work;
+        narrow = st .narrow;
         pages = st .pages;
         writes = st .writes;
       }
 
   -- it does a task
-  pub stands-did : (t : Task) → ((n : ℕ) (b : Reference) → taken c n b ≡ starts t n b) → exec c v .number ≡ 0
+  pub stands-did : (t : Task) → ((n : ℕ) (b : Reference) → b .wide ≡ noWriter → taken c n b ≡ starts t n b) → exec c v .number ≡ 0
       → (f′ : ℕ → ℕ → ℕ → ℕ) (s′ : ℕ → ℕ → ℕ → Cell)
       → ((p l i : ℕ) → does t (withWork idle (st .machine)) .pages p l i ≡ f′ p l i)
       → ((p l i : ℕ) → does t (withWork idle (st .machine)) .writes 0 p l i ≡ s′ p l i)
@@ -112,7 +121,7 @@ module _ {z : Sizes} {past : List ℕ} {v : World} {f : ℕ → ℕ → ℕ → 
   stands-did t g h f′ s′ pages writes =
       let n = exec c v .stores in
       let d = exec (run n) (exec c v .world) in
-      let begun : asked ≡ starts t n (st .machine) = ap (λ (m : ℕ). turn c m n (st .machine)) h ∙ g n (st .machine) in
+      let begun : asked ≡ starts t n (st .machine) = ap (λ (m : ℕ). turn c m n (st .machine)) h ∙ g n (st .machine) (st .narrow) in
       let r : Reached z past (exec c v .world) (starts t n (st .machine)) = subst (Reached z past (exec c v .world)) begun asked-reached in
       let goes : (i : ℕ) → n ≡ suc i → d .number ≡ 0 =
       λ i q. run-taken (exec c v .world) (starts t n (st .machine)) t (suc i) n (r .related) (ap (λ (m : ℕ). starts t m (st .machine) .work) q) in
@@ -122,6 +131,7 @@ module _ {z : Sizes} {past : List ℕ} {v : World} {f : ℕ → ℕ → ℕ → 
         machine = does t (withWork idle (st .machine));
         reached = subst (Reached z past (through c v)) back finished-reached;
         work = does-work t (withWork idle (st .machine)) refl;
+        narrow = does-narrow t (withWork idle (st .machine)) (st .narrow);
         pages = pages;
         writes = writes;
       }
@@ -150,30 +160,30 @@ module _ {z : Sizes} {past : List ℕ} {v : World} {f : ℕ → ℕ → ℕ → 
   pub stands-begin : Stands z past (through (begin 0) v) f s
   stands-begin = stands-same st (begin 0) tt (begin-turn 0 (exec (begin 0) v .number) (exec (begin 0) v .stores) (st .machine))
 
-  stands-idle : (c : Call) → Lent c → ((n : ℕ) (b : Reference) → taken c n b ≡ starts nothing n b) → Stands z past (through c v) f s
+  stands-idle : (c : Call) → Lent c → ((n : ℕ) (b : Reference) → b .wide ≡ noWriter → taken c n b ≡ starts nothing n b) → Stands z past (through c v) f s
   stands-idle c lent g =
       caseOn (eqb (exec c v .number) 0)
       (λ t. stands-did st c lent nothing g (eqb-true (exec c v .number) 0 t) f s (st .pages) (st .writes))
       (λ t. stands-refused c lent (eqb-false (exec c v .number) 0 t))
 
   pub stands-free : Stands z past (through free v) f s
-  stands-free = stands-idle free tt (λ n b. refl)
+  stands-free = stands-idle free tt (λ n b e. refl)
 
   pub stands-checkpoint : Stands z past (through checkpoint v) f s
-  stands-checkpoint = stands-idle checkpoint tt (λ n b. refl)
+  stands-checkpoint = stands-idle checkpoint tt (λ n b e. refl)
 
   pub stands-write : (p x : ℕ) → Lent (write 0 p 0 0 1 (x ∷ [])) → exec (write 0 p 0 0 1 (x ∷ [])) v .number ≡ 0
       → Stands z past (through (write 0 p 0 0 1 (x ∷ [])) v) f (wrote p x s)
   stands-write p x lent h =
-      stands-did st (write 0 p 0 0 1 (x ∷ [])) lent (writing 0 p 0 0 1 (x ∷ [])) (λ n b. refl) h f (wrote p x s) (st .pages)
+      stands-did st (write 0 p 0 0 1 (x ∷ [])) lent (writing 0 p 0 0 1 (x ∷ [])) (λ n b e. refl) h f (wrote p x s) (st .pages)
       (λ q m i. ap (λ (c : Cell). cond (eqb 0 0 && eqb q p && eqb m 0 && leb 0 i && ltb i (0 + 1)) (byte (getD (x ∷ []) (i - 0) 0)) c) (st .writes q m i))
 
   pub stands-commit : exec (commit 0) v .number ≡ 0 → Stands z past (through (commit 0) v) (λ p l i. laidOver (s p l i) (f p l i)) noWrites
   stands-commit h =
-      stands-did st (commit 0) tt (committing 0) (λ n b. refl) h (λ p l i. laidOver (s p l i) (f p l i)) noWrites
+      stands-did st (commit 0) tt (committing 0) (λ n b e. rw e) h (λ p l i. laidOver (s p l i) (f p l i)) noWrites
       (λ p l i. ap₂ laidOver (st .writes p l i) (st .pages p l i)) (λ p l i. refl)
 
 -- the same bytes, said otherwise
 pub stands-as : {z : Sizes} {past : List ℕ} {v : World} {f f′ : ℕ → ℕ → ℕ → ℕ} {s : ℕ → ℕ → ℕ → Cell} → Stands z past v f s
     → ((p l i : ℕ) → f p l i ≡ f′ p l i) → Stands z past v f′ s
-stands-as st e = record { machine = st .machine; reached = st .reached; work = st .work; pages = λ p l i. st .pages p l i ∙ e p l i; writes = st .writes }
+stands-as st e = record { machine = st .machine; reached = st .reached; work = st .work; narrow = st .narrow; pages = λ p l i. st .pages p l i ∙ e p l i; writes = st .writes }

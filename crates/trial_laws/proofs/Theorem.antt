@@ -22,10 +22,11 @@ use Rattle.refinement.specs.Stores.{World}
 use Rattle.refinement.specs.Run.{recall, exec}
 use Rattle.refinement.specs.Recall.{recallRow}
 use Rattle.refinement.specs.Reference.{blank, recallLine}
-use Rattle.refinement.proofs.CallSound.{call-sound}
+use Rattle.refinement.proofs.Cases.{standing-of}
+use Rattle.refinement.proofs.CaseSound.{call-sound}
 use Rattle.refinement.proofs.Reached.{reached-first}
 use Rattle.refinement.proofs.RecallCall.{row-is}
-use Rattle.refinement.proofs.Between.{between-valid, between-durable}
+use Rattle.refinement.proofs.Viewed.{Viewed}
 use Rattle.text.specs.declared.Line.{Line}
 use Rattle.trials.specs.Trials.{formatted, played}
 use Rattle.trial_lines.specs.Lines.{Work, first, numbersOf, sizesOf, withSetting, isRound, withRound, acted, act}
@@ -70,6 +71,7 @@ format-stands z img bytes e =
       machine = blank;
       reached = reached-first z (not-false (sizesOk z) (none .0)) img bytes (ltb-false (length img) (imageLength z) (none .1 .0));
       work = refl;
+      narrow = refl;
       pages = λ p l i. refl;
       writes = λ p l i. refl;
     }
@@ -137,18 +139,18 @@ unfolding over
 over-all xs h = rw h (append-nil xs)
 
 module _ {z : Sizes} {past : List ℕ} {v : World} {f : ℕ → ℕ → ℕ → ℕ} (st : Stands z past v f noWrites) (p l : ℕ) (has : p < z .pages) (low : l < 64) where
+  seen : Viewed past (v .st) (v .image) (st .machine)
+  seen = standing-of v (st .machine) (st .reached .related) .viewed
+
   sizes : sizesFrom (word (v .image)) ≡ z
-  sizes =
-      let D = between-durable v (st .machine) (st .reached .related) in
-      ap (λ (w : View). w .sizes) (D .shows) ∙ D .sizes-same ∙ st .reached .sizes
+  sizes = ap (λ (w : View). w .sizes) (seen .shows) ∙ seen .sizes-same ∙ st .reached .sizes
 
   recalled : recallRow (v .image) p l (replicate 64 0) ≡ 0
   recalled =
-      let D = between-durable v (st .machine) (st .reached .related) in
       let same : sizesFrom (word (v .image)) .pages ≡ z .pages = ap (λ (y : Sizes). y .pages) sizes in
       let inside : leb (z .pages) p ≡ false = lt-leb (z .pages) p has in
       let t : ltb 63 l ≡ false = le-ltb 63 l (omega arith) in
-      row-is (v .st) (v .image) (st .machine) (between-valid v (st .machine) (st .reached .related)) D p l (replicate 64 0)
+      row-is (v .image) (st .machine) seen p l (replicate 64 0)
       ∙ rw (same, inside, t)
 
   line-shown : lineShown v p l ≡ tab 64 (f p l)

@@ -58,12 +58,15 @@ withdraw = 16
 abbrev pub load : ℕ
 load = 17
 
+abbrev pub beginWide : ℕ
+beginWide = 18
+
 -- how many calls and numbers the tables have; a request that adds one raises these, and CALLS and NUMBERS in the code
 abbrev pub callCount : ℕ
-callCount = 18
+callCount = 19
 
 abbrev pub numberCount : ℕ
-numberCount = 28
+numberCount = 31
 
 -- ---- the places of the table
 
@@ -84,11 +87,11 @@ places =
     ∷ (5, readers)
     ∷ (6, readers)
     ∷ (7, readers)
-    ∷ (8, begin ∷ abort ∷ step ∷ run ∷ askers)
+    ∷ (8, begin ∷ beginWide ∷ abort ∷ step ∷ run ∷ askers)
     ∷ (4, step ∷ run ∷ askers)
-    ∷ (9, begin ∷ abort ∷ askers)
+    ∷ (9, begin ∷ beginWide ∷ abort ∷ askers)
     ∷ (10, step ∷ run ∷ [])
-    ∷ (11, recall ∷ begin ∷ abort ∷ write ∷ commit ∷ consolidate ∷ read ∷ prepare ∷ confirm ∷ withdraw ∷ [])
+    ∷ (11, recall ∷ begin ∷ beginWide ∷ abort ∷ write ∷ commit ∷ consolidate ∷ read ∷ prepare ∷ confirm ∷ withdraw ∷ [])
     ∷ (12, begin ∷ event ∷ [])
     ∷ (13, write ∷ commit ∷ abort ∷ prepare ∷ [])
     ∷ (14, write ∷ event ∷ [])
@@ -105,6 +108,9 @@ places =
     ∷ (25, load ∷ [])
     ∷ (26, event ∷ load ∷ [])
     ∷ (27, load ∷ [])
+    ∷ (28, beginWide ∷ [])
+    ∷ (29, begin ∷ beginWide ∷ event ∷ prepare ∷ [])
+    ∷ (30, write ∷ [])
     ∷ []
 
 -- whether x is one of a list, which computes to `x == y | x == z | ..`
@@ -128,7 +134,7 @@ canReturn c n = standsIn places c n
 -- ---- what a call is given
 
 unfoldable pub takesWriter : ℕ → Bool
-takesWriter c = oneOf (begin ∷ abort ∷ write ∷ commit ∷ read ∷ prepare ∷ confirm ∷ withdraw ∷ []) c
+takesWriter c = oneOf (begin ∷ beginWide ∷ abort ∷ write ∷ commit ∷ read ∷ prepare ∷ confirm ∷ withdraw ∷ []) c
 
 unfoldable pub takesPage : ℕ → Bool
 takesPage c = oneOf (recall ∷ write ∷ consolidate ∷ read ∷ []) c

@@ -15,7 +15,7 @@ unfoldable pub codes : String → List ℕ
 codes endText = []
 codes (c then s) = code c ∷ codes s
 
--- `A confirm`, since the first three letters of `Confirm` are those of `Consolidate`
+-- `A confirm`, since the first three letters of `Confirm` are those of `Consolidate`, and `Wide begin`, since those of `Begin wide` are those of `Begin`
 unfoldable pub names : List (List ℕ)
 names =
     codes "Format"
@@ -36,6 +36,7 @@ names =
     ∷ codes "A confirm"
     ∷ codes "Withdraw"
     ∷ codes "Load"
+    ∷ codes "Wide begin"
     ∷ []
 
 -- by number, from 0 on; 0 turns nothing back and has none
@@ -44,10 +45,10 @@ texts =
     []
     ∷ codes "the image is shorter than its header"
     ∷ codes "the layout of the image is unknown"
-    ∷ codes "pages, slots or journal places are out of range"
+    ∷ codes "pages, slots, places or entries are out of range"
     ∷ codes "the buffer is shorter than the sizes need"
     ∷ codes "head or tail of the journal is out of range"
-    ∷ codes "a live record of the journal is damaged"
+    ∷ codes "a live record or entry is damaged"
     ∷ codes "slots and page table do not name each frame once"
     ∷ codes "the state breaks its rules"
     ∷ codes "an operation is pending"
@@ -69,6 +70,9 @@ texts =
     ∷ codes "a line of the table is wrong"
     ∷ codes "a modulus is out of range"
     ∷ codes "a stored meter is not below its modulus"
+    ∷ codes "the image has no entries for wide rounds"
+    ∷ codes "a wide transaction must be the only open one"
+    ∷ codes "all entries for wide rounds are used"
     ∷ []
 
 abbrev pub nameOf : ℕ → List ℕ

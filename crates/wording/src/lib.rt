@@ -43,41 +43,46 @@ pub const WITHDRAW: usize = 16;
 
 pub const LOAD: usize = 17;
 
-// How many calls and numbers the tables have.
-const CALLS: usize = 18;
+pub const BEGIN_WIDE: usize = 18;
 
-const NUMBERS: usize = 28;
+// How many calls and numbers the tables have.
+const CALLS: usize = 19;
+
+const NUMBERS: usize = 31;
 
 // A row for each number from 0 on, a column for each call: `x` where the call can return the number.
 const RETURNS: [[u8; CALLS]; NUMBERS] = [
-    *b"                  ",
-    *b" xx               ",
-    *b" xx               ",
-    *b"xxx               ",
-    *b"xxx  xxxxxxxxxxxxx",
-    *b" xx               ",
-    *b" xx               ",
-    *b" xx               ",
-    *b"   xxxxxxxxxxxxxxx",
-    *b"   xxxxxxx  xxxxxx",
-    *b"          xx      ",
-    *b"  xxxxxx x    xxx ",
-    *b"   x         x    ",
-    *b"    xxx       x   ",
-    *b"     x       x    ",
-    *b"     x       x    ",
-    *b"     x   x   x   x",
-    *b"       x          ",
-    *b"       x          ",
-    *b"      xx    xxx   ",
-    *b"             x    ",
-    *b"             x    ",
-    *b"            x     ",
-    *b"    xxxx    xxx   ",
-    *b"               xx ",
-    *b"                 x",
-    *b"             x   x",
-    *b"                 x",
+    *b"                   ",
+    *b" xx                ",
+    *b" xx                ",
+    *b"xxx                ",
+    *b"xxx  xxxxxxxxxxxxx ",
+    *b" xx                ",
+    *b" xx                ",
+    *b" xx                ",
+    *b"   xxxxxxxxxxxxxxxx",
+    *b"   xxxxxxx  xxxxxxx",
+    *b"          xx       ",
+    *b"  xxxxxx x    xxx x",
+    *b"   x         x     ",
+    *b"    xxx       x    ",
+    *b"     x       x     ",
+    *b"     x       x     ",
+    *b"     x   x   x   x ",
+    *b"       x           ",
+    *b"       x           ",
+    *b"      xx    xxx    ",
+    *b"             x     ",
+    *b"             x     ",
+    *b"            x      ",
+    *b"    xxxx    xxx    ",
+    *b"               xx  ",
+    *b"                 x ",
+    *b"             x   x ",
+    *b"                 x ",
+    *b"                  x",
+    *b"   x         xx   x",
+    *b"     x             ",
 ];
 
 // The calls' names, each up to its dot.
@@ -100,6 +105,7 @@ const NAMES: [[u8; 12]; CALLS] = [
     *b"A confirm.  ",
     *b"Withdraw.   ",
     *b"Load.       ",
+    *b"Wide begin. ",
 ];
 
 // The numbers' texts, each up to its dot.
@@ -107,10 +113,10 @@ const TEXTS: [[u8; 49]; NUMBERS] = [
     *b".                                                ",
     *b"the image is shorter than its header.            ",
     *b"the layout of the image is unknown.              ",
-    *b"pages, slots or journal places are out of range. ",
+    *b"pages, slots, places or entries are out of range.",
     *b"the buffer is shorter than the sizes need.       ",
     *b"head or tail of the journal is out of range.     ",
-    *b"a live record of the journal is damaged.         ",
+    *b"a live record or entry is damaged.               ",
     *b"slots and page table do not name each frame once.",
     *b"the state breaks its rules.                      ",
     *b"an operation is pending.                         ",
@@ -132,6 +138,9 @@ const TEXTS: [[u8; 49]; NUMBERS] = [
     *b"a line of the table is wrong.                    ",
     *b"a modulus is out of range.                       ",
     *b"a stored meter is not below its modulus.         ",
+    *b"the image has no entries for wide rounds.        ",
+    *b"a wide transaction must be the only open one.    ",
+    *b"all entries for wide rounds are used.            ",
 ];
 
 // Whether a call can return a number.
@@ -152,6 +161,7 @@ pub fn takes_writer(call: usize) -> bool
     ensures { λ r. ⌜ r ≡ takesWriter call ⌝ }
 {
     (call == BEGIN)
+        | (call == BEGIN_WIDE)
         | (call == ABORT)
         | (call == WRITE)
         | (call == COMMIT)

@@ -6,6 +6,7 @@ use lib.Dec.{eqb}
 use lib.ListN.{replicate}
 use Rattle.replay.specs.declared.Table.{Table}
 use Rattle.state.specs.declared.State.{State}
+use Rattle.state.specs.Wide.{noWide}
 use Rattle.state.specs.Held.{noWriter}
 use Rattle.refinement.specs.Settled.{noPending}
 use Rattle.refinement.specs.Outcome.{Outcome}
@@ -30,6 +31,7 @@ firstBench =
         next = 0;
         table = firstTable;
         writers = record { opened = replicate 4 false; held = replicate 64 0; prepared = noWriter };
+        wide = noWide;
         pending = noPending;
       };
       lent = 65536;

@@ -7,7 +7,7 @@ use replay::Table;
 use state::State;
 use state::Writers;
 
-// Every number is 0, no writer is open or prepared, nothing is pending; the calls are lent all 65,536 bytes.
+// Every number is 0, no writer is open, prepared or wide, nothing is pending; the calls are lent all 65,536 bytes.
 pub fn first_bench() -> Bench
     ensures { λ r. ⌜ r ≡ firstBench ⌝ }
 {
@@ -29,6 +29,7 @@ pub fn first_bench() -> Bench
         held: [0; 64],
         prepared: 4,
     };
+    let wide = settled::begun_wide(4);
     let pending = settled::no_pending();
     let st = State {
         sizes,
@@ -37,6 +38,7 @@ pub fn first_bench() -> Bench
         next: 0,
         table,
         writers,
+        wide,
         pending,
     };
     Bench { st, lent: 65536 }

@@ -12,7 +12,7 @@ use Rattle.answers.proofs.Answered.{refused-known, refused-by, taken-by}
 use Rattle.in_place.specs.Through.{answeredAt}
 
 module _ (st after : State) (rs : List Row) (row : ℕ) (e : row ≡ refusal rs) where
-  pub writer-refused : (a : Answer) → (row ≡ 0 → ⊥) → refusal rs ≤ 27 → a ≡ asAnswer row 0 → answeredAt a st ≡ answered (refusal rs) st 0 after
+  pub writer-refused : (a : Answer) → (row ≡ 0 → ⊥) → refusal rs ≤ 30 → a ≡ asAnswer row 0 → answeredAt a st ≡ answered (refusal rs) st 0 after
   writer-refused a n l k = refused-by (record { answer = a; state = st }) rs row 0 st after e n (refused-known a row st (rw e l) k)
 
   pub writer-taken : (left : State) → row ≡ 0 → left ≡ after → answeredAt (Taken 0) left ≡ answered (refusal rs) st 0 after

@@ -17,6 +17,7 @@ pub fn begin<'a>(
     last: &'a [usize; 16],
     opened: &mut [bool; 4],
     held: &'a [u64; 64],
+    keys: &'a [u64; 64],
     writer: usize,
 ) -> Answer
     ensures { λ r. ⌜ answeredAt r (quietAt z at (now (page .entry)) (now (original .entry)) (now (spare .entry)) (now (bitmap .entry)) (now (last .entry)) (now (opened .exit)) (now (held .entry))) ≡ beginOf (quietAt z at (now (page .entry)) (now (original .entry)) (now (spare .entry)) (now (bitmap .entry)) (now (last .entry)) (now (opened .entry)) (now (held .entry))) writer ⌝ }
@@ -35,6 +36,9 @@ pub fn begin<'a>(
         opened,
         held,
         at.prepared,
+        at.wide,
+        at.count,
+        keys,
         idle,
         writer,
         false,
@@ -57,6 +61,7 @@ pub fn abort<'a>(
     last: &'a [usize; 16],
     opened: &mut [bool; 4],
     held: &mut [u64; 64],
+    keys: &'a [u64; 64],
     writer: usize,
 ) -> Answer
     ensures { λ r. ⌜ answeredAt r (quietAt z at (now (page .entry)) (now (original .entry)) (now (spare .entry)) (now (bitmap .entry)) (now (last .entry)) (now (opened .exit)) (now (held .exit))) ≡ abortOf (quietAt z at (now (page .entry)) (now (original .entry)) (now (spare .entry)) (now (bitmap .entry)) (now (last .entry)) (now (opened .entry)) (now (held .entry))) writer ⌝ }
@@ -75,6 +80,9 @@ pub fn abort<'a>(
         opened,
         held,
         at.prepared,
+        at.wide,
+        at.count,
+        keys,
         idle,
         writer,
         true,

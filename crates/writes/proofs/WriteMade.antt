@@ -68,7 +68,7 @@ module _ (st : State) (w p l o n : ℕ) where
       → original ≡ putFresh (st .sizes) (st .next) (st .table .page) p (st .pending .frame) (st .table .original)
       → bitmap ≡ putFresh (st .sizes) (st .next) (st .table .page) p 0 (st .table .bitmap)
       → held ≡ heldAfter (st .sizes) (st .next) (st .table .page) p w l (st .writers .held)
-      → stateOf (st .sizes) (st .head) (st .tail) next page original (st .table .spare) bitmap (st .table .last) (st .writers .opened) held (st .writers .prepared) noPending
+      → stateOf (st .sizes) (st .head) (st .tail) next page original (st .table .spare) bitmap (st .table .last) (st .writers .opened) held (st .writers .prepared) (st .wide) noPending
       ≡ completed st (Write w p l o n)
   unfolding writeSlot
   write-done next page original bitmap held a b c d e =

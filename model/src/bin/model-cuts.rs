@@ -1,17 +1,19 @@
 //! Images of a round cut after each store of its commit, and what a recall screen shows of each.
 //!
-//! `model-cuts DIR` writes cut-K.img, cut after K stores, and cut-K.txt, what `examples/recall_host.c` prints of it.
+//! `model-cuts DIR` writes cut-K.img, cut after K stores, and cut-K.txt, what `examples/recall_host.c` prints of it; and
+//! wide-K of the same round as a wide transaction.
 
 use std::path::{Path, PathBuf};
 use std::{env, fs, io};
 
-use model::calls::{begin, commit, run, step, write, Patch};
+use model::calls::{begin, begin_wide, commit, run, step, write, Patch};
 use model::layout::{Sizes, LINES};
 use model::mount::{format, recall};
 use model::refusal::Answer;
 use model::state::State;
 
-const SIZES: Sizes = Sizes { p: 2, s: 2, j: 4 };
+const SIZES: Sizes = Sizes { p: 2, s: 2, j: 4, l: 0 };
+const WIDE: Sizes = Sizes { l: 4, ..SIZES };
 
 /// A page's lines beyond these are not shown.
 const SHOWN: usize = 4;
@@ -29,17 +31,25 @@ fn main() -> io::Result<()> {
         eprintln!("model-cuts DIR");
         std::process::exit(2);
     };
-    let mut image = vec![0; SIZES.image_length()];
-    let mut state = taken(format(SIZES, &mut image));
+    cut(&folder.join("cut"), SIZES, begin)?;
+    cut(&folder.join("wide"), WIDE, begin_wide)
+}
+
+/// The second round, begun by a call, cut after each store of its commit.
+fn cut(path: &Path, sizes: Sizes, beginning: fn(&mut State, u64) -> Answer<u64>) -> io::Result<()> {
+    let mut image = vec![0; sizes.image_length()];
+    let mut state = taken(format(sizes, &mut image));
+    taken(begin(&mut state, 0));
     play(&mut state, &mut image, &LAST);
     let stores = taken(commit(&mut state, &image, 0));
     taken(run(&mut state, &mut image, stores));
+    taken(beginning(&mut state, 0));
     play(&mut state, &mut image, &NEXT);
     let stores = taken(commit(&mut state, &image, 0));
-    keep(&folder, 0, &image)?;
+    keep(path, 0, &image)?;
     for made in 1..=stores {
         taken(step(&mut state, &mut image));
-        keep(&folder, made, &image)?;
+        keep(path, made, &image)?;
     }
     Ok(())
 }
@@ -51,7 +61,6 @@ fn taken<T>(answer: Answer<T>) -> T {
 
 /// Writer 0 writes a round's texts.
 fn play(state: &mut State, image: &mut [u8], round: &Round) {
-    taken(begin(state, 0));
     for &(page, line, text) in round {
         let patch = Patch { offset: 0, length: text.len() as u64, data: text.as_bytes() };
         let stores = taken(write(state, image, (0, page, line), patch));
@@ -59,9 +68,10 @@ fn play(state: &mut State, image: &mut [u8], round: &Round) {
     }
 }
 
-fn keep(folder: &Path, made: u64, image: &[u8]) -> io::Result<()> {
-    fs::write(folder.join(format!("cut-{made}.img")), image)?;
-    fs::write(folder.join(format!("cut-{made}.txt")), screen(image))
+fn keep(path: &Path, made: u64, image: &[u8]) -> io::Result<()> {
+    let path = path.display();
+    fs::write(format!("{path}-{made}.img"), image)?;
+    fs::write(format!("{path}-{made}.txt"), screen(image))
 }
 
 /// For each page the first few lines that are not all zero.

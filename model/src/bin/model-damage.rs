@@ -1,13 +1,14 @@
 //! A script of probe lines: right and damaged images, mounted. Each image is formatted, damaged word by word and mounted, and the state is
 //! printed; formats that are turned back are followed by the buffer's hash. Its outputs come from model-probe.
 
-use model::layout::{Sizes, HEAD_AT, J_AT, LAYOUT_AT, P_AT, S_AT, TAIL_AT};
+use model::layout::{Sizes, COUNT_AT, ENTRIES_AT, HEAD_AT, J_AT, LAYOUT_AT, P_AT, S_AT, TAIL_AT};
 use model::slots::{FREE_ORIGINAL, FREE_PAGE};
 
 const ALL: u64 = u64::MAX;
 const HALF: u64 = u32::MAX as u64;
-const SMALL: Sizes = Sizes { p: 2, s: 1, j: 2 };
-const LARGE: Sizes = Sizes { p: 3, s: 2, j: 3 };
+const SMALL: Sizes = Sizes { p: 2, s: 1, j: 2, l: 0 };
+const LARGE: Sizes = Sizes { p: 3, s: 2, j: 3, l: 0 };
+const WIDE: Sizes = Sizes { l: 3, ..SMALL };
 const BUFFER: usize = 65_536;
 
 /// Page, original, spare and bitmap.
@@ -94,7 +95,8 @@ fn headers() {
         image().within(lent);
     }
     image().put(LAYOUT_AT, 0).found(); // layout 0
-    image().put(LAYOUT_AT, 2).found(); // layout 2
+    image().put(LAYOUT_AT, 2).found(); // layout 2 without entries
+    image().put(LAYOUT_AT, 3).found(); // layout 3
     image().put(LAYOUT_AT, 1 + (1 << 32)).found(); // layout 1 + 2^32
     image().put(LAYOUT_AT, 0).within(63); // rows 1 and 2
     image().put(P_AT, 0).found(); // P 0
@@ -248,6 +250,46 @@ fn wraps() {
     three([5, 1, 5]).leads(2, 5, 0).leads(0, 5, 1).ends(1, 5).found(); // one transaction across the wrap
 }
 
+/// Layout 2: L and the count in rows 3, 4 and 6, the keys of the entries counted, and recall of an entry.
+fn entries() {
+    let image = |l: u64| Damaged::fresh(SMALL).put(LAYOUT_AT, 2).put(ENTRIES_AT, l);
+    let counted = |count: u64, keys: [u64; 3]| {
+        let mut image = image(3).put(COUNT_AT, count);
+        for (entry, key) in (0..).zip(keys) {
+            let at = WIDE.entry_word(entry, 0);
+            image = image.put(at, key).put(at + 8, 1_000 + entry).put(at + 64, 2_000 + entry);
+        }
+        image
+    };
+    image(1).found(); // L 1
+    image(64).found(); // L 64
+    image(65).found(); // L 65
+    image(ALL).found(); // L 2^64 - 1
+    image(65).within(64); // rows 3 and 4
+    for lent in [WIDE.image_length() - 1, WIDE.image_length()] {
+        image(3).within(lent);
+    }
+    Damaged::fresh(SMALL).put(COUNT_AT, 9).put(ENTRIES_AT, 9).found(); // not read under layout 1
+    counted(0, [9, 9, ALL]).found(); // none counted
+    counted(1, [0, 0, 0]).found(); // the line that is recalled
+    counted(1, [127, ALL, ALL]).found(); // the last line
+    counted(2, [63, 0, 0]).found(); // in the second entry
+    counted(3, [127, 64, 0]).found(); // all of them
+    counted(3, [127, 64, 0]).ends(4, 0).found(); // rows 5 and 6
+    counted(4, [127, 64, 0]).found(); // more than L
+    counted(ALL, [127, 64, 0]).found(); // far more
+    counted(1, [128, 0, 0]).found(); // page P
+    counted(1, [ALL, 0, 0]).found(); // a key of all ones
+    counted(2, [5, 5, 0]).found(); // a line twice
+    counted(3, [5, 6, 5]).found(); // a line twice, apart
+    counted(2, [5, 6, 5]).found(); // twice, but not counted
+    counted(3, [5, 6, 128]).found(); // the last outside
+    counted(4, [127, 64, 0]).home(0, 3).found(); // rows 6 and 7
+    counted(2, [0, 64, 0]).home(0, 3).found(); // row 7
+    counted(2, [0, 64, 0]).slot(0, (0, 0, 2, 1)).found(); // under a slot's committed copy
+    counted(2, [64, 1, 0]).record(0, (1, 1, 2, ALL)).ends(1, 0).found(); // beside a live record
+}
+
 fn main() {
     formats();
     headers();
@@ -255,4 +297,5 @@ fn main() {
     records();
     two_slots();
     wraps();
+    entries();
 }

@@ -232,7 +232,7 @@ fn code(answer: Answer<u64>) -> u64 {
 
 impl Store {
     fn fresh() -> Store {
-        let sizes = Sizes { p: 6, s: 4, j: 6 };
+        let sizes = Sizes { p: 6, s: 4, j: 6, l: 0 };
         let mut image = vec![0; sizes.image_length()];
         let state = format(sizes, &mut image).expect("sizes in range");
         Store { state, image }

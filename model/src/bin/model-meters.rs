@@ -10,7 +10,7 @@ use model::mount::{format, mount};
 use model::refusal::{Answer, Refusal};
 use model::state::State;
 
-const SIZES: Sizes = Sizes { p: 2, s: 2, j: 4 };
+const SIZES: Sizes = Sizes { p: 2, s: 2, j: 4, l: 0 };
 const WRITER: u64 = 1;
 const EVENTS: u64 = 1000;
 /// The moduli that are loaded half-way.

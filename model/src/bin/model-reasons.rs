@@ -2,7 +2,7 @@
 //!
 //! Its tables stand by call, where document 01's table stands by number, and its reader goes from left to right.
 
-use model::calls::{abort, begin, confirm, consolidate, event, free_slot, prepare, run, withdraw, write, Patch};
+use model::calls::{abort, begin, begin_wide, confirm, consolidate, event, free_slot, prepare, run, withdraw, write, Patch};
 use model::layout::Sizes;
 use model::meters::{fixed_moduli, Asked};
 use model::mount::format;
@@ -31,13 +31,13 @@ const fn call(name: &'static str, given: &str, numbers: &'static [u64]) -> Call 
     Call { name, writer, page, line, numbers }
 }
 
-const CALLS: [Call; 18] = [
+const CALLS: [Call; 19] = [
     call("Format", "", &[3, 4]),
     call("Mount", "", &[1, 2, 3, 4, 5, 6, 7]),
     call("Recall", "pl", &[1, 2, 3, 4, 5, 6, 7, 11]),
-    call("Begin", "w", &[8, 9, 11, 12]),
+    call("Begin", "w", &[8, 9, 11, 12, 29]),
     call("Abort", "w", &[8, 9, 11, 13, 23]),
-    call("Write", "wpl", &[4, 8, 9, 11, 13, 14, 15, 16, 23]),
+    call("Write", "wpl", &[4, 8, 9, 11, 13, 14, 15, 16, 23, 30]),
     call("Commit", "w", &[4, 8, 9, 11, 13, 19, 23]),
     call("Consolidate", "p", &[4, 8, 9, 11, 17, 18, 19, 23]),
     call("Checkpoint", "", &[4, 8, 9]),
@@ -45,11 +45,12 @@ const CALLS: [Call; 18] = [
     call("Step", "", &[4, 8, 10]),
     call("Run", "", &[4, 8, 10]),
     call("Free slot", "", &[4, 8, 9, 19, 22, 23]),
-    call("Event", "", &[4, 8, 9, 12, 14, 15, 16, 19, 20, 21, 23, 26]),
-    call("Prepare", "w", &[4, 8, 9, 11, 13, 19, 23]),
+    call("Event", "", &[4, 8, 9, 12, 14, 15, 16, 19, 20, 21, 23, 26, 29]),
+    call("Prepare", "w", &[4, 8, 9, 11, 13, 19, 23, 29]),
     call("A confirm", "w", &[4, 8, 9, 11, 24]),
     call("Withdraw", "w", &[4, 8, 9, 11, 24]),
     call("Load", "", &[4, 8, 9, 16, 25, 26, 27]),
+    call("Wide begin", "w", &[8, 9, 11, 28, 29]),
 ];
 const WRITE: usize = 5;
 const CONSOLIDATE: usize = 7;
@@ -59,15 +60,17 @@ const ABORT: usize = 4;
 const PREPARE: usize = 14;
 const CONFIRM: usize = 15;
 const WITHDRAW: usize = 16;
+const BEGIN: usize = 3;
+const BEGIN_WIDE: usize = 18;
 
 fn text(number: u64) -> &'static str {
     match number {
         1 => "the image is shorter than its header",
         2 => "the layout of the image is unknown",
-        3 => "pages, slots or journal places are out of range",
+        3 => "pages, slots, places or entries are out of range",
         4 => "the buffer is shorter than the sizes need",
         5 => "head or tail of the journal is out of range",
-        6 => "a live record of the journal is damaged",
+        6 => "a live record or entry is damaged",
         7 => "slots and page table do not name each frame once",
         8 => "the state breaks its rules",
         9 => "an operation is pending",
@@ -89,6 +92,9 @@ fn text(number: u64) -> &'static str {
         25 => "a line of the table is wrong",
         26 => "a modulus is out of range",
         27 => "a stored meter is not below its modulus",
+        28 => "the image has no entries for wide rounds",
+        29 => "a wide transaction must be the only open one",
+        30 => "all entries for wide rounds are used",
         _ => unreachable!("no number of the table"),
     }
 }
@@ -199,7 +205,7 @@ fn show_call(place: usize) {
         Met { writer: u64::MAX, page: u64::MAX, line: u64::MAX, holder: u64::MAX },
     ];
     let mut turned_back = 0;
-    for number in 0..30 {
+    for number in 0..33 {
         let sentences: Vec<String> = samples.iter().filter_map(|&met| compose(place, number, met)).collect();
         turned_back += usize::from(sentences.is_empty());
         for sentence in sentences {
@@ -238,6 +244,12 @@ struct Store {
 }
 
 impl Store {
+    fn fresh(l: u64) -> Store {
+        let mut image = vec![0; 12_552];
+        let state = format(Sizes { p: 2, s: 1, j: 2, l }, &mut image).expect("a taken format");
+        Store { state, image }
+    }
+
     /// The lowest writer but `but` with a line of the page that passes the test.
     fn holder(&self, page: u64, but: Option<u64>, test: impl Fn(u64) -> bool) -> u64 {
         let slot = (0..self.state.slot_count()).find(|&s| self.state.slots[s].page == page);
@@ -255,7 +267,7 @@ impl Store {
         let patch = Patch { offset: 0, length: 1, data: b"x" };
         match write(&mut self.state, &self.image, (writer, page, line), patch) {
             Ok(_) => {
-                run(&mut self.state, &mut self.image, 8).expect("a pending write");
+                run(&mut self.state, &mut self.image, 9).expect("a pending write");
             }
             Err(refusal) => {
                 let holder = self.holder(page, Some(writer), |lines| line < 64 && lines >> line & 1 == 1);
@@ -330,6 +342,30 @@ impl Store {
         self.refused(PREPARE, 2, answer);
     }
 
+    /// Turned back for want of entries; then, with one entry, what is turned back beside a wide transaction and of it.
+    fn wide(&mut self) {
+        let answer = begin_wide(&mut self.state, 0);
+        self.refused(BEGIN_WIDE, 0, answer);
+        *self = Store::fresh(1);
+        begin(&mut self.state, 0).expect("a taken begin");
+        let answer = begin_wide(&mut self.state, 1);
+        self.refused(BEGIN_WIDE, 1, answer);
+        abort(&mut self.state, 0).expect("a taken abort");
+        let answer = begin_wide(&mut self.state, 4);
+        self.refused(BEGIN_WIDE, 4, answer);
+        begin_wide(&mut self.state, 1).expect("a taken begin");
+        let answer = begin(&mut self.state, 0);
+        self.refused(BEGIN, 0, answer);
+        self.event(3, 0);
+        let answer = prepare(&mut self.state, &self.image, 1);
+        self.refused(PREPARE, 1, answer);
+        let answer = confirm(&mut self.state, &self.image, 1);
+        self.refused(CONFIRM, 1, answer);
+        for (writer, page) in [(1, 0), (1, 1), (0, 1)] {
+            self.write(writer, page, 5);
+        }
+    }
+
     fn free_slot(&mut self) {
         let refusal = free_slot(&mut self.state, &self.image).expect_err("a refusal");
         self.tell(FREE_SLOT, refusal, Met { writer: 0, page: 0, line: 0, holder: 0 });
@@ -337,12 +373,10 @@ impl Store {
 }
 
 fn show_met() {
-    let mut image = vec![0; 12_480];
-    let mut state = format(Sizes { p: 2, s: 1, j: 2 }, &mut image).expect("a taken format");
+    let mut store = Store::fresh(0);
     for writer in [3, 1, 0] {
-        begin(&mut state, writer).expect("a taken begin");
+        begin(&mut store.state, writer).expect("a taken begin");
     }
-    let mut store = Store { state, image };
     for (writer, page, line) in [(3, 1, 5), (1, 1, 6), (0, 1, 6), (3, 1, 6), (0, 1, 5), (0, 0, 5), (2, 1, 7), (0, 2, 64)] {
         store.write(writer, page, line);
     }
@@ -351,10 +385,11 @@ fn show_met() {
     store.free_slot();
     store.events();
     store.prepared();
+    store.wide();
 }
 
 fn main() {
-    (0..19).for_each(show_call);
+    (0..20).for_each(show_call);
     show_odd();
     show_met();
 }

@@ -10,7 +10,7 @@ use model::mount::format;
 use model::refusal::{Answer, Refusal};
 use model::state::State;
 
-const SIZES: Sizes = Sizes { p: 16, s: 4, j: 64 };
+const SIZES: Sizes = Sizes { p: 16, s: 4, j: 64, l: 0 };
 const WRITER: u64 = 0;
 /// The largest prime below 2^32.
 const MODULUS: u64 = 4_294_967_291;

@@ -11,7 +11,7 @@ use model::mount::{format, mount, recall};
 use model::refusal::Answer;
 use model::state::State;
 
-const SIZES: Sizes = Sizes { p: 1, s: 1, j: 1 };
+const SIZES: Sizes = Sizes { p: 1, s: 1, j: 1, l: 0 };
 
 #[derive(Clone, Copy)]
 enum Call {

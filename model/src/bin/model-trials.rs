@@ -55,7 +55,7 @@ impl Trial {
     fn new(line: &[u8]) -> Option<Trial> {
         let &[p, s, j] = numbers(line)?.as_slice() else { return None };
         let mut image = vec![0; BUFFER];
-        let state = format(Sizes { p, s, j }, &mut image).ok()?;
+        let state = format(Sizes { p, s, j, l: 0 }, &mut image).ok()?;
         let pages = vec![0; p as usize];
         Some(Trial { state, image, done: 0, abandoned: 0, data: 0, journal: 0, copies: 0, tables: 0, pages })
     }
@@ -126,7 +126,7 @@ impl Trial {
         }
         let operation = self.state.pending.as_ref().expect("stores are left").operation.clone();
         for store in plan(&self.state, &operation) {
-            self.put_down(store.at, &operation);
+            self.put_down(store.at.address(&self.image), &operation);
         }
         assert_eq!(run(&mut self.state, &mut self.image, needed), Ok(needed));
         Ok(())

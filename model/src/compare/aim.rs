@@ -11,7 +11,7 @@ pub fn sizes(rng: &mut Rng) -> Sizes {
         0 => snug(rng),
         1 => {
             let (p, s) = (rng.between(1, 8), rng.between(1, 6));
-            Sizes { p, s, j: rng.between(s, 40) }
+            Sizes { p, s, j: rng.between(s, 40), l: 0 }
         }
         _ => small(rng),
     }
@@ -19,14 +19,14 @@ pub fn sizes(rng: &mut Rng) -> Sizes {
 
 pub fn small(rng: &mut Rng) -> Sizes {
     let (p, s) = (rng.between(1, 4), rng.between(1, 3));
-    Sizes { p, s, j: rng.between(s, 5) }
+    Sizes { p, s, j: rng.between(s, 5), l: 0 }
 }
 
 /// As many journal places as 14 or 15 frames leave room for.
 fn snug(rng: &mut Rng) -> Sizes {
     let frames = rng.between(14, 15);
     let s = rng.between(1, 13);
-    let mut sizes = Sizes { p: frames - s, s, j: 256 };
+    let mut sizes = Sizes { p: frames - s, s, j: 256, l: 0 };
     while sizes.image_length() > BUFFER {
         sizes.j -= 1;
     }
@@ -41,9 +41,9 @@ pub fn bad_sizes(rng: &mut Rng, huge: u64) -> Sizes {
         1 => sizes.s = rng.pick(&[0, 17, huge]),
         2 => sizes.j = rng.pick(&[0, 257, huge]),
         3 => sizes.j = sizes.s - 1,
-        4 => sizes = Sizes { p: 0, s: 17, j: 0 },
-        5 => sizes = Sizes { p: 1024, s: 16, j: 256 },
-        6 => sizes = Sizes { p: 15, s: 1, j: rng.between(1, 256) },
+        4 => sizes = Sizes { p: 0, s: 17, j: 0, l: 0 },
+        5 => sizes = Sizes { p: 1024, s: 16, j: 256, l: 0 },
+        6 => sizes = Sizes { p: 15, s: 1, j: rng.between(1, 256), l: 0 },
         _ => {
             sizes = snug(rng);
             sizes.j += 1;

@@ -159,6 +159,7 @@ fn header_word(rng: &mut Rng, state: &State) -> (usize, u64) {
     rng.pick(&[
         (LAYOUT_AT, 0),
         (LAYOUT_AT, 2),
+        (LAYOUT_AT, 3),
         (LAYOUT_AT, 1 + (1 << 32)),
         (P_AT, 0),
         (P_AT, 1_025),

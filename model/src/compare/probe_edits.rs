@@ -102,9 +102,11 @@ pub fn set_pending(scribe: &mut Scribe) {
         Operation::Commit { writer } => (2, *writer, 0, 0, 0, 0, 0),
         Operation::Consolidate { page } => (3, *page, 0, 0, 0, 0, 0),
         Operation::Checkpoint => (4, 0, 0, 0, 0, 0, 0),
-        Operation::Event(_) | Operation::Prepare { .. } | Operation::Confirm { .. } => {
-            unreachable!("probe has none of these")
-        }
+        Operation::Event(_)
+        | Operation::Prepare { .. }
+        | Operation::Confirm { .. }
+        | Operation::Log(_)
+        | Operation::Copy => unreachable!("probe has none of these"),
     };
     state.pending = Some(Pending { operation: operation.clone(), made: 0 });
     let needed = if breach(&state).is_none() { plan(&state, &operation).len() as u64 } else { 8 };

@@ -30,7 +30,7 @@ enum Command {
 fn parse(line: &[u8]) -> Option<(char, Command)> {
     let (letter, numbers) = lines::letter_and_numbers(line, DIGITS)?;
     let command = match (letter, numbers.as_slice()) {
-        (b'F', &[p, s, j]) => Command::Format(Sizes { p, s, j }),
+        (b'F', &[p, s, j]) => Command::Format(Sizes { p, s, j, l: 0 }),
         (b'B', &[writer]) => Command::Begin(writer),
         (b'C', &[writer]) => Command::Commit(writer),
         (b'A', &[writer]) => Command::Abort(writer),

@@ -101,7 +101,7 @@ impl Session {
     fn replace_state(&mut self, letter: u8, numbers: &[u64]) -> Option<Answer<u64>> {
         let lent = &mut self.buffer[..self.lent];
         let answer = match (letter, numbers) {
-            (b'F', &[p, s, j]) => format(Sizes { p, s, j }, lent),
+            (b'F', &[p, s, j]) => format(Sizes { p, s, j, l: 0 }, lent),
             (b'M', []) => mount(lent),
             _ => return None,
         };

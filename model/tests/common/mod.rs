@@ -24,7 +24,10 @@ pub fn numbered<T>(answer: Result<T, Refusal>) -> Result<T, u8> {
 impl Store {
     /// A fresh image in a buffer of just its length.
     pub fn fresh(p: u64, s: u64, j: u64) -> Store {
-        let sizes = Sizes { p, s, j };
+        Store::of(Sizes { p, s, j, l: 0 })
+    }
+
+    pub fn of(sizes: Sizes) -> Store {
         let mut image = vec![0xaa; sizes.image_length()];
         let state = format(sizes, &mut image).expect("sizes in range");
         Store { state, image }
@@ -36,6 +39,10 @@ impl Store {
 
     pub fn begin(&mut self, writer: u64) -> Answer {
         numbered(calls::begin(&mut self.state, writer))
+    }
+
+    pub fn begin_wide(&mut self, writer: u64) -> Answer {
+        numbered(calls::begin_wide(&mut self.state, writer))
     }
 
     pub fn abort(&mut self, writer: u64) -> Answer {

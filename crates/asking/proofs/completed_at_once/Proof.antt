@@ -3,7 +3,7 @@ use Rattle.bounded.proofs.Tests.{contradicts}
 use Rattle.operations.specs.Operations.{isIdle}
 use Rattle.operations.proofs.Taken.{commit-taken, confirm-taken}
 use Rattle.refinement.specs.Stores.{completed}
-use Rattle.asking.proofs.Taking.{commit-none, confirm-none, empty-commit, empty-prepare, empty-checkpoint, write-needs, consolidate-needs, event-needs}
+use Rattle.asking.proofs.Taking.{commit-none, confirm-none, empty-commit, empty-prepare, empty-checkpoint, empty-copy, write-needs, log-needs, consolidate-needs, event-needs}
 use borrow.Author.Needs.{needs}
 use Rattle.asking.proofs.completed_at_once.Statement.{statement}
 use Rattle.asking.proofs.completed_at_once.Tie as tie
@@ -56,6 +56,13 @@ returns-8 c = let s = c .before .before .before .before .before .before .before 
     empty-commit (s .args .st) _ _ _ _ (s .pre .0) (confirm-none (s .args .st) _ (rw e at (s .pre .3))) (c .before .let-go2 .ensures) (c .before .before .before .set-open2 .ensures) (c .before .before .before .before .before .before .before .before .no-pending .ensures)
     ∙ sym (ap (completed (s .args .st)) e)
 
+returns-9 : tie.Need-returns-9
+returns-9 c = absurd (log-needs (c .before .before .before .before .args .st) _ _ _ _ (rw (c .enum-told6 .given .1) at (c .before .before .before .before .pre .3)))
+
+returns-10 : tie.Need-returns-10
+returns-10 c = let s = c .before .before .before .before .before .before .before .before .before in
+    empty-copy (s .args .st) _ _ _ _ (c .before .before .before .close .ensures) (c .before .let-go3 .ensures) (c .begun-wide .ensures) (c .before .before .before .before .before .before .before .no-pending .ensures) ∙ sym (ap (completed (s .args .st)) (c .before .before .before .before .before .enum-told7 .given .1))
+
 pub completed-at-once-spec : {M : Type 1} → statement M
 completed-at-once-spec =
     tie.close
@@ -74,6 +81,11 @@ completed-at-once-spec =
     (λ c. search needs)
     set-open-requires-2
     let-go-requires-2
+    (λ c. search needs)
+    (λ c. search needs)
+    (λ c κs. search needs)
+    (λ c κs. search needs)
+    (λ c κs. search needs)
     returns
     returns-2
     returns-3
@@ -81,4 +93,6 @@ completed-at-once-spec =
     returns-5
     returns-6
     returns-7
-    returns-8)
+    returns-8
+    returns-9
+    returns-10)

@@ -6,12 +6,13 @@ use Rattle.event_stores.specs.Lines.{eventLines}
 use borrow.Author.Needs.{needs}
 use Rattle.state.specs.declared.State.{State}
 use Rattle.state.specs.Parts.{stateOf}
+use Rattle.state.specs.Wide.{wideOf}
 use Rattle.event_stores.proofs.LinesMade.{ranges, shapes, known, lines-low, needs-five, lines-made, all-made, event-made}
 use Rattle.event_stores.proofs.make_event_stores.Statement.{statement}
 use Rattle.event_stores.proofs.make_event_stores.Tie as tie
 
 abbrev st : tie.Start → State
-st c = let a = c .args in stateOf (a .z) (a .head) (a .tail) (a .next) (a .page .now) (a .original .now) (a .spare .now) (a .bitmap .now) (a .last .now) (a .opened .now) (a .held .now) (a .prepared) (a .t14)
+st c = let a = c .args in stateOf (a .z) (a .head) (a .tail) (a .next) (a .page .now) (a .original .now) (a .spare .now) (a .bitmap .now) (a .last .now) (a .opened .now) (a .held .now) (a .prepared) (wideOf (a .wide) (a .count) (a .keys .now)) (a .t17)
 
 make-line-stores-requires : tie.Need-make-line-stores-requires
 make-line-stores-requires c κs =
@@ -42,9 +43,9 @@ returns c =
     let T = s .pre .0 in
     let b = c .before .before .before .before .before .before .before .before .before .before .before .before .before2 in
     let n = c .before .before .before .before .before .before .before .before .before .before .before .before .before .line-stores .ensures in
-    let low : b .result ≤ lineStores (a .kind) - a .t14 .made = omega (arith, b .ensures, n) in
-    event-made (st s) (a .kind) (a .meter) T (a .t14 .made) (b .result) _ (a .n) (a .image .now) _ _ (rw n at (b .ensures)) (rw n) (c .before .before .before .before .if1 .taken)
-    (c .before .before .before .before .before .before .before .make-line-stores .ensures ∙ lines-made (st s) (a .kind) (a .meter) T (a .t14 .made) (b .result) (a .image .now) low) (c .before .before .make-event-commit .ensures)
+    let low : b .result ≤ lineStores (a .kind) - a .t17 .made = omega (arith, b .ensures, n) in
+    event-made (st s) (a .kind) (a .meter) T (a .t17 .made) (b .result) _ (a .n) (a .image .now) _ _ (rw n at (b .ensures)) (rw n) (c .before .before .before .before .if1 .taken)
+    (c .before .before .before .before .before .before .before .make-line-stores .ensures ∙ lines-made (st s) (a .kind) (a .meter) T (a .t17 .made) (b .result) (a .image .now) low) (c .before .before .make-event-commit .ensures)
 
 returns-2 : tie.Need-returns-2
 unfolding eventLines
@@ -53,7 +54,7 @@ returns-2 c =
     let a = s .args in
     let b = c .before .before .before .before .before .before .before .before .before2 in
     let n = c .before .before .before .before .before .before .before .before .before .line-stores .ensures in
-    all-made (st s) (a .kind) (a .meter) (s .pre .0) (a .t14 .made) (b .result) (a .n) (a .image .now) _ (rw n at (b .ensures)) (c .if1 .left) (c .before .before .before .make-line-stores .ensures)
+    all-made (st s) (a .kind) (a .meter) (s .pre .0) (a .t17 .made) (b .result) (a .n) (a .image .now) _ (rw n at (b .ensures)) (c .if1 .left) (c .before .before .before .make-line-stores .ensures)
 
 pub make-event-stores-spec : {M : Type 1} → statement M
 make-event-stores-spec =

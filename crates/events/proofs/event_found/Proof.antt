@@ -14,6 +14,7 @@ use Rattle.meters.specs.Meters.{eventKnown, firstMeter, ownMeter, amountBad}
 use Rattle.meters.proofs.MeterLaws.{first-low, own-range}
 use Rattle.state.specs.declared.State.{State}
 use Rattle.state.specs.Parts.{stateOf}
+use Rattle.state.specs.Wide.{wideOf}
 use Rattle.operations.specs.Operations.{eventNextRows}
 use Rattle.refinement.specs.Frames.{pageFrame, seenFrame}
 use Rattle.refinement.specs.Calls.{meterIn}
@@ -25,7 +26,7 @@ use Rattle.events.proofs.event_found.Statement.{statement}
 use Rattle.events.proofs.event_found.Tie as tie
 
 abbrev st : tie.Start → State
-st c = let a = c .args in stateOf (a .z) (a .head) (a .tail) (a .next) (a .page .now) (a .original .now) (a .spare .now) (a .bitmap .now) (a .last .now) (a .opened .now) (a .held .now) (a .prepared) (a .pending)
+st c = let a = c .args in stateOf (a .z) (a .head) (a .tail) (a .next) (a .page .now) (a .original .now) (a .spare .now) (a .bitmap .now) (a .last .now) (a .opened .now) (a .held .now) (a .prepared) (wideOf (a .wide) (a .count) (a .keys .now)) (a .pending)
 
 abbrev home : tie.Start → ℕ
 home s = pageFrame (st s) (s .args .image .now) 0

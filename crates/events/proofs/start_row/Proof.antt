@@ -8,6 +8,7 @@ use Rattle.bounded.proofs.Tests.{row-yes, row-no}
 use Rattle.meters.specs.Meters.{moduliOk, eventKnown}
 use Rattle.state.specs.declared.State.{State}
 use Rattle.state.specs.Parts.{stateOf}
+use Rattle.state.specs.Wide.{wideOf}
 use Rattle.refinement.specs.Calls.{quietRows}
 use Rattle.refinement.proofs.Quiet.{Quiet, quiet}
 use Rattle.answers.proofs.Answered.{rows-first, rows-then}
@@ -15,7 +16,7 @@ use Rattle.events.proofs.start_row.Statement.{statement}
 use Rattle.events.proofs.start_row.Tie as tie
 
 abbrev st : tie.Start → State
-st c = let a = c .args in stateOf (a .z) (a .head) (a .tail) (a .next) (a .page .now) (a .original .now) (a .spare .now) (a .bitmap .now) (a .last .now) (a .opened .now) (a .held .now) (a .prepared) (a .pending)
+st c = let a = c .args in stateOf (a .z) (a .head) (a .tail) (a .next) (a .page .now) (a .original .now) (a .spare .now) (a .bitmap .now) (a .last .now) (a .opened .now) (a .held .now) (a .prepared) (wideOf (a .wide) (a .count) (a .keys .now)) (a .pending)
 
 abbrev two : tie.Start → List Row
 two c = let a = c .args in (not (eventKnown (a .kind) (a .meter)), 20) ∷ (not (moduliOk (a .moduli .now)), 26) ∷ []

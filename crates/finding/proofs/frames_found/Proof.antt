@@ -5,6 +5,7 @@ use Rattle.operations.proofs.Taken.{ArgsGood, args-good}
 use Rattle.bounded.proofs.Rows.{none-apply}
 use native.Mathlib.Omega.{arith}
 use Rattle.operations.specs.Operations.{writeRowsOf}
+use Rattle.finding.proofs.FoundLine.{back-row}
 use Rattle.finding.proofs.frames_found.Statement.{statement}
 use Rattle.finding.proofs.frames_found.Tie as tie
 
@@ -16,7 +17,8 @@ good1 c =
 
 returns : tie.Need-returns
 returns c =
-    (rw (c .before .before .page-frame .ensures, c .before .before .before .slot-of .ensures) at (c .before .write-row .ensures), rw (c .before .before .before .slot-of .ensures) at (c .before .before .page-frame .ensures), λ z. absurd (c .if1 .taken z))
+    let row = back-row _ _ (c .turned-back .ensures) in
+    (row ∙ rw (c .before .before .before .page-frame .ensures, c .before .before .before .before .slot-of .ensures) at (c .before .before .write-row .ensures), λ z. absurd (c .before .if1 .taken (sym row ∙ z)))
 
 seen-frame-requires : tie.Need-seen-frame-requires
 seen-frame-requires c κs = (c .before .before .before .before .before .pre .0, good1 c .writer-low, good1 c .line-low)
@@ -28,12 +30,13 @@ returns-2 : tie.Need-returns-2
 returns-2 c =
     let slot = c .before .before .before .before .before .slot-of .ensures in
     let frame = c .before .before .before .before .page-frame .ensures in
-    (rw (frame, slot) at (c .before .before .before .write-row .ensures), rw slot at frame, λ z. (rw (frame, slot) at (c .before .seen-frame .ensures), rw slot at (c .holds-line .ensures)))
+    (rw (frame, slot) at (c .before .before .before .write-row .ensures), λ z. (rw slot at frame, rw (frame, slot) at (c .before .seen-frame .ensures), rw slot at (c .holds-line .ensures), refl))
 
 pub frames-found-spec : {M : Type 1} → statement M
 frames-found-spec =
     tie.close
     (tie.spec
+    (λ c κs. search needs)
     (λ c κs. search needs)
     (λ c κs. search needs)
     (λ c κs. search needs)

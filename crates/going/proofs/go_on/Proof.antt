@@ -1,6 +1,7 @@
 use borrow.Author.Tests.{not-true, not-false}
 use Rattle.state.specs.declared.State.{State}
 use Rattle.state.specs.Parts.{stateOf}
+use Rattle.state.specs.Wide.{wideOf}
 use Rattle.stores.proofs.LeftMade.{put-together}
 use Rattle.going.proofs.Running.{row-low, taken-busy, taken-going, went-part, whole-taken, went-whole}
 use borrow.Author.Needs.{needs}
@@ -10,7 +11,7 @@ use Rattle.going.proofs.go_on.Tie as tie
 abbrev st : tie.Start → State
 st c =
     let a = c .args in
-    stateOf (a .z) (a .head) (a .tail) (a .next) (a .page .now) (a .original .now) (a .spare .now) (a .bitmap .now) (a .last .now) (a .opened .now) (a .held .now) (a .prepared) (a .pending)
+    stateOf (a .z) (a .head) (a .tail) (a .next) (a .page .now) (a .original .now) (a .spare .now) (a .bitmap .now) (a .last .now) (a .opened .now) (a .held .now) (a .prepared) (wideOf (a .wide) (a .count) (a .keys .now)) (a .pending)
 
 make-left-requires : tie.Need-make-left-requires
 make-left-requires c κs = c .before .before .before .before .before .before .before .before .before .pre

@@ -7,6 +7,7 @@ use Rattle.bounded.specs.Rows.{refusal}
 use Rattle.state.specs.declared.State.{State}
 use Rattle.state.specs.declared.Pending.{Pending}
 use Rattle.state.specs.Parts.{stateOf}
+use Rattle.state.specs.Wide.{wideOf}
 use Rattle.operations.specs.Operations.{opRows, needs as storesNeeded}
 use Rattle.operations.proofs.Taken.{op-asked}
 use Rattle.refinement.specs.Calls.{quietRows}
@@ -27,7 +28,7 @@ row : (c : tie.After-ask-row) → let s = c .before .before .before .before .bef
     c .ask-row .result ≡ refusal (quietRows (st s) (length (s .args .image .now)) ++ opRows (st s) (s .args .op) 0)
 row c =
     let a = c .before .before .before .before .before .before .before .before .before .before .args in
-    let state : Pending → State = λ (q : Pending). stateOf (a .z) (a .at .head) (a .at .tail) (a .at .next) (a .page .now) (a .original .now) (a .spare .now) (a .bitmap .now) (a .last .now) (a .opened .now) (a .held .now) (a .at .prepared) q in
+    let state : Pending → State = λ (q : Pending). stateOf (a .z) (a .at .head) (a .at .tail) (a .at .next) (a .page .now) (a .original .now) (a .spare .now) (a .bitmap .now) (a .last .now) (a .opened .now) (a .held .now) (a .at .prepared) (wideOf (a .at .wide) (a .at .count) (a .keys .now)) q in
     subst (λ (q : Pending). c .ask-row .result ≡ refusal (quietRows (state q) (length (a .image .now)) ++ opRows (state q) (a .op) 0))
     (c .before .before .before .before .before .before .before .before .no-pending .ensures) (c .ask-row .ensures)
 

@@ -26,10 +26,18 @@ returns-7 c = sym (ap (λ (o : Op). opNumbers o (c .before .before .before .args
 returns-8 : tie.Need-returns-8
 returns-8 c = sym (ap (λ (o : Op). opNumbers o (c .before .before .before .args .made) (c .before .before .before .args .frame)) (c .before .op6 .given .1))
 
+returns-9 : tie.Need-returns-9
+returns-9 c = sym (ap (λ (o : Op). opNumbers o (c .before .before .before .args .made) (c .before .before .before .args .frame)) (c .before .op7 .given .1))
+
+returns-10 : tie.Need-returns-10
+returns-10 c = sym (ap (λ (o : Op). opNumbers o (c .before .before .args .made) (c .before .before .args .frame)) (c .enum-told3 .given .1))
+
 pub op-numbers-spec : {M : Type 1} → statement M
 op-numbers-spec =
     tie.close
     (tie.spec
+    (λ c. search needs)
+    (λ c. search needs)
     (λ c. search needs)
     (λ c. search needs)
     (λ c. search needs)
@@ -45,4 +53,6 @@ op-numbers-spec =
     returns-5
     returns-6
     returns-7
-    returns-8)
+    returns-8
+    returns-9
+    returns-10)

@@ -35,6 +35,14 @@ returns-8 : tie.Need-returns-8
 unfolding blanked
 returns-8 c = rw (c .enum-told8 .given .1) (put-none (c .before .before .before .args .out .now) (c .before .before .before .args .at))
 
+returns-9 : tie.Need-returns-9
+unfolding blanked
+returns-9 c = rw (c .enum-told9 .given .1) (put-none (c .before .before .before .args .out .now) (c .before .before .before .args .at))
+
+returns-10 : tie.Need-returns-10
+unfolding blanked
+returns-10 c = rw (c .enum-told10 .given .1) (put-none (c .before .before .before .args .out .now) (c .before .before .before .args .at))
+
 pub put-finished-spec : {M : Type 1} → statement M
 put-finished-spec =
     tie.close
@@ -42,6 +50,8 @@ put-finished-spec =
     (λ c. search needs)
     (λ c. search needs)
     (λ c κs. search needs)
+    (λ c. search needs)
+    (λ c. search needs)
     (λ c. search needs)
     (λ c. search needs)
     (λ c. search needs)
@@ -56,4 +66,6 @@ put-finished-spec =
     returns-5
     returns-6
     returns-7
-    returns-8)
+    returns-8
+    returns-9
+    returns-10)

@@ -10,19 +10,19 @@ use Rattle.preparing.proofs.withdraw.Tie as tie
 
 refused-requires : tie.Need-refused-requires
 refused-requires c κs =
-    let a = c .before .before .before .before .before .before .before .before .before .before .before .before .before .args in
+    let a = c .before .before .before .before .before .before .before .before .before .before .before .before .before .before .args in
     rw (c .before .ask-row .ensures) (ask-known (a .st) (length (a .image .now)) (Confirm (a .writer)))
 
 returns : tie.Need-returns
 unfolding withdrawOf
 returns c =
-    let s = c .before .before .before .before .before .before .before .before .before .before .before .before .before .before in
+    let s = c .before .before .before .before .before .before .before .before .before .before .before .before .before .before .before in
     refused-by (c .refused .result) (confirmCallRows (s .args .st) (s .args .image .now) (s .args .writer)) _ 0 (s .args .st) (unprepared (s .args .st)) (c .before .before .ask-row .ensures) (c .before .if1 .taken) (c .refused .ensures)
 
 returns-2 : tie.Need-returns-2
 unfolding withdrawOf
 returns-2 c =
-    let s = c .before .before .before .before .before .before .before .before .before .before .before .before .before .before .before in
+    let s = c .before .before .before .before .before .before .before .before .before .before .before .before .before .before .before .before in
     taken-by (c .taken .result) (confirmCallRows (s .args .st) (s .args .image .now) (s .args .writer)) _ 0 (s .args .st) (unprepared (s .args .st)) (c .before .before .before .ask-row .ensures) (c .before .before .if1 .left) (c .taken .ensures)
 
 pub withdraw-spec : {M : Type 1} → statement M

@@ -4,10 +4,10 @@ use Rattle.reasons_shown.proofs.main.Statement.{statement}
 use Rattle.reasons_shown.proofs.main.Tie as tie
 
 abbrev Inv-loop : tie.InvT-loop
-Inv-loop call₀ call = call ≤ 19
+Inv-loop call₀ call = call ≤ 20
 
 abbrev μ-loop : tie.MeasureT-loop
-μ-loop call₀ call = 19 - call
+μ-loop call₀ call = 20 - call
 
 pub main-spec : {M : Type 1} → statement M
 main-spec =

@@ -10,6 +10,7 @@ use Rattle.bounded.proofs.Rows.{row-at, row-none}
 use Rattle.bounded.proofs.Tests.{held}
 use Rattle.state.specs.declared.State.{State}
 use Rattle.state.specs.Parts.{stateOf}
+use Rattle.state.specs.Wide.{wideOf}
 use Rattle.refinement.proofs.Going.{ranges-of}
 use Rattle.rows.specs.First.{firstRows}
 use Rattle.rows.proofs.first_row.Statement.{statement}
@@ -18,7 +19,7 @@ use Rattle.rows.proofs.first_row.Tie as tie
 abbrev st : tie.Start → State
 st c =
     let a = c .args in
-    stateOf (a .z) (a .head) (a .tail) (a .next) (a .page .now) (a .original .now) (a .spare .now) (a .bitmap .now) (a .last .now) (a .opened .now) (a .held .now) (a .prepared) (a .pending)
+    stateOf (a .z) (a .head) (a .tail) (a .next) (a .page .now) (a .original .now) (a .spare .now) (a .bitmap .now) (a .last .now) (a .opened .now) (a .held .now) (a .prepared) (wideOf (a .wide) (a .count) (a .keys .now)) (a .pending)
 
 abbrev rows : tie.Start → List Row
 rows c = firstRows (c .args .busy) (st c) (c .args .n)

@@ -6,6 +6,7 @@ use borrow.Author.Needs.{needs}
 use Rattle.state.specs.declared.State.{State}
 use Rattle.state.specs.declared.Pending.{Pending}
 use Rattle.state.specs.Parts.{stateOf}
+use Rattle.state.specs.Wide.{wideOf}
 use Rattle.refinement.specs.Frames.{pageFrame}
 use Rattle.refinement.specs.Calls.{writeCallRows, changesNothing}
 use Rattle.refinement.proofs.SeenFrames.{seen-low}
@@ -29,7 +30,7 @@ found : (c : tie.After-write-found) → let a = c .before .before .before .befor
 found c =
     let a = c .before .before .before .before .before .before .before .before .before .before .before .before .args in
     subst
-    (λ (q : Pending). WriteFound (stateOf (a .z) (a .at .head) (a .at .tail) (a .at .next) (a .page .now) (a .original .now) (a .spare .now) (a .bitmap .now) (a .last .now) (a .opened .now) (a .held .now) (a .at .prepared) q) (a .image .now) (a .writer) (a .p) (a .line) (a .offset) (a .length) (a .«data» .now) (c .write-found .result))
+    (λ (q : Pending). WriteFound (stateOf (a .z) (a .at .head) (a .at .tail) (a .at .next) (a .page .now) (a .original .now) (a .spare .now) (a .bitmap .now) (a .last .now) (a .opened .now) (a .held .now) (a .at .prepared) (wideOf (a .at .wide) (a .at .count) (a .keys .now)) q) (a .image .now) (a .writer) (a .p) (a .line) (a .offset) (a .length) (a .«data» .now) (c .write-found .result))
     (c .before .before .before .before .before .before .before .before .before .no-pending .ensures) (c .write-found .ensures)
 
 returns : tie.Need-returns

@@ -1,42 +1,51 @@
 use mathlib.Core.Path.{sym, _∙_}
 use native.Mathlib.Omega.{arith}
+use borrow.Author.Tests.{eq-eqb, ne-eqb}
 use borrow.Author.Needs.{needs}
+use Rattle.state.specs.Wide.{dropped}
 use Rattle.state.specs.declared.State.{State}
 use Rattle.refinement.specs.Commit.{closedWriter}
 use Rattle.refinement.proofs.Going.{ranges-of}
 use Rattle.refinement.proofs.Begun.{AbortTaken, abort-taken}
 use Rattle.answers.proofs.Answered.{row-known, refused-by, taken-by}
-use Rattle.refinement.specs.Calls.{abortRows, abortOf, withWriters}
+use Rattle.refinement.specs.Calls.{abortRows, abortOf, withWriters, withWide}
 use Rattle.writers.proofs.abort.Statement.{statement}
 use Rattle.writers.proofs.abort.Tie as tie
 
 abbrev after : tie.Start → State
-after s = withWriters (s .args .st) (closedWriter (s .args .st .sizes) (s .args .st .writers) (s .args .writer))
+after s = withWide (withWriters (s .args .st) (closedWriter (s .args .st .sizes) (s .args .st .writers) (s .args .writer))) (dropped (s .args .st .wide) (s .args .writer))
 
-taken1 : (c : tie.Else1) → let a = c .before .before .before .before .before .before .before .before .before .before .before .before .args in AbortTaken (a .st) (a .writer)
-taken1 c = let a = c .before .before .before .before .before .before .before .before .before .before .before .before .args in abort-taken (a .st) (a .writer) (sym (c .before .writer-row .ensures) ∙ c .if1 .left)
+taken1 : (c : tie.Else1) → let a = c .before .before .before .before .before .before .before .before .before .before .before .before .before .args in AbortTaken (a .st) (a .writer)
+taken1 c = let a = c .before .before .before .before .before .before .before .before .before .before .before .before .before .args in abort-taken (a .st) (a .writer) (sym (c .before .writer-row .ensures) ∙ c .if1 .left)
 
 refused-requires : tie.Need-refused-requires
-refused-requires c κs = let a = c .before .before .before .before .before .before .before .before .before .before .before .before .args in rw (c .before .writer-row .ensures) (row-known (abortRows (a .st) (a .writer)) (omega arith))
+refused-requires c κs = let a = c .before .before .before .before .before .before .before .before .before .before .before .before .before .args in rw (c .before .writer-row .ensures) (row-known (abortRows (a .st) (a .writer)) (omega arith))
 
 returns : tie.Need-returns
 unfolding abortOf
 returns c =
-    let s = c .before .before .before .before .before .before .before .before .before .before .before .before .before in
+    let s = c .before .before .before .before .before .before .before .before .before .before .before .before .before .before in
     refused-by (c .refused .result) (abortRows (s .args .st) (s .args .writer)) _ 0 (s .args .st) (after s) (c .before .before .writer-row .ensures) (c .before .if1 .taken) (c .refused .ensures)
 
 set-open-requires : tie.Need-set-open-requires
 set-open-requires c κs = taken1 (c .before) .writer-low
 
 let-go-requires : tie.Need-let-go-requires
-let-go-requires c κs = let t = taken1 (c .before .before .before .before) in (ranges-of (c .before .before .before .before .before .before .before .before .before .before .before .before .before .before .before .before .args .st) (t .is-valid) .legal, t .writer-low)
+let-go-requires c κs = let t = taken1 (c .before .before .before .before) in (ranges-of (c .before .before .before .before .before .before .before .before .before .before .before .before .before .before .before .before .before .args .st) (t .is-valid) .legal, t .writer-low)
 
 returns-2 : tie.Need-returns-2
 unfolding abortOf closedWriter
 returns-2 c =
-    let s = c .before .before .before .before .before .before .before .before .before .before .before .before .before .before .before .before .before .before in
-    taken-by (c .taken .result) (abortRows (s .args .st) (s .args .writer)) _ 0 (s .args .st) (after s) (c .before .before .before .before .before .before .before .writer-row .ensures) (c .before .before .before .before .before .before .if1 .left)
-    (rw (c .before .let-go .ensures, c .before .before .before .before .set-open .ensures) at (c .taken .ensures))
+    let s = c .before .before .before .before .before .before .before .before .before .before .before .before .before .before .before .before .before .before .before .before in
+    taken-by (c .taken .result) (abortRows (s .args .st) (s .args .writer)) _ 0 (s .args .st) (after s) (c .before .before .before .before .before .before .before .before .writer-row .ensures) (c .before .before .before .before .before .before .before .if1 .left)
+    (rw (ne-eqb (s .args .st .wide .writer) (s .args .writer) (c .before .if2 .taken)) (rw (c .before .before .let-go .ensures, c .before .before .before .before .before .set-open .ensures) at (c .taken .ensures)))
+
+returns-3 : tie.Need-returns-3
+unfolding abortOf closedWriter
+returns-3 c =
+    let s = c .before .before .before .before .before .before .before .before .before .before .before .before .before .before .before .before .before .before .before .before .before in
+    taken-by (c .taken2 .result) (abortRows (s .args .st) (s .args .writer)) _ 0 (s .args .st) (after s) (c .before .before .before .before .before .before .before .before .before .writer-row .ensures) (c .before .before .before .before .before .before .before .before .if1 .left)
+    (rw (eq-eqb (s .args .st .wide .writer) (s .args .writer) (c .before .before .if2 .left)) (rw (c .before .before .before .let-go .ensures, c .before .before .before .before .before .before .set-open .ensures, c .before .begun-wide .ensures) at (c .taken2 .ensures)))
 
 pub abort-spec : {M : Type 1} → statement M
 abort-spec =
@@ -48,4 +57,7 @@ abort-spec =
     set-open-requires
     let-go-requires
     (λ c κs. search needs)
-    returns-2)
+    returns-2
+    (λ c κs. search needs)
+    (λ c κs. search needs)
+    returns-3)

@@ -8,21 +8,21 @@ use Rattle.writers.proofs.begin.Statement.{statement}
 use Rattle.writers.proofs.begin.Tie as tie
 
 refused-requires : tie.Need-refused-requires
-refused-requires c κs = let a = c .before .before .before .before .before .before .before .before .before .before .before .before .args in rw (c .before .writer-row .ensures) (row-known (beginRows (a .st) (a .writer)) (omega arith))
+refused-requires c κs = let a = c .before .before .before .before .before .before .before .before .before .before .before .before .before .args in rw (c .before .writer-row .ensures) (row-known (beginRows (a .st) (a .writer)) (omega arith))
 
 returns : tie.Need-returns
 unfolding beginOf
 returns c =
-    let a = c .before .before .before .before .before .before .before .before .before .before .before .before .before .args in
+    let a = c .before .before .before .before .before .before .before .before .before .before .before .before .before .before .args in
     refused-by (c .refused .result) (beginRows (a .st) (a .writer)) _ 0 (a .st) (withWriters (a .st) (opening (a .st) (a .writer))) (c .before .before .writer-row .ensures) (c .before .if1 .taken) (c .refused .ensures)
 
 set-open-requires : tie.Need-set-open-requires
-set-open-requires c κs = let a = c .before .before .before .before .before .before .before .before .before .before .before .before .before .args in begin-taken (a .st) (a .writer) (sym (c .before .before .writer-row .ensures) ∙ c .before .if1 .left) .writer-low
+set-open-requires c κs = let a = c .before .before .before .before .before .before .before .before .before .before .before .before .before .before .args in begin-taken (a .st) (a .writer) (sym (c .before .before .writer-row .ensures) ∙ c .before .if1 .left) .writer-low
 
 returns-2 : tie.Need-returns-2
 unfolding beginOf
 returns-2 c =
-    let a = c .before .before .before .before .before .before .before .before .before .before .before .before .before .before .before .args in
+    let a = c .before .before .before .before .before .before .before .before .before .before .before .before .before .before .before .before .args in
     taken-by (c .taken .result) (beginRows (a .st) (a .writer)) _ 0 (a .st) (withWriters (a .st) (opening (a .st) (a .writer))) (c .before .before .before .before .writer-row .ensures) (c .before .before .before .if1 .left)
     (rw (c .before .set-open .ensures) at (c .taken .ensures))
 

@@ -8,6 +8,7 @@ use Rattle.bounded.specs.Rows.{refusal}
 use Rattle.state.specs.declared.State.{State}
 use Rattle.state.specs.declared.Pending.{Pending}
 use Rattle.state.specs.Parts.{stateOf}
+use Rattle.state.specs.Wide.{wideOf}
 use Rattle.refinement.specs.Commit.{closedWriter}
 use Rattle.refinement.specs.Calls.{abortRows, abortOf, withWriters}
 use Rattle.refinement.proofs.Begun.{AbortTaken, abort-taken}
@@ -28,7 +29,7 @@ st c =
 row : (c : tie.After-writer-row) → let s = c .before .before .before .before in c .writer-row .result ≡ refusal (abortRows (st s) (s .args .writer))
 row c =
     let a = c .before .before .before .before .args in
-    subst (λ (q : Pending). c .writer-row .result ≡ refusal (writerRows true (stateOf (a .z) (a .at .head) (a .at .tail) (a .at .next) (a .page .now) (a .original .now) (a .spare .now) (a .bitmap .now) (a .last .now) (a .opened .now) (a .held .now) (a .at .prepared) q) (a .writer)))
+    subst (λ (q : Pending). c .writer-row .result ≡ refusal (writerRows true (stateOf (a .z) (a .at .head) (a .at .tail) (a .at .next) (a .page .now) (a .original .now) (a .spare .now) (a .bitmap .now) (a .last .now) (a .opened .now) (a .held .now) (a .at .prepared) (wideOf (a .at .wide) (a .at .count) (a .keys .now)) q) (a .writer)))
     (c .before .before .before .no-pending .ensures) (c .writer-row .ensures)
 
 abbrev after : tie.Start → State

@@ -42,5 +42,8 @@ fn pending(state: &State) -> Vec<u64> {
         Operation::Event(e) => vec![5, e.asked.kind, e.asked.meter, e.asked.amount, 0, 0, made, e.frame],
         Operation::Prepare { writer } => vec![6, *writer, 0, 0, 0, 0, made, 0],
         Operation::Confirm { writer } => vec![7, *writer, 0, 0, 0, 0, made, 0],
+        Operation::Log(log) => vec![8, log.page, log.line, log.offset, log.length, 0, made, log.frame],
+        // only a mount leaves one
+        Operation::Copy => vec![9, 0, 0, 0, 0, 0, made, 0],
     }
 }

@@ -6,10 +6,10 @@ use Rattle.reasons_shown.proofs.met.show_met.Statement.{statement}
 use Rattle.reasons_shown.proofs.met.show_met.Tie as tie
 
 abbrev Inv-loop : tie.InvT-loop
-Inv-loop image₀ st₀ k₀ image st k = (k ≤ 41) × (length image ≡ 12480)
+Inv-loop image₀ st₀ k₀ image st k = (k ≤ 55) × (length image ≡ 12552)
 
 abbrev μ-loop : tie.MeasureT-loop
-μ-loop image₀ st₀ k₀ image st k = 41 - k
+μ-loop image₀ st₀ k₀ image st k = 55 - k
 
 pub show-met-spec : {M : Type 1} → statement M
 show-met-spec =

@@ -4,10 +4,12 @@ use native.Mathlib.Omega.{arith}
 use lib.ListN.{length}
 use Rattle.state.specs.declared.State.{State}
 use Rattle.state.specs.Parts.{stateOf}
+use Rattle.state.specs.Wide.{wideOf}
 use Rattle.operations.specs.Operations.{needs as storesNeeded}
 use Rattle.operations.proofs.Taken.{op-asked}
 use Rattle.refinement.proofs.Going.{Going, going}
 use Rattle.refinement.proofs.Quiet.{Busy, busy}
+use Rattle.wide_stores.proofs.WideGoing.{entries-of}
 use Rattle.stores.proofs.LeftMade.{left-refused, left-made}
 use borrow.Author.Needs.{needs}
 use Rattle.stores.proofs.making.make_left.Statement.{statement}
@@ -16,7 +18,7 @@ use Rattle.stores.proofs.making.make_left.Tie as tie
 abbrev st : tie.Start → State
 st c =
     let a = c .args in
-    stateOf (a .z) (a .head) (a .tail) (a .next) (a .page .now) (a .original .now) (a .spare .now) (a .bitmap .now) (a .last .now) (a .opened .now) (a .held .now) (a .prepared) (a .pending)
+    stateOf (a .z) (a .head) (a .tail) (a .next) (a .page .now) (a .original .now) (a .spare .now) (a .bitmap .now) (a .last .now) (a .opened .now) (a .held .now) (a .prepared) (wideOf (a .wide) (a .count) (a .keys .now)) (a .pending)
 
 -- no row applies: something is pending
 busy1 : (c : tie.Else1) → Busy (st (c .before .before .before)) (length (c .before .before .before .args .image .now))
@@ -32,7 +34,7 @@ returns c = let s = c .before .before .before in
 op-needs-requires : tie.Need-op-needs-requires
 op-needs-requires c κs = let s = c .before .before .before in
     let g = going1 (c) in
-    (g .ranges .legal, op-asked (st s) (s .args .pending .op) (s .args .pending .frame) (g .taken))
+    (g .ranges .legal, omega (arith, entries-of (st s) (busy1 c .ok) .few, g .ranges .legal .entries-high), op-asked (st s) (s .args .pending .op) (s .args .pending .frame) (g .taken))
 
 sub-left : tie.Need-sub-left
 unfolding storesNeeded
@@ -43,9 +45,9 @@ unfolding storesNeeded
 make-stores-requires c κs = let b = busy1 (c .before .before .before .before) in
     (b .ok, b .pends, omega (arith, c .before .smaller .ensures, c .before .before .before .op-needs .ensures), b .long, c .before .before .before .before .before .before .before .pre)
 
-add-t21 : tie.Need-add-t21
+add-t24 : tie.Need-add-t24
 unfolding storesNeeded
-add-t21 c = omega (arith, going1 (c .before .before .before .before .before .before .before .before) .made-low, c .before .before .before .before .before .before .before .op-needs .ensures, c .before .before .before .before .before .before .before .op-needs .ok, c .before .before .before .before .before .smaller .ensures)
+add-t24 c = omega (arith, going1 (c .before .before .before .before .before .before .before .before) .made-low, c .before .before .before .before .before .before .before .op-needs .ensures, c .before .before .before .before .before .before .before .op-needs .ok, c .before .before .before .before .before .smaller .ensures)
 
 returns-2 : tie.Need-returns-2
 unfolding storesNeeded
@@ -62,6 +64,6 @@ make-left-spec =
     sub-left
     (λ c κs. search needs)
     make-stores-requires
-    add-t21
+    add-t24
     (λ c. search needs)
     returns-2)

@@ -2,12 +2,15 @@ use mathlib.Core.Path.{ap, _∙_}
 use Rattle.bounded.proofs.Tests.{contradicts}
 use Rattle.state.specs.declared.State.{State}
 use Rattle.state.specs.Parts.{stateOf}
+use Rattle.state.specs.Wide.{wideOf}
 use Rattle.operations.specs.Operations.{isIdle}
 use Rattle.refinement.proofs.Going.{going, write-of, commit-of, prepare-of, confirm-of, consolidate-of, write-left, commit-left, prepare-left, confirm-left, consolidate-left, checkpoint-left, event-left, stores-of}
 use Rattle.writes.proofs.WriteMade.{write-stores-of}
 use Rattle.commits.proofs.CommitMade.{commit-stores-of}
 use Rattle.consolidations.proofs.ConsolidateMade.{consolidate-stores-of}
 use Rattle.event_stores.specs.Lines.{eventStores}
+use Rattle.wide_stores.proofs.WideMade.{copy-stores-of}
+use Rattle.wide_stores.proofs.WideGoing.{entries-of, entry-room, log-of, log-left, copy-left}
 use native.Mathlib.Omega.{arith}
 use borrow.Author.Needs.{needs}
 use Rattle.stores.proofs.making.make_stores.Statement.{statement}
@@ -16,7 +19,7 @@ use Rattle.stores.proofs.making.make_stores.Tie as tie
 abbrev st : tie.Start → State
 st c =
     let a = c .args in
-    stateOf (a .z) (a .head) (a .tail) (a .next) (a .page .now) (a .original .now) (a .spare .now) (a .bitmap .now) (a .last .now) (a .opened .now) (a .held .now) (a .prepared) (a .t14)
+    stateOf (a .z) (a .head) (a .tail) (a .next) (a .page .now) (a .original .now) (a .spare .now) (a .bitmap .now) (a .last .now) (a .opened .now) (a .held .now) (a .prepared) (wideOf (a .wide) (a .count) (a .keys .now)) (a .t17)
 
 make-write-stores-requires : tie.Need-make-write-stores-requires
 make-write-stores-requires c κs = let s = c .before .before .before .before .before .before .before in
@@ -98,6 +101,28 @@ returns-8 : tie.Need-returns-8
 returns-8 c = let s = c .before .before .before .before .before .before .before .before in
     stores-of (st s) (s .args .n) (s .args .image .now) _ (c .before .before .before .before .before .op6 .given .1) (c .before .before .make-confirm-stores .ensures)
 
+make-log-stores-requires : tie.Need-make-log-stores-requires
+make-log-stores-requires c κs = let s = c .before .before .before .before .before .before .before in
+    let g = going (st s) (s .pre .0) (s .pre .1) in
+    let e = c .before .before .before .before .op7 .given .1 in
+    let t = log-of (st s) (g .taken) e in
+    let few = entries-of (st s) (s .pre .0) .few in
+    (g .ranges .legal, omega (arith, few, g .ranges .legal .entries-high), entry-room (s .args .z) (st s .wide) _ _ few (t .room), t .args .page-low, t .args .line-low, log-left (st s) g (s .args .n) (s .pre .2) e, s .pre .3)
+
+returns-9 : tie.Need-returns-9
+returns-9 c = let s = c .before .before .before .before .before .before .before .before .before .before in
+    stores-of (st s) (s .args .n) (s .args .image .now) _ (c .before .before .before .before .before .before .before .op7 .given .1) (c .before .before .make-log-stores .ensures)
+
+make-copy-stores-requires : tie.Need-make-copy-stores-requires
+make-copy-stores-requires c κs = let s = c .before .before .before .before in
+    let g = going (st s) (s .pre .0) (s .pre .1) in
+    let r = entries-of (st s) (s .pre .0) in
+    (g .ranges .legal, r .few, r .page-low, copy-left (st s) g (s .args .n) (s .pre .2) (c .before .enum-told3 .given .1), s .pre .3)
+
+returns-10 : tie.Need-returns-10
+returns-10 c = let s = c .before .before .before .before .before .before .before in
+    stores-of (st s) (s .args .n) (s .args .image .now) _ (c .before .before .before .before .enum-told3 .given .1) (c .before .before .make-copy-stores .ensures ∙ copy-stores-of (st s) _ (s .args .n) (s .args .image .now))
+
 pub make-stores-spec : {M : Type 1} → statement M
 make-stores-spec =
     tie.close
@@ -117,6 +142,10 @@ make-stores-spec =
     make-commit-stores-requires-2
     (λ c. search needs)
     make-confirm-stores-requires
+    (λ c. search needs)
+    make-log-stores-requires
+    (λ c. search needs)
+    make-copy-stores-requires
     returns
     (λ c. search needs)
     returns-2
@@ -131,4 +160,8 @@ make-stores-spec =
     (λ c. search needs)
     returns-7
     (λ c. search needs)
-    returns-8)
+    returns-8
+    (λ c. search needs)
+    returns-9
+    (λ c. search needs)
+    returns-10)

@@ -1,0 +1,62 @@
+-- What the code found is what the definitions call for, of a narrow writer and of the wide one. r is what it found.
+use Prim.Native.Nat.{ℕ, _<_, _≤_}
+use mathlib.Core.Bool.{Bool, true, false, _&&_, cond}
+use mathlib.Core.List.{List, [], _∷_, _++_}
+use mathlib.Core.Path.{_≡_, refl, sym, ap, _∙_}
+use lib.Dec.{ltb}
+use lib.ListN.{length}
+use borrow.Author.Tests.{eq-eqb, lt-ltb, le-ltb}
+use Rattle.bounded.specs.Rows.{Past}
+use Rattle.bounded.proofs.Tests.{caseOn}
+use Rattle.layout.specs.declared.Sizes.{Sizes}
+use Rattle.entries.specs.Entries.{keyOf, entryOf}
+use Rattle.state.specs.declared.State.{State}
+use Rattle.state.specs.declared.Wide.{Wide}
+use Rattle.state.specs.Wide.{isWide, entryFor, hasEntry}
+use Rattle.operations.specs.Operations.{writeRows, logRows}
+use Rattle.refinement.specs.Frames.{pageFrame, seenFrame}
+use Rattle.refinement.specs.Calls.{quietRows, seenLine}
+use Rattle.answers.proofs.Answered.{rows-then}
+use Rattle.finding.specs.declared.Found.{Found}
+use Rattle.finding.specs.Finding.{FramesFound, EntryFound, WriteFound, asEntry, foundLine}
+
+pub back-row : (r : Found) (row : ℕ) → _≡_ {A = Found} r (record { row = row; frame = 0; seen = 0; held = false; wide = false }) → r .row ≡ row
+back-row r row e = ap (λ (x : Found). x .row) e
+
+-- by whether the line has an entry; e is the one that the code found
+module _ (d : Wide) (p l e x : ℕ) (h : e ≡ entryOf (d .keys) (d .count) (keyOf p l)) where
+  pub has-entry : e < d .count → (e ≡ cond (hasEntry d p l) (entryFor d p l) x) × (true ≡ hasEntry d p l)
+  has-entry m = rw (← h, lt-ltb e (d .count) m) (refl, refl)
+
+  pub has-none : d .count ≤ e → (x ≡ cond (hasEntry d p l) (entryFor d p l) x) × (false ≡ hasEntry d p l)
+  has-none m = rw (← h, le-ltb e (d .count) m) (refl, refl)
+
+-- of a state, no row before those of the operation applying
+module _ (st : State) (img : List ℕ) (p l o n : ℕ) (bytes : List ℕ) (r : Found) (past : Past (quietRows st (length img) ++ ((ltb (length bytes) n, 11) ∷ [])) 4) where
+  pub wide-found : EntryFound (st .sizes) (st .table .page) (st .table .original) (st .table .spare) (st .table .bitmap) (st .writers .opened) (st .writers .held) (st .wide) img p l o n r
+      → WriteFound st img (st .wide .writer) p l o n bytes r
+  unfolding pageFrame seenFrame
+  wide-found f =
+      let b : isWide (st .wide) (st .wide .writer) ≡ true = eq-eqb (st .wide .writer) (st .wide .writer) refl in (
+        rows-then (quietRows st (length img) ++ ((ltb (length bytes) n, 11) ∷ [])) (cond (isWide (st .wide) (st .wide .writer)) (logRows st p l o n (pageFrame st img p)) (writeRows st (st .wide .writer) p l o n (pageFrame st img p))) (r .row) past (rw b (f .0)),
+        λ z. let g = f .1 z in (g .0, rw (b, g .0) (g .1), rw b (g .2), g .3 ∙ sym b),
+      )
+
+  pub narrow-found : (w : ℕ) → isWide (st .wide) w ≡ false
+      → FramesFound (st .sizes) (st .next) (st .table .page) (st .table .original) (st .table .spare) (st .table .bitmap) (st .writers .opened) (st .writers .held) (st .writers .prepared) img w p l o n r
+      → WriteFound st img w p l o n bytes r
+  unfolding pageFrame seenFrame
+  narrow-found w b f = (
+        rows-then (quietRows st (length img) ++ ((ltb (length bytes) n, 11) ∷ [])) (cond (isWide (st .wide) w) (logRows st p l o n (pageFrame st img p)) (writeRows st w p l o n (pageFrame st img p))) (r .row) past (rw b (f .0)),
+        λ z. let g = f .1 z in (g .0, rw (b, g .0) (g .1), rw b (g .2), g .3 ∙ sym b),
+      )
+
+-- the line that was found is the one that the writer sees
+pub found-seen : (st : State) (img : List ℕ) (w p l o n : ℕ) (bytes : List ℕ) (r : Found) → WriteFound st img w p l o n bytes r → r .row ≡ 0
+    → (asEntry r ≡ isWide (st .wide) w && hasEntry (st .wide) p l) × (foundLine img (st .sizes) r l ≡ seenLine st img w p l)
+found-seen st img w p l o n bytes r f z =
+    let g = f .1 z in
+    let own : Bool = isWide (st .wide) w && hasEntry (st .wide) p l in
+    let a : asEntry r ≡ own =
+    caseOn (isWide (st .wide) w) (λ t. rw (g .2, g .3, t)) (λ t. rw (g .3, t)) in
+    (a, caseOn own (λ t. rw (a, g .1, t)) (λ t. rw (a, g .1, t, g .0)))

@@ -1,0 +1,3 @@
+pub mod NoWriter
+pub mod WideMade
+pub mod WideGoing

@@ -1,0 +1,62 @@
+-- The tests stand in the table's order.
+use mathlib.Core.Bool.{not}
+use mathlib.Core.List.{List}
+use mathlib.Core.Path.{sym, ap, _∙_}
+use native.Mathlib.Omega.{arith}
+use borrow.Author.Tests.{eq-eqb, ne-eqb, lt-ltb, le-ltb}
+use borrow.Author.Needs.{needs}
+use Rattle.bounded.specs.Rows.{Row, Past}
+use Rattle.bounded.proofs.Rows.{row-at, row-none}
+use Rattle.state.specs.Parts.{stateOf}
+use Rattle.state.specs.Wide.{wideOf}
+use Rattle.refinement.specs.Calls.{beginWideRows}
+use Rattle.writers.proofs.wide_row.Statement.{statement}
+use Rattle.writers.proofs.wide_row.Tie as tie
+
+abbrev rows : tie.Start → List Row
+rows c =
+    let a = c .args in
+    beginWideRows (stateOf (a .z) (a .head) (a .tail) (a .next) (a .page .now) (a .original .now) (a .spare .now) (a .bitmap .now) (a .last .now) (a .opened .now) (a .held .now) (a .prepared) (wideOf (a .wide) (a .count) (a .keys .now)) (a .pending)) (a .writer)
+
+past2 : (c : tie.Else2) → Past (rows (c .before .before .before .before)) 2
+past2 c = (sym (ap not (c .before .before .before .state-ok .ensures)) ∙ c .before .before .if1 .left, (sym (ap not (c .before .is-idle .ensures)) ∙ c .if2 .left, tt))
+
+past3 : (c : tie.Else3) → Past (rows (c .before .before .before .before .before)) 3
+past3 c = let p = past2 (c .before) in (p .0, (p .1 .0, (le-ltb _ _ (c .if3 .left), tt)))
+
+past4 : (c : tie.Else4) → Past (rows (c .before .before .before .before .before .before .before)) 4
+past4 c = let p = past3 (c .before .before) in (p .0, (p .1 .0, (p .1 .1 .0, (ne-eqb _ _ (c .if4 .left), tt))))
+
+returns : tie.Need-returns
+returns c = row-at (rows (c .before .before)) 0 (omega arith) tt (sym (ap not (c .before .state-ok .ensures)) ∙ c .if1 .taken)
+
+returns-2 : tie.Need-returns-2
+returns-2 c = row-at (rows (c .before .before .before .before)) 1 (omega arith) (sym (ap not (c .before .before .before .state-ok .ensures)) ∙ c .before .before .if1 .left, tt) (sym (ap not (c .before .is-idle .ensures)) ∙ c .if2 .taken)
+
+returns-3 : tie.Need-returns-3
+returns-3 c = row-at (rows (c .before .before .before .before .before)) 2 (omega arith) (past2 (c .before)) (lt-ltb _ _ (c .if3 .taken))
+
+returns-4 : tie.Need-returns-4
+returns-4 c = row-at (rows (c .before .before .before .before .before .before .before)) 3 (omega arith) (past3 (c .before .before)) (eq-eqb _ _ (c .if4 .taken))
+
+returns-5 : tie.Need-returns-5
+returns-5 c = row-at (rows (c .before .before .before .before .before .before .before .before .before)) 4 (omega arith) (past4 (c .before .before)) (sym (c .before .some-open .ensures) ∙ c .if5 .taken)
+
+returns-6 : tie.Need-returns-6
+returns-6 c =
+    let p = past4 (c .before .before) in
+    row-none (rows (c .before .before .before .before .before .before .before .before .before)) (p .0, (p .1 .0, (p .1 .1 .0, (p .1 .1 .1 .0, (sym (c .before .some-open .ensures) ∙ c .if5 .left, tt)))))
+
+pub wide-row-spec : {M : Type 1} → statement M
+wide-row-spec =
+    tie.close
+    (tie.spec
+    (λ c κs. search needs)
+    returns
+    (λ c κs. search needs)
+    returns-2
+    returns-3
+    returns-4
+    (λ c κs. search needs)
+    returns-5
+    returns-6)
