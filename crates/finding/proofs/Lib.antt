@@ -1,1 +1,2 @@
 pub mod ShortData
+pub mod Whole

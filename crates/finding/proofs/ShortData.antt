@@ -1,16 +1,16 @@
 -- Row 11 of a write that the row's other tests come after.
 use Prim.Native.Nat.{ℕ}
 use mathlib.Core.Bool.{Bool, true, false, _||_}
-use mathlib.Core.List.{_∷_}
+use mathlib.Core.List.{List, _∷_}
 use mathlib.Core.Path.{_≡_, refl}
 use lib.Dec.{ltb, leb}
 use Rattle.bounded.specs.Rows.{refusal}
 use Rattle.bounded.proofs.Tests.{caseOn}
-use Rattle.state.specs.declared.State.{State}
-use Rattle.operations.specs.Operations.{writeRows}
+use Rattle.layout.specs.declared.Sizes.{Sizes}
+use Rattle.operations.specs.Operations.{writeRowsOf}
 
 -- row 11: short data, or a page past the last
-pub write-bad : (short : Bool) (st : State) (w p l o n f : ℕ) → short || leb (st .sizes .pages) p ≡ true
-    → 11 ≡ refusal ((short, 11) ∷ writeRows st w p l o n f)
-write-bad true st w p l o n f e = refl
-write-bad false st w p l o n f e = caseOn (ltb 3 w) (λ t. rw t) (λ t. rw (t, e))
+pub write-bad : (short : Bool) (z : Sizes) (next : ℕ) (page original spare : List ℕ) (opened : List Bool) (held : List ℕ) (prepared w p s l o n f : ℕ) → short || leb (z .pages) p ≡ true
+    → 11 ≡ refusal ((short, 11) ∷ writeRowsOf z next page original spare opened held prepared w p s l o n f)
+write-bad true z next page original spare opened held prepared w p s l o n f e = refl
+write-bad false z next page original spare opened held prepared w p s l o n f e = caseOn (ltb 3 w) (λ t. rw t) (λ t. rw (t, e))

@@ -8,7 +8,8 @@ ghost use Rattle.layout.specs.Layout.{Legal, imageLength};
 ghost use Rattle.masks.specs.Lines.{inMask};
 ghost use Rattle.state.specs.Held.{heldAt};
 ghost use Rattle.state.specs.Parts.{stateOf};
-ghost use Rattle.finding.specs.Finding.{FramesFound, WriteFound};
+ghost use Rattle.refinement.specs.Settled.{noPending};
+ghost use Rattle.finding.specs.Finding.{FramesFound, FoundAfter, WriteFound};
 use layout::Sizes;
 use state::Pending;
 
@@ -89,6 +90,64 @@ fn frames_found<'a>(
     }
 }
 
+// What is found after the rows that come first, row being what they gave: it, or row 11 for the data, or what the rows from 11 on find.
+fn found_after<'a>(
+    row: usize,
+    z: Sizes,
+    next: usize,
+    page: &'a [usize; 16],
+    original: &'a [usize; 16],
+    spare: &'a [usize; 16],
+    bitmap: &'a [u64; 16],
+    opened: &'a [bool; 4],
+    held: &'a [u64; 64],
+    prepared: usize,
+    image: &[u8],
+    writer: usize,
+    p: usize,
+    line: usize,
+    offset: usize,
+    length: usize,
+    data: &[u8],
+) -> Found
+    requires { ⌜ (row ≡ 0 → Legal z × (next < z .slots) × (imageLength z ≤ listLength (now image))) ⌝ }
+    ensures { λ r. ⌜ FoundAfter row z next (now (page .entry)) (now (original .entry)) (now (spare .entry)) (now (bitmap .entry)) (now (opened .entry)) (now (held .entry)) prepared (now (image .entry)) writer p line offset length (now («data» .entry)) r ⌝ }
+{
+    if row != 0 {
+        return Found {
+            row,
+            frame: 0,
+            seen: 0,
+            held: false,
+        };
+    }
+    if (data.len() < length) | (p >= z.pages) {
+        return Found {
+            row: 11,
+            frame: 0,
+            seen: 0,
+            held: false,
+        };
+    }
+    frames_found(
+        z,
+        next,
+        page,
+        original,
+        spare,
+        bitmap,
+        opened,
+        held,
+        prepared,
+        image,
+        writer,
+        p,
+        line,
+        offset,
+        length,
+    )
+}
+
 // All rows of a write.
 pub fn write_found<'a>(
     z: Sizes,
@@ -131,23 +190,8 @@ pub fn write_found<'a>(
         image.len(),
         false,
     );
-    if row != 0 {
-        return Found {
-            row,
-            frame: 0,
-            seen: 0,
-            held: false,
-        };
-    }
-    if (data.len() < length) | (p >= z.pages) {
-        return Found {
-            row: 11,
-            frame: 0,
-            seen: 0,
-            held: false,
-        };
-    }
-    frames_found(
+    found_after(
+        row,
         z,
         next,
         page,
@@ -163,5 +207,66 @@ pub fn write_found<'a>(
         line,
         offset,
         length,
+        data,
+    )
+}
+
+// The same where nothing is pending.
+pub fn quiet_found<'a>(
+    z: Sizes,
+    head: usize,
+    tail: usize,
+    next: usize,
+    page: &'a [usize; 16],
+    original: &'a [usize; 16],
+    spare: &'a [usize; 16],
+    bitmap: &'a [u64; 16],
+    last: &'a [usize; 16],
+    opened: &'a [bool; 4],
+    held: &'a [u64; 64],
+    prepared: usize,
+    image: &[u8],
+    writer: usize,
+    p: usize,
+    line: usize,
+    offset: usize,
+    length: usize,
+    data: &[u8],
+) -> Found
+    ensures { λ r. ⌜ WriteFound (stateOf z head tail next (now (page .entry)) (now (original .entry)) (now (spare .entry)) (now (bitmap .entry)) (now (last .entry)) (now (opened .entry)) (now (held .entry)) prepared noPending) (now (image .entry)) writer p line offset length (now («data» .entry)) r ⌝ }
+{
+    let row = rows::quiet_row(
+        z,
+        head,
+        tail,
+        next,
+        page,
+        original,
+        spare,
+        bitmap,
+        last,
+        opened,
+        held,
+        prepared,
+        image.len(),
+    );
+    found_after(
+        row,
+        z,
+        next,
+        page,
+        original,
+        spare,
+        bitmap,
+        opened,
+        held,
+        prepared,
+        image,
+        writer,
+        p,
+        line,
+        offset,
+        length,
+        data,
     )
 }

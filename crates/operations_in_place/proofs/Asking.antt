@@ -1,4 +1,4 @@
--- A commit, a consolidation or a checkpoint in place. row is the one that the code found, and needed the stores that it counted.
+-- An operation asked for in place. row is the one that the code found, and needed the stores that it counted.
 use Prim.Native.Nat.{ℕ, _≤_}
 use mathlib.Core.Bool.{true, false}
 use mathlib.Core.List.{List, _++_}
@@ -36,7 +36,7 @@ completed-pending st line (Event k m a) n i = absurd (event-needs st k m a n)
 completed-pending st line (Prepare w) n i = refl
 completed-pending st line (Confirm w) n i = refl
 
-abbrev zeros : List ℕ
+abbrev pub zeros : List ℕ
 zeros = replicate 8 0
 
 module _ (st : State) (img : List ℕ) (op : Op) (row : ℕ) (e : row ≡ refusal (quietRows st (length img) ++ opRows st op 0)) where

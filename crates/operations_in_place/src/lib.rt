@@ -1,9 +1,11 @@
 // A commit, a consolidation and a checkpoint on lent arrays, each run to its end.
 ghost use mathlib.Core.Path.{_≡_};
 ghost use mathlib.Core.Bool.{false};
+ghost use mathlib.Core.List.{_++_};
 ghost use lib.ListN.{length};
-ghost use Rattle.operations.specs.Operations.{isIdle};
-ghost use Rattle.refinement.specs.Calls.{commitOf, consolidateOf, checkpointOf};
+ghost use Rattle.bounded.specs.Rows.{refusal};
+ghost use Rattle.operations.specs.Operations.{isIdle, commitRowsOf};
+ghost use Rattle.refinement.specs.Calls.{quietRows, commitOf, consolidateOf, checkpointOf};
 ghost use Rattle.in_place.specs.Through.{Through, quietAt, wentTo, askedOf};
 use answers::Answer;
 use in_place::Went;
@@ -11,7 +13,7 @@ use layout::Sizes;
 use state::Op;
 use stores::Places;
 
-// Asks for a commit, a consolidation or a checkpoint, and runs it to its end.
+// Asks for a consolidation or a checkpoint, and runs it to its end.
 fn ask(
     image: &mut [u8],
     z: Sizes,
@@ -28,9 +30,8 @@ fn ask(
     requires { ⌜ isIdle op ≡ false ⌝ }
     ensures { λ r. ⌜ Through (wentTo z r (now (page .exit)) (now (original .exit)) (now (spare .exit)) (now (bitmap .exit)) (now (last .exit)) (now (opened .exit)) (now (held .exit))) (now (image .exit)) (askedOf (quietAt z at (now (page .entry)) (now (original .entry)) (now (spare .entry)) (now (bitmap .entry)) (now (last .entry)) (now (opened .entry)) (now (held .entry))) (length (now (image .entry))) op) (now (image .entry)) ⌝ }
 {
-    let idle = settled::no_pending();
     let n = image.len();
-    let row = asking::ask_row(
+    let row = asking::quiet_ask_row(
         z,
         at.head,
         at.tail,
@@ -43,7 +44,6 @@ fn ask(
         opened,
         held,
         at.prepared,
-        idle,
         op,
         n,
     );
@@ -94,7 +94,44 @@ fn ask(
     }
 }
 
-// Commits.
+// The first row that turns a commit back, of an image of n bytes.
+fn commit_row<'a>(
+    z: Sizes,
+    at: Places,
+    page: &'a [usize; 16],
+    original: &'a [usize; 16],
+    spare: &'a [usize; 16],
+    bitmap: &'a [u64; 16],
+    last: &'a [usize; 16],
+    opened: &'a [bool; 4],
+    held: &'a [u64; 64],
+    writer: usize,
+    n: usize,
+) -> usize
+    ensures { λ r. ⌜ r ≡ refusal (quietRows (quietAt z at (now (page .entry)) (now (original .entry)) (now (spare .entry)) (now (bitmap .entry)) (now (last .entry)) (now (opened .entry)) (now (held .entry))) n ++ commitRowsOf z (at .head) (at .tail) (now (opened .entry)) (now (held .entry)) (at .prepared) writer) ⌝ }
+{
+    let row = rows::quiet_row(
+        z,
+        at.head,
+        at.tail,
+        at.next,
+        page,
+        original,
+        spare,
+        bitmap,
+        last,
+        opened,
+        held,
+        at.prepared,
+        n,
+    );
+    if row != 0 {
+        return row;
+    }
+    operations::commit_row(z, at.head, at.tail, opened, held, at.prepared, writer)
+}
+
+// Commits: its stores and then what they leave, with no operation put together for them.
 pub fn commit(
     image: &mut [u8],
     z: Sizes,
@@ -110,9 +147,7 @@ pub fn commit(
 ) -> Went
     ensures { λ r. ⌜ Through (wentTo z r (now (page .exit)) (now (original .exit)) (now (spare .exit)) (now (bitmap .exit)) (now (last .exit)) (now (opened .exit)) (now (held .exit))) (now (image .exit)) (commitOf (quietAt z at (now (page .entry)) (now (original .entry)) (now (spare .entry)) (now (bitmap .entry)) (now (last .entry)) (now (opened .entry)) (now (held .entry))) (now (image .entry)) writer) (now (image .entry)) ⌝ }
 {
-    let op = Op::Commit { writer };
-    ask(
-        image,
+    let row = commit_row(
         z,
         at,
         page,
@@ -122,8 +157,39 @@ pub fn commit(
         last,
         opened,
         held,
-        op,
-    )
+        writer,
+        image.len(),
+    );
+    if row != 0 {
+        let answer = answers::answer_of(row, 0);
+        return Went { answer, to: at };
+    }
+    let n = state::held::held_count(z, held, writer);
+    let stores = needs::commit_needs(n);
+    commits::make_commit_stores(
+        image,
+        z,
+        at.head,
+        page,
+        original,
+        spare,
+        bitmap,
+        held,
+        writer,
+        0,
+        stores,
+    );
+    let head = commits::complete_commit(z, at.head, bitmap, last, opened, held, writer);
+    let to = Places {
+        head,
+        tail: at.tail,
+        next: at.next,
+        prepared: 4,
+    };
+    Went {
+        answer: Answer::Taken(stores),
+        to,
+    }
 }
 
 // Consolidates a page.

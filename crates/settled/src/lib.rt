@@ -34,17 +34,3 @@ pub fn put_mask(a: &mut [u64; 16], s: usize, v: u64)
 {
     a[s] = v;
 }
-
-// Puts all of an array of a table anew.
-pub fn put_all(a: &mut [usize; 16], v: [usize; 16])
-    ensures { λ _. ⌜ now (a .exit) ≡ v ⌝ }
-{
-    *a = v;
-}
-
-// The same of the bitmaps.
-pub fn put_masks(a: &mut [u64; 16], v: [u64; 16])
-    ensures { λ _. ⌜ now (a .exit) ≡ v ⌝ }
-{
-    *a = v;
-}

@@ -10,7 +10,7 @@ use Rattle.layout.specs.declared.Sizes.{Sizes}
 use Rattle.layout.specs.Layout.{sizesOk}
 use Rattle.replay.specs.declared.Table.{Table}
 use Rattle.journal.specs.Records.{liveCount, positionsOk}
-use Rattle.replay.specs.Table.{noPosition, slotsShaped, pagesApart}
+use Rattle.replay.specs.Table.{noPosition, slotsOfArrays, slotsShaped, pagesApart}
 use Rattle.state.specs.declared.State.{State}
 use Rattle.state.specs.Slots.{framesApart}
 use Rattle.state.specs.Held.{isOpen, somePrepared, heldSlots, heldOk}
@@ -59,3 +59,9 @@ stateOk st =
     && (ltb (st .next) (st .sizes .slots)
     && (lastsOk (st .sizes) (st .head) (st .tail) (st .table .last)
     && (preparedOk (st .sizes) (st .head) (st .tail) (st .writers .opened) (st .writers .held) (st .writers .prepared) && pendingOk st))))
+
+-- the rules that say nothing of what is pending, by the parts of a state: all that is left of row 8 where nothing is pending
+unfoldable pub quietOk : Sizes → ℕ → ℕ → ℕ → List ℕ → List ℕ → List ℕ → List ℕ → List ℕ → List Bool → List ℕ → ℕ → Bool
+quietOk z head tail next page original spare bitmap last opened held prepared =
+    slotsOk z head tail (slotsOfArrays page original spare bitmap)
+    && (heldOk z page opened held && (ltb next (z .slots) && (lastsOk z head tail last && preparedOk z head tail opened held prepared)))

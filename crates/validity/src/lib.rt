@@ -6,7 +6,7 @@ ghost use Rattle.journal.specs.Records.{liveCount};
 ghost use Rattle.replay.specs.Table.{slotsOfArrays};
 ghost use Rattle.state.specs.Parts.{stateOf};
 ghost use Rattle.operations.specs.Operations.{Ranged};
-ghost use Rattle.validity.specs.Validity.{slotsOk, isLiveOf, lastOkOf, lastsOk, preparedOk, pendingOk, stateOk};
+ghost use Rattle.validity.specs.Validity.{slotsOk, isLiveOf, lastOkOf, lastsOk, preparedOk, pendingOk, quietOk, stateOk};
 use layout::Sizes;
 use state::Pending;
 
@@ -145,6 +145,38 @@ fn pending_ok<'a>(
     pending.made < needs::op_needs(z, head, tail, page, bitmap, last, held, op)
 }
 
+// Whether the state with these parts keeps every rule of row 8 that says nothing of what is pending.
+pub fn quiet_ok<'a>(
+    z: Sizes,
+    head: usize,
+    tail: usize,
+    next: usize,
+    page: &'a [usize; 16],
+    original: &'a [usize; 16],
+    spare: &'a [usize; 16],
+    bitmap: &'a [u64; 16],
+    last: &'a [usize; 16],
+    opened: &'a [bool; 4],
+    held: &'a [u64; 64],
+    prepared: usize,
+) -> bool
+    ensures { λ r. ⌜ r ≡ quietOk z head tail next (now (page .entry)) (now (original .entry)) (now (spare .entry)) (now (bitmap .entry)) (now (last .entry)) (now (opened .entry)) (now (held .entry)) prepared ⌝ }
+{
+    if !slots_ok(z, head, tail, page, original, spare, bitmap) {
+        return false;
+    }
+    if !state::held::held_ok(z, page, opened, held) {
+        return false;
+    }
+    if z.slots <= next {
+        return false;
+    }
+    if !lasts_ok(z, head, tail, last) {
+        return false;
+    }
+    prepared_ok(z, head, tail, opened, held, prepared)
+}
+
 // Whether the state with these parts keeps every rule of row 8.
 pub fn state_ok<'a>(
     z: Sizes,
@@ -163,19 +195,20 @@ pub fn state_ok<'a>(
 ) -> bool
     ensures { λ r. ⌜ r ≡ stateOk (stateOf z head tail next (now (page .entry)) (now (original .entry)) (now (spare .entry)) (now (bitmap .entry)) (now (last .entry)) (now (opened .entry)) (now (held .entry)) prepared pending) ⌝ }
 {
-    if !slots_ok(z, head, tail, page, original, spare, bitmap) {
-        return false;
-    }
-    if !state::held::held_ok(z, page, opened, held) {
-        return false;
-    }
-    if z.slots <= next {
-        return false;
-    }
-    if !lasts_ok(z, head, tail, last) {
-        return false;
-    }
-    if !prepared_ok(z, head, tail, opened, held, prepared) {
+    if !quiet_ok(
+        z,
+        head,
+        tail,
+        next,
+        page,
+        original,
+        spare,
+        bitmap,
+        last,
+        opened,
+        held,
+        prepared,
+    ) {
         return false;
     }
     pending_ok(

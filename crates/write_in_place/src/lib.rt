@@ -4,7 +4,6 @@ ghost use Rattle.in_place.specs.Through.{Through, quietAt, wentTo};
 use answers::Answer;
 use in_place::Went;
 use layout::Sizes;
-use state::Op;
 use stores::Places;
 
 // Writes the data's first length bytes. It makes no stores if the writer holds the line and no byte of it changes.
@@ -28,8 +27,7 @@ pub fn write(
 ) -> Went
     ensures { λ r. ⌜ Through (wentTo z r (now (page .exit)) (now (original .exit)) (now (spare .exit)) (now (bitmap .exit)) (now (last .exit)) (now (opened .exit)) (now (held .exit))) (now (image .exit)) (writeOf (quietAt z at (now (page .entry)) (now (original .entry)) (now (spare .entry)) (now (bitmap .entry)) (now (last .entry)) (now (opened .entry)) (now (held .entry))) (now (image .entry)) writer p line offset length (now («data» .entry))) (now (image .entry)) ⌝ }
 {
-    let idle = settled::no_pending();
-    let found = finding::write_found(
+    let found = finding::quiet_found(
         z,
         at.head,
         at.tail,
@@ -42,7 +40,6 @@ pub fn write(
         opened,
         held,
         at.prepared,
-        idle,
         image,
         writer,
         p,
@@ -61,28 +58,38 @@ pub fn write(
         return Went { answer, to: at };
     }
     let words = merged.words;
-    let op = Op::Write {
-        writer,
-        page: p,
-        line,
-        offset,
-        length,
-    };
-    let pending = asking::pending_from(op, words, [0; 8], found.frame);
-    let to = in_place::make_all(
+    writes::make_write_stores(
         image,
         z,
-        at,
         page,
         original,
         spare,
         bitmap,
-        last,
-        opened,
-        held,
-        pending,
+        &words,
+        at.next,
+        p,
+        line,
+        0,
         8,
     );
+    let next = writes::complete_write(
+        z,
+        at.next,
+        page,
+        original,
+        bitmap,
+        held,
+        found.frame,
+        writer,
+        p,
+        line,
+    );
+    let to = Places {
+        head: at.head,
+        tail: at.tail,
+        next,
+        prepared: at.prepared,
+    };
     Went {
         answer: Answer::Taken(8),
         to,

@@ -21,8 +21,7 @@ pub fn begin<'a>(
 ) -> Answer
     ensures { λ r. ⌜ answeredAt r (quietAt z at (now (page .entry)) (now (original .entry)) (now (spare .entry)) (now (bitmap .entry)) (now (last .entry)) (now (opened .exit)) (now (held .entry))) ≡ beginOf (quietAt z at (now (page .entry)) (now (original .entry)) (now (spare .entry)) (now (bitmap .entry)) (now (last .entry)) (now (opened .entry)) (now (held .entry))) writer ⌝ }
 {
-    let idle = settled::no_pending();
-    let row = writers::writer_row(
+    let ok = validity::quiet_ok(
         z,
         at.head,
         at.tail,
@@ -35,10 +34,8 @@ pub fn begin<'a>(
         opened,
         held,
         at.prepared,
-        idle,
-        writer,
-        false,
     );
+    let row = writers::writer_row(ok, true, opened, at.prepared, writer, false);
     if row != 0 {
         return answers::answer_of(row, 0);
     }
@@ -61,8 +58,7 @@ pub fn abort<'a>(
 ) -> Answer
     ensures { λ r. ⌜ answeredAt r (quietAt z at (now (page .entry)) (now (original .entry)) (now (spare .entry)) (now (bitmap .entry)) (now (last .entry)) (now (opened .exit)) (now (held .exit))) ≡ abortOf (quietAt z at (now (page .entry)) (now (original .entry)) (now (spare .entry)) (now (bitmap .entry)) (now (last .entry)) (now (opened .entry)) (now (held .entry))) writer ⌝ }
 {
-    let idle = settled::no_pending();
-    let row = writers::writer_row(
+    let ok = validity::quiet_ok(
         z,
         at.head,
         at.tail,
@@ -75,10 +71,8 @@ pub fn abort<'a>(
         opened,
         held,
         at.prepared,
-        idle,
-        writer,
-        true,
     );
+    let row = writers::writer_row(ok, true, opened, at.prepared, writer, true);
     if row != 0 {
         return answers::answer_of(row, 0);
     }

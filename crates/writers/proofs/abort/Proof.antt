@@ -1,6 +1,7 @@
-use mathlib.Core.Path.{sym, _∙_}
+use mathlib.Core.Path.{_≡_, sym, _∙_}
 use native.Mathlib.Omega.{arith}
 use borrow.Author.Needs.{needs}
+use Rattle.bounded.specs.Rows.{refusal}
 use Rattle.state.specs.declared.State.{State}
 use Rattle.refinement.specs.Commit.{closedWriter}
 use Rattle.refinement.proofs.Going.{ranges-of}
@@ -13,35 +14,43 @@ use Rattle.writers.proofs.abort.Tie as tie
 abbrev after : tie.Start → State
 after s = withWriters (s .args .st) (closedWriter (s .args .st .sizes) (s .args .st .writers) (s .args .writer))
 
-taken1 : (c : tie.Else1) → let a = c .before .before .before .before .before .before .before .before .before .before .before .before .args in AbortTaken (a .st) (a .writer)
-taken1 c = let a = c .before .before .before .before .before .before .before .before .before .before .before .before .args in abort-taken (a .st) (a .writer) (sym (c .before .writer-row .ensures) ∙ c .if1 .left)
+-- the row that was found, of the state
+row : (c : tie.After-writer-row) → let a = c .before .before .before .before .before .before .before .before .before .before .before .before .before .before .before .before .args in c .writer-row .result ≡ refusal (abortRows (a .st) (a .writer))
+row c = rw (← c .before .before .before .before .before .state-ok .ensures, ← c .before .before .before .is-idle .ensures) (c .writer-row .ensures)
+
+taken1 : (c : tie.Else1) → let a = c .before .before .before .before .before .before .before .before .before .before .before .before .before .before .before .before .before .args in AbortTaken (a .st) (a .writer)
+taken1 c = let a = c .before .before .before .before .before .before .before .before .before .before .before .before .before .before .before .before .before .args in abort-taken (a .st) (a .writer) (sym (row (c .before)) ∙ c .if1 .left)
 
 refused-requires : tie.Need-refused-requires
-refused-requires c κs = let a = c .before .before .before .before .before .before .before .before .before .before .before .before .args in rw (c .before .writer-row .ensures) (row-known (abortRows (a .st) (a .writer)) (omega arith))
+refused-requires c κs = let a = c .before .before .before .before .before .before .before .before .before .before .before .before .before .before .before .before .before .args in rw (row (c .before)) (row-known (abortRows (a .st) (a .writer)) (omega arith))
 
 returns : tie.Need-returns
 unfolding abortOf
 returns c =
-    let s = c .before .before .before .before .before .before .before .before .before .before .before .before .before in
-    refused-by (c .refused .result) (abortRows (s .args .st) (s .args .writer)) _ 0 (s .args .st) (after s) (c .before .before .writer-row .ensures) (c .before .if1 .taken) (c .refused .ensures)
+    let s = c .before .before .before .before .before .before .before .before .before .before .before .before .before .before .before .before .before .before in
+    refused-by (c .refused .result) (abortRows (s .args .st) (s .args .writer)) _ 0 (s .args .st) (after s) (row (c .before .before)) (c .before .if1 .taken) (c .refused .ensures)
 
 set-open-requires : tie.Need-set-open-requires
 set-open-requires c κs = taken1 (c .before) .writer-low
 
 let-go-requires : tie.Need-let-go-requires
-let-go-requires c κs = let t = taken1 (c .before .before .before .before) in (ranges-of (c .before .before .before .before .before .before .before .before .before .before .before .before .before .before .before .before .args .st) (t .is-valid) .legal, t .writer-low)
+let-go-requires c κs =
+    let u = c .before .before .before .before in
+    let t = taken1 u in (ranges-of (u .before .before .before .before .before .before .before .before .before .before .before .before .before .before .before .before .before .args .st) (t .is-valid) .legal, t .writer-low)
 
 returns-2 : tie.Need-returns-2
 unfolding abortOf closedWriter
 returns-2 c =
-    let s = c .before .before .before .before .before .before .before .before .before .before .before .before .before .before .before .before .before .before in
-    taken-by (c .taken .result) (abortRows (s .args .st) (s .args .writer)) _ 0 (s .args .st) (after s) (c .before .before .before .before .before .before .before .writer-row .ensures) (c .before .before .before .before .before .before .if1 .left)
+    let s = c .before .before .before .before .before .before .before .before .before .before .before .before .before .before .before .before .before .before .before .before .before .before .before in
+    taken-by (c .taken .result) (abortRows (s .args .st) (s .args .writer)) _ 0 (s .args .st) (after s) (row (c .before .before .before .before .before .before .before)) (c .before .before .before .before .before .before .if1 .left)
     (rw (c .before .let-go .ensures, c .before .before .before .before .set-open .ensures) at (c .taken .ensures))
 
 pub abort-spec : {M : Type 1} → statement M
 abort-spec =
     tie.close
     (tie.spec
+    (λ c κs. search needs)
+    (λ c κs. search needs)
     (λ c κs. search needs)
     refused-requires
     returns

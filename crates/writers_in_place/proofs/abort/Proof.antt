@@ -1,19 +1,18 @@
 use Prim.Native.Nat.{ℕ}
-use mathlib.Core.Bool.{Bool, true, false}
+use mathlib.Core.Bool.{Bool}
 use mathlib.Core.List.{List}
-use mathlib.Core.Path.{_≡_, sym, ap, ap₂, _∙_, subst}
+use mathlib.Core.Path.{_≡_, refl, sym, ap, ap₂, _∙_}
 use native.Mathlib.Omega.{arith}
 use borrow.Author.Needs.{needs}
 use Rattle.bounded.specs.Rows.{refusal}
 use Rattle.state.specs.declared.State.{State}
-use Rattle.state.specs.declared.Pending.{Pending}
-use Rattle.state.specs.Parts.{stateOf}
+use Rattle.validity.proofs.Quiet.{idle-quiet}
+use Rattle.refinement.specs.Settled.{noPending}
 use Rattle.refinement.specs.Commit.{closedWriter}
 use Rattle.refinement.specs.Calls.{abortRows, abortOf, withWriters}
 use Rattle.refinement.proofs.Begun.{AbortTaken, abort-taken}
 use Rattle.refinement.proofs.Going.{ranges-of}
 use Rattle.answers.proofs.Answered.{row-known}
-use Rattle.writers.specs.Writers.{writerRows}
 use Rattle.in_place.specs.Through.{quietAt}
 use Rattle.writers_in_place.proofs.WriterCalls.{writer-refused, writer-taken}
 use Rattle.writers_in_place.proofs.abort.Statement.{statement}
@@ -25,34 +24,35 @@ st c =
     quietAt (a .z) (a .at) (a .page .now) (a .original .now) (a .spare .now) (a .bitmap .now) (a .last .now) (a .opened .now) (a .held .now)
 
 -- the row that was found, of a state with nothing pending
-row : (c : tie.After-writer-row) → let s = c .before .before .before .before in c .writer-row .result ≡ refusal (abortRows (st s) (s .args .writer))
+row : (c : tie.After-writer-row) → let s = c .before .before .before .before .before in c .writer-row .result ≡ refusal (abortRows (st s) (s .args .writer))
 row c =
-    let a = c .before .before .before .before .args in
-    subst (λ (q : Pending). c .writer-row .result ≡ refusal (writerRows true (stateOf (a .z) (a .at .head) (a .at .tail) (a .at .next) (a .page .now) (a .original .now) (a .spare .now) (a .bitmap .now) (a .last .now) (a .opened .now) (a .held .now) (a .at .prepared) q) (a .writer)))
-    (c .before .before .before .no-pending .ensures) (c .writer-row .ensures)
+    let a = c .before .before .before .before .before .args in
+    let ok = c .before .before .quiet-ok .ensures
+    ∙ idle-quiet (a .z) (a .at .head) (a .at .tail) (a .at .next) (a .page .now) (a .original .now) (a .spare .now) (a .bitmap .now) (a .last .now) (a .opened .now) (a .held .now) (a .at .prepared) noPending refl in
+    rw (← ok) (c .writer-row .ensures)
 
 abbrev after : tie.Start → State
 after s = withWriters (st s) (closedWriter (s .args .z) (st s .writers) (s .args .writer))
 
-taken1 : (c : tie.Else1) → let s = c .before .before .before .before .before in AbortTaken (st s) (s .args .writer)
-taken1 c = let s = c .before .before .before .before .before in abort-taken (st s) (s .args .writer) (sym (row (c .before)) ∙ c .if1 .left)
+taken1 : (c : tie.Else1) → let s = c .before .before .before .before .before .before in AbortTaken (st s) (s .args .writer)
+taken1 c = let s = c .before .before .before .before .before .before in abort-taken (st s) (s .args .writer) (sym (row (c .before)) ∙ c .if1 .left)
 
 returns : tie.Need-returns
 unfolding abortOf
 returns c =
-    let s = c .before .before .before .before .before .before in
+    let s = c .before .before .before .before .before .before .before in
     writer-refused (st s) (after s) (abortRows (st s) (s .args .writer)) _ (row (c .before .before)) _ (c .before .if1 .taken) (row-known (abortRows (st s) (s .args .writer)) (omega arith)) (c .answer-of .ensures)
 
 set-open-requires : tie.Need-set-open-requires
 set-open-requires c κs = taken1 (c .before) .writer-low
 
 let-go-requires : tie.Need-let-go-requires
-let-go-requires c κs = let t = taken1 (c .before .before .before) in (ranges-of (st (c .before .before .before .before .before .before .before .before)) (t .is-valid) .legal, t .writer-low)
+let-go-requires c κs = let t = taken1 (c .before .before .before) in (ranges-of (st (c .before .before .before .before .before .before .before .before .before)) (t .is-valid) .legal, t .writer-low)
 
 returns-2 : tie.Need-returns-2
 unfolding abortOf closedWriter
 returns-2 c =
-    let s = c .before .before .before .before .before .before .before .before .before in
+    let s = c .before .before .before .before .before .before .before .before .before .before in
     let a = s .args in
     writer-taken (st s) (after s) (abortRows (st s) (a .writer)) _ (row (c .before .before .before .before .before)) _ (c .before .before .before .before .if1 .left)
     (ap₂ (λ (o : List Bool) (h : List ℕ). quietAt (a .z) (a .at) (a .page .now) (a .original .now) (a .spare .now) (a .bitmap .now) (a .last .now) o h) (c .before .before .set-open .ensures) (c .let-go .ensures))
