@@ -1,12 +1,17 @@
 // A commit, a prepare, a confirm, a consolidation or a checkpoint, asked for: complete where it needs no store, else pending.
 ghost use mathlib.Core.Path.{_≡_};
-ghost use mathlib.Core.Bool.{false};
+ghost use mathlib.Core.Bool.{false, cond};
+ghost use Prim.Native.Nat.{_*_, _<_, _≤_};
+ghost use lib.Dec.{eqb};
 ghost use mathlib.Core.List.{_++_};
 ghost use lib.ListN.{replicate};
 ghost use Rattle.bounded.specs.Rows.{refusal};
+ghost use Rattle.layout.specs.Layout.{Legal};
+ghost use Rattle.journal.specs.Records.{liveCount};
 ghost use Rattle.state.specs.Parts.{stateOf};
 ghost use Rattle.state.specs.Wide.{wideOf};
-ghost use Rattle.operations.specs.Operations.{Ranged, isIdle, opRows, needs};
+ghost use Rattle.refinement.specs.Settled.{noPending};
+ghost use Rattle.operations.specs.Operations.{Ranged, isIdle, opRowsOf, opRows, needs};
 ghost use Rattle.answers.specs.Answers.{outcomeOf};
 ghost use Rattle.refinement.specs.Stores.{completed};
 ghost use Rattle.refinement.specs.Calls.{quietRows, asked};
@@ -27,6 +32,49 @@ pub fn pending_from(op: Op, line: [u64; 8], second: [u64; 8], frame: usize) -> P
         second,
         frame,
     }
+}
+
+// The first row of an operation after the rows that come first, row being what they gave.
+fn row_after<'a>(
+    row: usize,
+    z: Sizes,
+    head: usize,
+    tail: usize,
+    next: usize,
+    page: &'a [usize; 16],
+    original: &'a [usize; 16],
+    spare: &'a [usize; 16],
+    opened: &'a [bool; 4],
+    held: &'a [u64; 64],
+    prepared: usize,
+    wide: usize,
+    count: usize,
+    keys: &'a [u64; 64],
+    op: Op,
+) -> usize
+    requires { ⌜ (row ≡ 0 → Legal z × (head < 2 * z .places) × (tail < 2 * z .places) × (liveCount z head tail ≤ z .places) × (next < z .slots) × (count ≤ 64)) ⌝ }
+    ensures { λ r. ⌜ r ≡ cond (eqb row 0) (refusal (opRowsOf z head tail next (now (page .entry)) (now (original .entry)) (now (spare .entry)) (now (opened .entry)) (now (held .entry)) prepared (wideOf wide count (now (keys .entry))) op 0)) row ⌝ }
+{
+    if row != 0 {
+        return row;
+    }
+    operations::op_row(
+        z,
+        head,
+        tail,
+        next,
+        page,
+        original,
+        spare,
+        opened,
+        held,
+        prepared,
+        wide,
+        count,
+        keys,
+        op,
+        0,
+    )
 }
 
 // The first row that turns one of them back, of an image of n bytes.
@@ -72,10 +120,8 @@ pub fn ask_row<'a>(
         n,
         false,
     );
-    if row != 0 {
-        return row;
-    }
-    operations::op_row(
+    row_after(
+        row,
         z,
         head,
         tail,
@@ -90,7 +136,65 @@ pub fn ask_row<'a>(
         count,
         keys,
         op,
-        0,
+    )
+}
+
+// The same where nothing is pending.
+pub fn quiet_ask_row<'a>(
+    z: Sizes,
+    head: usize,
+    tail: usize,
+    next: usize,
+    page: &'a [usize; 16],
+    original: &'a [usize; 16],
+    spare: &'a [usize; 16],
+    bitmap: &'a [u64; 16],
+    last: &'a [usize; 16],
+    opened: &'a [bool; 4],
+    held: &'a [u64; 64],
+    prepared: usize,
+    wide: usize,
+    count: usize,
+    keys: &'a [u64; 64],
+    op: Op,
+    n: usize,
+) -> usize
+    ensures { λ r. ⌜ r ≡ refusal (quietRows (stateOf z head tail next (now (page .entry)) (now (original .entry)) (now (spare .entry)) (now (bitmap .entry)) (now (last .entry)) (now (opened .entry)) (now (held .entry)) prepared (wideOf wide count (now (keys .entry))) noPending) n ++ opRows (stateOf z head tail next (now (page .entry)) (now (original .entry)) (now (spare .entry)) (now (bitmap .entry)) (now (last .entry)) (now (opened .entry)) (now (held .entry)) prepared (wideOf wide count (now (keys .entry))) noPending) op 0) ⌝ }
+{
+    let row = rows::quiet_row(
+        z,
+        head,
+        tail,
+        next,
+        page,
+        original,
+        spare,
+        bitmap,
+        last,
+        opened,
+        held,
+        prepared,
+        wide,
+        count,
+        keys,
+        n,
+    );
+    row_after(
+        row,
+        z,
+        head,
+        tail,
+        next,
+        page,
+        original,
+        spare,
+        opened,
+        held,
+        prepared,
+        wide,
+        count,
+        keys,
+        op,
     )
 }
 

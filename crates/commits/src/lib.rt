@@ -156,47 +156,31 @@ pub fn make_confirm_stores(
     image_words::store_word(image, 4, end as u64);
 }
 
-// The bitmaps after a commit of n slots.
-fn commit_bitmaps<'a>(
-    z: Sizes,
-    bitmap: &'a [u64; 16],
-    held: &'a [u64; 64],
-    w: usize,
-    n: usize,
-) -> [u64; 16]
+// Puts the bitmaps of a commit of n slots where they lie.
+fn put_bitmaps(z: Sizes, bitmap: &mut [u64; 16], held: &[u64; 64], w: usize, n: usize)
     requires { ⌜ Legal z × (w < 4) ⌝ }
-    ensures { λ r. ⌜ r ≡ bitmapsAfter z (now (bitmap .entry)) (now (held .entry)) w n ⌝ }
+    ensures { λ _. ⌜ now (bitmap .exit) ≡ bitmapsAfter z (now (bitmap .entry)) (now (held .entry)) w n ⌝ }
 {
-    let mut out = *bitmap;
+    let before = *bitmap;
     let mut j = 0;
     while j < n {
         let s = held_slot(z, held, w, j);
-        out[s] = masks::exclusive_or(bitmap[s], held[16 * w + s]);
+        bitmap[s] = masks::exclusive_or(before[s], held[16 * w + s]);
         j += 1;
     }
-    out
 }
 
-// The positions of last records after a commit of n slots.
-fn commit_lasts<'a>(
-    z: Sizes,
-    head: usize,
-    last: &'a [usize; 16],
-    held: &'a [u64; 64],
-    w: usize,
-    n: usize,
-) -> [usize; 16]
+// The same of the positions of last records.
+fn put_lasts(z: Sizes, head: usize, last: &mut [usize; 16], held: &[u64; 64], w: usize, n: usize)
     requires { ⌜ Legal z × (head < 2 * z .places) × (w < 4) × (n ≤ z .places) ⌝ }
-    ensures { λ r. ⌜ r ≡ lastsAfter z head (now (last .entry)) (now (held .entry)) w n ⌝ }
+    ensures { λ _. ⌜ now (last .exit) ≡ lastsAfter z head (now (last .entry)) (now (held .entry)) w n ⌝ }
 {
-    let mut out = *last;
     let mut j = 0;
     while j < n {
         let s = held_slot(z, held, w, j);
-        out[s] = journal::records::position(z, head, j);
+        last[s] = journal::records::position(z, head, j);
         j += 1;
     }
-    out
 }
 
 // What a commit leaves when it is complete: its slots' bitmaps and last positions, and the writer closed. Says the head.
@@ -217,10 +201,8 @@ pub fn complete_commit(
     ensures held { λ _. ⌜ now (held .exit) ≡ letGo z (now (held .entry)) w ⌝ }
 {
     let n = state::held::held_count(z, held, w);
-    let bitmaps = commit_bitmaps(z, bitmap, held, w, n);
-    let lasts = commit_lasts(z, head, last, held, w, n);
-    settled::put_masks(bitmap, bitmaps);
-    settled::put_all(last, lasts);
+    put_bitmaps(z, bitmap, held, w, n);
+    put_lasts(z, head, last, held, w, n);
     state::held::let_go(z, held, w);
     state::held::set_open(opened, w, false);
     journal::records::position(z, head, n)

@@ -1,24 +1,20 @@
 -- What the code found is what the definitions call for, of a narrow writer and of the wide one. r is what it found.
 use Prim.Native.Nat.{ℕ, _<_, _≤_}
 use mathlib.Core.Bool.{Bool, true, false, _&&_, cond}
-use mathlib.Core.List.{List, [], _∷_, _++_}
+use mathlib.Core.List.{List}
 use mathlib.Core.Path.{_≡_, refl, sym, ap, _∙_}
 use lib.Dec.{ltb}
 use lib.ListN.{length}
 use borrow.Author.Tests.{eq-eqb, lt-ltb, le-ltb}
-use Rattle.bounded.specs.Rows.{Past}
 use Rattle.bounded.proofs.Tests.{caseOn}
 use Rattle.layout.specs.declared.Sizes.{Sizes}
 use Rattle.entries.specs.Entries.{keyOf, entryOf}
 use Rattle.state.specs.declared.State.{State}
 use Rattle.state.specs.declared.Wide.{Wide}
 use Rattle.state.specs.Wide.{isWide, entryFor, hasEntry}
-use Rattle.operations.specs.Operations.{writeRows, logRows}
-use Rattle.refinement.specs.Frames.{pageFrame, seenFrame}
-use Rattle.refinement.specs.Calls.{quietRows, seenLine}
-use Rattle.answers.proofs.Answered.{rows-then}
+use Rattle.refinement.specs.Calls.{seenLine}
 use Rattle.finding.specs.declared.Found.{Found}
-use Rattle.finding.specs.Finding.{FramesFound, EntryFound, WriteFound, asEntry, foundLine}
+use Rattle.finding.specs.Finding.{FramesFound, EntryFound, FoundAfter, WriteFound, asEntry, foundLine}
 
 pub back-row : (r : Found) (row : ℕ) → _≡_ {A = Found} r (record { row = row; frame = 0; seen = 0; held = false; wide = false }) → r .row ≡ row
 back-row r row e = ap (λ (x : Found). x .row) e
@@ -31,25 +27,16 @@ module _ (d : Wide) (p l e x : ℕ) (h : e ≡ entryOf (d .keys) (d .count) (key
   pub has-none : d .count ≤ e → (x ≡ cond (hasEntry d p l) (entryFor d p l) x) × (false ≡ hasEntry d p l)
   has-none m = rw (← h, le-ltb e (d .count) m) (refl, refl)
 
--- of a state, no row before those of the operation applying
-module _ (st : State) (img : List ℕ) (p l o n : ℕ) (bytes : List ℕ) (r : Found) (past : Past (quietRows st (length img) ++ ((ltb (length bytes) n, 11) ∷ [])) 4) where
-  pub wide-found : EntryFound (st .sizes) (st .table .page) (st .table .original) (st .table .spare) (st .table .bitmap) (st .writers .opened) (st .writers .held) (st .wide) img p l o n r
-      → WriteFound st img (st .wide .writer) p l o n bytes r
-  unfolding pageFrame seenFrame
-  wide-found f =
-      let b : isWide (st .wide) (st .wide .writer) ≡ true = eq-eqb (st .wide .writer) (st .wide .writer) refl in (
-        rows-then (quietRows st (length img) ++ ((ltb (length bytes) n, 11) ∷ [])) (cond (isWide (st .wide) (st .wide .writer)) (logRows st p l o n (pageFrame st img p)) (writeRows st (st .wide .writer) p l o n (pageFrame st img p))) (r .row) past (rw b (f .0)),
-        λ z. let g = f .1 z in (g .0, rw (b, g .0) (g .1), rw b (g .2), g .3 ∙ sym b),
-      )
+-- past the rows that come first and short data
+module _ (row : ℕ) (none : row ≡ 0) (z : Sizes) (next : ℕ) (page original spare bitmap : List ℕ) (opened : List Bool) (held : List ℕ) (prepared : ℕ) (d : Wide) (img : List ℕ) (w p l o n : ℕ) (bytes : List ℕ)
+    (long : ltb (length bytes) n ≡ false) (r : Found) where
+  pub entry-after : d .writer ≡ w → EntryFound z page original spare bitmap opened held d img p l o n r → FoundAfter row z next page original spare bitmap opened held prepared d img w p l o n bytes r
+  entry-after e f =
+      let b : isWide d w ≡ true = eq-eqb (d .writer) w e in
+      (rw (eq-eqb row 0 none, long, b) (f .0), λ q. let g = f .1 q in (g .0, rw (b, ← e) (g .1), rw b (g .2), g .3 ∙ sym b))
 
-  pub narrow-found : (w : ℕ) → isWide (st .wide) w ≡ false
-      → FramesFound (st .sizes) (st .next) (st .table .page) (st .table .original) (st .table .spare) (st .table .bitmap) (st .writers .opened) (st .writers .held) (st .writers .prepared) img w p l o n r
-      → WriteFound st img w p l o n bytes r
-  unfolding pageFrame seenFrame
-  narrow-found w b f = (
-    rows-then (quietRows st (length img) ++ ((ltb (length bytes) n, 11) ∷ [])) (cond (isWide (st .wide) w) (logRows st p l o n (pageFrame st img p)) (writeRows st w p l o n (pageFrame st img p))) (r .row) past (rw b (f .0)),
-    λ z. let g = f .1 z in (g .0, rw (b, g .0) (g .1), rw b (g .2), g .3 ∙ sym b),
-  )
+  pub frames-after : isWide d w ≡ false → FramesFound z next page original spare bitmap opened held prepared img w p l o n r → FoundAfter row z next page original spare bitmap opened held prepared d img w p l o n bytes r
+  frames-after b f = (rw (eq-eqb row 0 none, long, b) (f .0), λ q. let g = f .1 q in (g .0, rw b (g .1), rw b (g .2), g .3 ∙ sym b))
 
 -- the line that was found is the one that the writer sees
 pub found-seen : (st : State) (img : List ℕ) (w p l o n : ℕ) (bytes : List ℕ) (r : Found) → WriteFound st img w p l o n bytes r → r .row ≡ 0

@@ -1,2 +1,3 @@
 pub mod ShortData
 pub mod FoundLine
+pub mod Whole

@@ -2,9 +2,10 @@
 -- from, and whether the writer holds the line.
 use Prim.Native.Nat.{ℕ, _<_}
 use mathlib.Core.Bool.{Bool, true, false, _&&_, cond}
-use mathlib.Core.List.{List}
+use mathlib.Core.List.{List, _∷_}
 use mathlib.Core.Path.{_≡_}
-use lib.Dec.{ltb}
+use lib.Dec.{eqb, ltb}
+use lib.ListN.{length}
 use Rattle.bounded.specs.Rows.{refusal}
 use Rattle.masks.specs.Lines.{inMask}
 use Rattle.layout.specs.declared.Sizes.{Sizes}
@@ -53,6 +54,19 @@ EntryFound z page original spare bitmap opened held d img p l o n r =
     × (r .seen ≡ cond (hasEntry d p l) (entryFor d p l) (seenAt z (slotAt p original spare bitmap s) (heldAt held (d .writer) s) s l f))
     × (r .held ≡ hasEntry d p l)
     × (r .wide ≡ true))
+
+-- all but the rows that come first, row being what they gave
+abbrev pub FoundAfter : ℕ → Sizes → ℕ → List ℕ → List ℕ → List ℕ → List ℕ → List Bool → List ℕ → ℕ → Wide → List ℕ → ℕ → ℕ → ℕ → ℕ → ℕ → List ℕ → Found → Type 0
+FoundAfter row z next page original spare bitmap opened held prepared d img w p l o n bytes r =
+    let s = slotOfPage z page p in
+    let f = frameAt z original img p s in
+    let rest = cond (isWide d w) (logRowsOf z page original spare opened d p s l o n f) (writeRowsOf z next page original spare opened held prepared w p s l o n f) in
+    (r .row ≡ cond (eqb row 0) (refusal ((ltb (length bytes) n, 11) ∷ rest)) row)
+    × (r .row ≡ 0
+    → (r .frame ≡ f)
+    × (r .seen ≡ cond (isWide d w && hasEntry d p l) (entryFor d p l) (seenAt z (slotAt p original spare bitmap s) (heldAt held w s) s l f))
+    × (r .held ≡ cond (isWide d w) (hasEntry d p l) (ltb s (z .slots) && inMask (heldAt held w s) l))
+    × (r .wide ≡ isWide d w))
 
 -- ---- the line that was found: an entry's, or a frame's
 

@@ -10,9 +10,10 @@ ghost use Rattle.masks.specs.Lines.{inMask};
 ghost use Rattle.state.specs.Held.{heldAt};
 ghost use Rattle.state.specs.Parts.{stateOf};
 ghost use Rattle.state.specs.Wide.{wideOf};
+ghost use Rattle.refinement.specs.Settled.{noPending};
 ghost use Rattle.image.specs.Lines.{merged as mergedOf, mergeChanges, lineWords};
 ghost use Rattle.state.specs.declared.Op.the-variants.{Write, Commit, Log, Copy};
-ghost use Rattle.finding.specs.Finding.{FramesFound, EntryFound, WriteFound, SeenLow, foundLine};
+ghost use Rattle.finding.specs.Finding.{FramesFound, EntryFound, FoundAfter, WriteFound, SeenLow, foundLine};
 use layout::Sizes;
 use lines::Merged;
 use state::Op;
@@ -168,6 +169,76 @@ fn entry_found<'a>(
     }
 }
 
+// What is found after the rows that come first, row being what they gave: it, or row 11 for the data, or what the rows from 11 on find.
+fn found_after<'a>(
+    row: usize,
+    z: Sizes,
+    next: usize,
+    page: &'a [usize; 16],
+    original: &'a [usize; 16],
+    spare: &'a [usize; 16],
+    bitmap: &'a [u64; 16],
+    opened: &'a [bool; 4],
+    held: &'a [u64; 64],
+    prepared: usize,
+    wide: usize,
+    count: usize,
+    keys: &'a [u64; 64],
+    image: &[u8],
+    writer: usize,
+    p: usize,
+    line: usize,
+    offset: usize,
+    length: usize,
+    data: &[u8],
+) -> Found
+    requires { ⌜ (row ≡ 0 → Legal z × (next < z .slots) × (count ≤ 64) × (imageLength z ≤ listLength (now image))) ⌝ }
+    ensures { λ r. ⌜ FoundAfter row z next (now (page .entry)) (now (original .entry)) (now (spare .entry)) (now (bitmap .entry)) (now (opened .entry)) (now (held .entry)) prepared (wideOf wide count (now (keys .entry))) (now (image .entry)) writer p line offset length (now («data» .entry)) r ⌝ }
+{
+    if row != 0 {
+        return turned_back(row);
+    }
+    if (data.len() < length) | (p >= z.pages) {
+        return turned_back(11);
+    }
+    if wide == writer {
+        return entry_found(
+            z,
+            page,
+            original,
+            spare,
+            bitmap,
+            opened,
+            held,
+            wide,
+            count,
+            keys,
+            image,
+            p,
+            line,
+            offset,
+            length,
+        );
+    }
+    frames_found(
+        z,
+        next,
+        page,
+        original,
+        spare,
+        bitmap,
+        opened,
+        held,
+        prepared,
+        image,
+        writer,
+        p,
+        line,
+        offset,
+        length,
+    )
+}
+
 // All rows of a write.
 pub fn write_found<'a>(
     z: Sizes,
@@ -216,32 +287,8 @@ pub fn write_found<'a>(
         image.len(),
         false,
     );
-    if row != 0 {
-        return turned_back(row);
-    }
-    if (data.len() < length) | (p >= z.pages) {
-        return turned_back(11);
-    }
-    if wide == writer {
-        return entry_found(
-            z,
-            page,
-            original,
-            spare,
-            bitmap,
-            opened,
-            held,
-            wide,
-            count,
-            keys,
-            image,
-            p,
-            line,
-            offset,
-            length,
-        );
-    }
-    frames_found(
+    found_after(
+        row,
         z,
         next,
         page,
@@ -251,12 +298,85 @@ pub fn write_found<'a>(
         opened,
         held,
         prepared,
+        wide,
+        count,
+        keys,
         image,
         writer,
         p,
         line,
         offset,
         length,
+        data,
+    )
+}
+
+// The same where nothing is pending.
+pub fn quiet_found<'a>(
+    z: Sizes,
+    head: usize,
+    tail: usize,
+    next: usize,
+    page: &'a [usize; 16],
+    original: &'a [usize; 16],
+    spare: &'a [usize; 16],
+    bitmap: &'a [u64; 16],
+    last: &'a [usize; 16],
+    opened: &'a [bool; 4],
+    held: &'a [u64; 64],
+    prepared: usize,
+    wide: usize,
+    count: usize,
+    keys: &'a [u64; 64],
+    image: &[u8],
+    writer: usize,
+    p: usize,
+    line: usize,
+    offset: usize,
+    length: usize,
+    data: &[u8],
+) -> Found
+    ensures { λ r. ⌜ WriteFound (stateOf z head tail next (now (page .entry)) (now (original .entry)) (now (spare .entry)) (now (bitmap .entry)) (now (last .entry)) (now (opened .entry)) (now (held .entry)) prepared (wideOf wide count (now (keys .entry))) noPending) (now (image .entry)) writer p line offset length (now («data» .entry)) r ⌝ }
+{
+    let row = rows::quiet_row(
+        z,
+        head,
+        tail,
+        next,
+        page,
+        original,
+        spare,
+        bitmap,
+        last,
+        opened,
+        held,
+        prepared,
+        wide,
+        count,
+        keys,
+        image.len(),
+    );
+    found_after(
+        row,
+        z,
+        next,
+        page,
+        original,
+        spare,
+        bitmap,
+        opened,
+        held,
+        prepared,
+        wide,
+        count,
+        keys,
+        image,
+        writer,
+        p,
+        line,
+        offset,
+        length,
+        data,
     )
 }
 

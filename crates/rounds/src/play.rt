@@ -192,6 +192,8 @@ pub fn rounds(image: &mut [u8; 84288], n: usize, stay: usize) -> Played {
     let mut stores = 0;
     let end = 32 * (n % 4294967296);
     let calls = steps::CALLS;
+    let taken = steps::TAKEN;
+    let refused = steps::REFUSED;
     let mut i = 0;
     while i < end {
         let went = call(
@@ -213,7 +215,7 @@ pub fn rounds(image: &mut [u8; 84288], n: usize, stay: usize) -> Played {
         let answer = went.answer;
         at = went.to;
         stores = std::num::wrapping_add_u64(stores, stores_in(answer));
-        i += steps::after(i % 32, number_of(answer));
+        i += steps::after(&taken, &refused, i % 32, number_of(answer));
     }
     let table = Table {
         page,

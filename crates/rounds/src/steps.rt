@@ -6,18 +6,17 @@ ghost use Prim.Native.Nat.{_<_, _≤_};
 // that lies 0 to 3 slots on from the next slot to try.
 pub const CALLS: [u8; 32] = *b"BV0P01P12P23P3VW0P01P12P23P3WCPC";
 // How many steps the round passes over after a call that was taken: @ is none, A is one.
-const TAKEN: [u8; 32] = *b"@MK@IH@FE@CB@@@MK@IH@FE@CB@@@B@@";
+pub const TAKEN: [u8; 32] = *b"@MK@IH@FE@CB@@@MK@IH@FE@CB@@@B@@";
 // The same after one that was refused, unless room must be made for it.
-const REFUSED: [u8; 32] = *b"@MB@@B@@B@@B@@@MB@@B@@B@@B@@@B@@";
+pub const REFUSED: [u8; 32] = *b"@MB@@B@@B@@B@@@MB@@B@@B@@B@@@B@@";
 
-// How many steps the round goes on after an answer's number.
-pub fn after(step: usize, number: usize) -> usize
+// How many steps the round goes on after an answer's number. The tables are lent, so that they are made once.
+pub fn after<'a>(taken: &'a [u8; 32], refused: &'a [u8; 32], step: usize, number: usize) -> usize
     requires { ⌜ step < 32 ⌝ }
     ensures { λ r. ⌜ (1 ≤ r) × (r ≤ 32) ⌝ }
 {
     if number == 0 {
-        let over = TAKEN;
-        return 1 + (over[step] % 32) as usize;
+        return 1 + (taken[step] % 32) as usize;
     }
     if number == 15 {
         return 1;
@@ -25,6 +24,5 @@ pub fn after(step: usize, number: usize) -> usize
     if number == 19 {
         return 1;
     }
-    let over = REFUSED;
-    1 + (over[step] % 32) as usize
+    1 + (refused[step] % 32) as usize
 }

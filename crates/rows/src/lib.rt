@@ -1,8 +1,10 @@
 // The rows that come first: the state, put together from its parts, the buffer's length, and what is pending.
 ghost use mathlib.Core.Path.{_≡_};
+ghost use mathlib.Core.Bool.{false};
 ghost use Rattle.bounded.specs.Rows.{refusal};
 ghost use Rattle.state.specs.Parts.{stateOf};
 ghost use Rattle.state.specs.Wide.{wideOf};
+ghost use Rattle.refinement.specs.Settled.{noPending};
 ghost use Rattle.rows.specs.First.{firstRows};
 use layout::Sizes;
 use state::Pending;
@@ -60,6 +62,52 @@ pub fn first_row<'a>(
     }
     if !(busy | idle) {
         return 9;
+    }
+    0
+}
+
+// The first of them where nothing is pending and nothing may be: 8 or 4. No pending operation is made up and passed, and none is looked at.
+pub fn quiet_row<'a>(
+    z: Sizes,
+    head: usize,
+    tail: usize,
+    next: usize,
+    page: &'a [usize; 16],
+    original: &'a [usize; 16],
+    spare: &'a [usize; 16],
+    bitmap: &'a [u64; 16],
+    last: &'a [usize; 16],
+    opened: &'a [bool; 4],
+    held: &'a [u64; 64],
+    prepared: usize,
+    wide: usize,
+    count: usize,
+    keys: &'a [u64; 64],
+    n: usize,
+) -> usize
+    ensures { λ r. ⌜ r ≡ refusal (firstRows false (stateOf z head tail next (now (page .entry)) (now (original .entry)) (now (spare .entry)) (now (bitmap .entry)) (now (last .entry)) (now (opened .entry)) (now (held .entry)) prepared (wideOf wide count (now (keys .entry))) noPending) n) ⌝ }
+{
+    if !validity::quiet_ok(
+        z,
+        head,
+        tail,
+        next,
+        page,
+        original,
+        spare,
+        bitmap,
+        last,
+        opened,
+        held,
+        prepared,
+        wide,
+        count,
+        keys,
+    ) {
+        return 8;
+    }
+    if n < layout::image_length(z) {
+        return 4;
     }
     0
 }

@@ -48,20 +48,6 @@ pub fn put_mask(a: &mut [u64; 16], s: usize, v: u64)
     a[s] = v;
 }
 
-// Puts all of an array of a table anew.
-pub fn put_all(a: &mut [usize; 16], v: [usize; 16])
-    ensures { λ _. ⌜ now (a .exit) ≡ v ⌝ }
-{
-    *a = v;
-}
-
-// The same of the bitmaps.
-pub fn put_masks(a: &mut [u64; 16], v: [u64; 16])
-    ensures { λ _. ⌜ now (a .exit) ≡ v ⌝ }
-{
-    *a = v;
-}
-
 // The array by value: the proof then has its length, which a reference to an array does not tell. Compiled, nothing is left of it.
 pub fn sixteen(a: &[usize; 16]) -> [usize; 16]
     ensures { λ r. ⌜ r ≡ now (a .entry) ⌝ }

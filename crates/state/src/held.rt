@@ -15,19 +15,12 @@ pub fn is_open(opened: &[bool; 4], w: usize) -> bool
     opened[w]
 }
 
-// Whether a writer holds a line of slot s.
+// Whether a writer holds a line of slot s: one test of all four, with no branch between them.
 pub fn some_hold(held: &[u64; 64], s: usize) -> bool
     requires { ⌜ s < 16 ⌝ }
     ensures { λ r. ⌜ r ≡ someHold (now (held .entry)) s ⌝ }
 {
-    let mut v = 0;
-    while v < 4 {
-        if held[16 * v + s] != 0 {
-            return true;
-        }
-        v += 1;
-    }
-    false
+    (held[s] != 0) | (held[16 + s] != 0) | (held[32 + s] != 0) | (held[48 + s] != 0)
 }
 
 // Whether what writer w holds of slot s keeps the rules.

@@ -7,7 +7,7 @@ ghost use Rattle.replay.specs.Table.{slotsOfArrays};
 ghost use Rattle.state.specs.Parts.{stateOf};
 ghost use Rattle.state.specs.Wide.{wideOf};
 ghost use Rattle.operations.specs.Operations.{Ranged};
-ghost use Rattle.validity.specs.Validity.{slotsOk, isLiveOf, lastOkOf, lastsOk, preparedOk, opFits, pendingOk, stateOk};
+ghost use Rattle.validity.specs.Validity.{slotsOk, isLiveOf, lastOkOf, lastsOk, preparedOk, opFits, pendingOk, quietOk, stateOk};
 use layout::Sizes;
 use state::Op;
 use state::Pending;
@@ -189,6 +189,44 @@ fn pending_ok<'a>(
     pending.made < needs::op_needs(z, head, tail, page, bitmap, last, held, count, op)
 }
 
+// Whether the state with these parts keeps every rule of row 8 that says nothing of what is pending.
+pub fn quiet_ok<'a>(
+    z: Sizes,
+    head: usize,
+    tail: usize,
+    next: usize,
+    page: &'a [usize; 16],
+    original: &'a [usize; 16],
+    spare: &'a [usize; 16],
+    bitmap: &'a [u64; 16],
+    last: &'a [usize; 16],
+    opened: &'a [bool; 4],
+    held: &'a [u64; 64],
+    prepared: usize,
+    wide: usize,
+    count: usize,
+    keys: &'a [u64; 64],
+) -> bool
+    ensures { λ r. ⌜ r ≡ quietOk z head tail next (now (page .entry)) (now (original .entry)) (now (spare .entry)) (now (bitmap .entry)) (now (last .entry)) (now (opened .entry)) (now (held .entry)) prepared (wideOf wide count (now (keys .entry))) ⌝ }
+{
+    if !slots_ok(z, head, tail, page, original, spare, bitmap) {
+        return false;
+    }
+    if !state::held::held_ok(z, page, opened, held) {
+        return false;
+    }
+    if z.slots <= next {
+        return false;
+    }
+    if !lasts_ok(z, head, tail, last) {
+        return false;
+    }
+    if !prepared_ok(z, head, tail, opened, held, prepared) {
+        return false;
+    }
+    state::beside::wide_ok(z, opened, held, prepared, wide, count, keys)
+}
+
 // Whether the state with these parts keeps every rule of row 8.
 pub fn state_ok<'a>(
     z: Sizes,
@@ -210,22 +248,23 @@ pub fn state_ok<'a>(
 ) -> bool
     ensures { λ r. ⌜ r ≡ stateOk (stateOf z head tail next (now (page .entry)) (now (original .entry)) (now (spare .entry)) (now (bitmap .entry)) (now (last .entry)) (now (opened .entry)) (now (held .entry)) prepared (wideOf wide count (now (keys .entry))) pending) ⌝ }
 {
-    if !slots_ok(z, head, tail, page, original, spare, bitmap) {
-        return false;
-    }
-    if !state::held::held_ok(z, page, opened, held) {
-        return false;
-    }
-    if z.slots <= next {
-        return false;
-    }
-    if !lasts_ok(z, head, tail, last) {
-        return false;
-    }
-    if !prepared_ok(z, head, tail, opened, held, prepared) {
-        return false;
-    }
-    if !state::beside::wide_ok(z, opened, held, prepared, wide, count, keys) {
+    if !quiet_ok(
+        z,
+        head,
+        tail,
+        next,
+        page,
+        original,
+        spare,
+        bitmap,
+        last,
+        opened,
+        held,
+        prepared,
+        wide,
+        count,
+        keys,
+    ) {
         return false;
     }
     pending_ok(

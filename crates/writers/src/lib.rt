@@ -5,57 +5,29 @@ ghost use Rattle.state.specs.Parts.{stateOf};
 ghost use Rattle.state.specs.Wide.{wideOf};
 ghost use Rattle.answers.specs.Answers.{outcomeOf};
 ghost use Rattle.refinement.specs.Calls.{beginOf, abortOf, beginWideRows, beginWideOf};
-ghost use Rattle.writers.specs.Writers.{writerRows};
+ghost use Rattle.writers.specs.Writers.{writerRowsOf};
 use answers::Done;
 use layout::Sizes;
 use state::Pending;
 use state::State;
 
-// The first row that turns back begin, which wants the writer closed and no wide one, or abort, which wants it open and not prepared.
-pub fn writer_row<'a>(
-    z: Sizes,
-    head: usize,
-    tail: usize,
-    next: usize,
-    page: &'a [usize; 16],
-    original: &'a [usize; 16],
-    spare: &'a [usize; 16],
-    bitmap: &'a [u64; 16],
-    last: &'a [usize; 16],
-    opened: &'a [bool; 4],
-    held: &'a [u64; 64],
+// The first row that turns back begin, which wants the writer closed and no wide one, or abort, which wants it open and not prepared. ok is row 8's
+// test and idle row 9's: a caller that knows that nothing is pending has no pending operation to pass.
+pub fn writer_row(
+    ok: bool,
+    idle: bool,
+    opened: &[bool; 4],
     prepared: usize,
     wide: usize,
-    count: usize,
-    keys: &'a [u64; 64],
-    pending: Pending,
     writer: usize,
     wanted: bool,
 ) -> usize
-    ensures { λ r. ⌜ r ≡ refusal (writerRows wanted (stateOf z head tail next (now (page .entry)) (now (original .entry)) (now (spare .entry)) (now (bitmap .entry)) (now (last .entry)) (now (opened .entry)) (now (held .entry)) prepared (wideOf wide count (now (keys .entry))) pending) writer) ⌝ }
+    ensures { λ r. ⌜ r ≡ refusal (writerRowsOf ok idle (now (opened .entry)) prepared wide wanted writer) ⌝ }
 {
-    if !validity::state_ok(
-        z,
-        head,
-        tail,
-        next,
-        page,
-        original,
-        spare,
-        bitmap,
-        last,
-        opened,
-        held,
-        prepared,
-        wide,
-        count,
-        keys,
-        pending,
-    ) {
+    if !ok {
         return 8;
     }
-    let op = pending.op;
-    if !operations::is_idle(op) {
+    if !idle {
         return 9;
     }
     if writer > 3 {
@@ -82,7 +54,7 @@ pub fn begin(st: State, writer: usize) -> Done
     ensures { λ r. ⌜ outcomeOf r ≡ beginOf st writer ⌝ }
 {
     let mut next = st;
-    let row = writer_row(
+    let ok = validity::state_ok(
         next.sizes,
         next.head,
         next.tail,
@@ -99,9 +71,13 @@ pub fn begin(st: State, writer: usize) -> Done
         next.wide.count,
         &next.wide.keys,
         next.pending,
-        writer,
-        false,
     );
+    let pending = next.pending;
+    let op = pending.op;
+    let idle = operations::is_idle(op);
+    let prepared = next.writers.prepared;
+    let wide = next.wide.writer;
+    let row = writer_row(ok, idle, &next.writers.opened, prepared, wide, writer, false);
     if row != 0 {
         return answers::refused(row, next);
     }
@@ -114,7 +90,7 @@ pub fn abort(st: State, writer: usize) -> Done
     ensures { λ r. ⌜ outcomeOf r ≡ abortOf st writer ⌝ }
 {
     let mut next = st;
-    let row = writer_row(
+    let ok = validity::state_ok(
         next.sizes,
         next.head,
         next.tail,
@@ -131,9 +107,13 @@ pub fn abort(st: State, writer: usize) -> Done
         next.wide.count,
         &next.wide.keys,
         next.pending,
-        writer,
-        true,
     );
+    let pending = next.pending;
+    let op = pending.op;
+    let idle = operations::is_idle(op);
+    let prepared = next.writers.prepared;
+    let wide = next.wide.writer;
+    let row = writer_row(ok, idle, &next.writers.opened, prepared, wide, writer, true);
     if row != 0 {
         return answers::refused(row, next);
     }

@@ -8,20 +8,21 @@ use borrow.Author.Needs.{needs}
 use Rattle.commits.proofs.complete_commit.Statement.{statement}
 use Rattle.commits.proofs.complete_commit.Tie as tie
 
-commit-lasts-requires : tie.Need-commit-lasts-requires
-commit-lasts-requires c κs = let s = c .before .before .before .before .before .before .before in
+put-lasts-requires : tie.Need-put-lasts-requires
+put-lasts-requires c κs = let s = c .before .before .before .before .before .before .before in
     (s .pre .0, s .pre .1, s .pre .2, omega (arith, held-le _ _ _ _ (c .before .before .before .before .before .held-count .ensures), s .pre .0))
 
 position-requires : tie.Need-position-requires
-position-requires c κs = let s = c .before .before .before .before .before .before .before .before .before .before .before .before .before .before .before .before in
-    (s .pre .0, s .pre .1, omega (arith, held-le _ _ _ _ (c .before .before .before .before .before .before .before .before .before .before .before .before .before .before .held-count .ensures), s .pre .0))
+position-requires c κs = let s = c .before .before .before .before .before .before .before .before .before .before .before .before in
+    (s .pre .0, s .pre .1, omega (arith, held-le _ _ _ _ (c .before .before .before .before .before .before .before .before .before .before .held-count .ensures), s .pre .0))
 
 returns : tie.Need-returns
-returns c = let a = c .before .before .before .before .before .before .before .before .before .before .before .before .before .before .before .before .before .args in
-    let n = c .before .before .before .before .before .before .before .before .before .before .before .before .before .before .before .held-count .ensures in (
-      c .position .ensures ∙ ap (λ (k : ℕ). position (a .z) (a .head) k) n,
-      (c .before .before .before .before .before .before .before .put-masks .ensures ∙ c .before .before .before .before .before .before .before .before .before .before .before .before .commit-bitmaps .ensures ∙ ap (λ (k : ℕ). bitmapsAfter (a .z) (a .bitmap .now) (a .held .now) (a .w) k) n, (c .before .before .before .before .before .put-all .ensures ∙ c .before .before .before .before .before .before .before .before .before .commit-lasts .ensures ∙ ap (λ (k : ℕ). lastsAfter (a .z) (a .head) (a .last .now) (a .held .now) (a .w) k) n, (c .before .set-open .ensures, (c .before .before .before .let-go .ensures)))),
-    )
+returns c =
+    let a = c .before .before .before .before .before .before .before .before .before .before .before .before .before .args in
+    let n = c .before .before .before .before .before .before .before .before .before .before .before .held-count .ensures in
+    let bitmaps = c .before .before .before .before .before .before .before .before .put-bitmaps .ensures ∙ ap (λ (k : ℕ). bitmapsAfter (a .z) (a .bitmap .now) (a .held .now) (a .w) k) n in
+    let lasts = c .before .before .before .before .before .put-lasts .ensures ∙ ap (λ (k : ℕ). lastsAfter (a .z) (a .head) (a .last .now) (a .held .now) (a .w) k) n in
+    (c .position .ensures ∙ ap (λ (k : ℕ). position (a .z) (a .head) k) n, (bitmaps, (lasts, (c .before .set-open .ensures, c .before .before .before .let-go .ensures))))
 
 pub complete-commit-spec : {M : Type 1} → statement M
 complete-commit-spec =
@@ -29,9 +30,7 @@ complete-commit-spec =
     (tie.spec
     (λ c κs. search needs)
     (λ c κs. search needs)
-    commit-lasts-requires
-    (λ c κs. search needs)
-    (λ c κs. search needs)
+    put-lasts-requires
     (λ c κs. search needs)
     (λ c κs. search needs)
     position-requires

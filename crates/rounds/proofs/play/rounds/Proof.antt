@@ -7,10 +7,10 @@ use Rattle.rounds.proofs.play.rounds.Statement.{statement}
 use Rattle.rounds.proofs.play.rounds.Tie as tie
 
 abbrev Inv-loop : tie.InvT-loop
-Inv-loop image₀ n stay z page₀ original₀ spare₀ bitmap₀ last₀ opened₀ held₀ keys₀ at₀ stores₀ end calls i₀ image page original spare bitmap last opened held keys at stores i = Unit {0}
+Inv-loop image₀ n stay z page₀ original₀ spare₀ bitmap₀ last₀ opened₀ held₀ keys₀ at₀ stores₀ end calls taken refused i₀ image page original spare bitmap last opened held keys at stores i = Unit {0}
 
 abbrev μ-loop : tie.MeasureT-loop
-μ-loop image₀ n stay z page₀ original₀ spare₀ bitmap₀ last₀ opened₀ held₀ keys₀ at₀ stores₀ end calls i₀ image page original spare bitmap last opened held keys at stores i = end - i
+μ-loop image₀ n stay z page₀ original₀ spare₀ bitmap₀ last₀ opened₀ held₀ keys₀ at₀ stores₀ end calls taken refused i₀ image page original spare bitmap last opened held keys at stores i = end - i
 
 pub rounds-spec : {M : Type 1} → statement M
 rounds-spec =
