@@ -16,7 +16,7 @@ use layout::Sizes;
 use state::Pending;
 use stores::Places;
 
-// A call's answer, and where head, tail and the next slot to try then are, and who is prepared.
+// A call's answer, and where head, tail and the next slot to try then are, who is prepared, and the wide writer and its entries.
 pub struct Went {
     pub answer: Answer,
     pub to: Places,

@@ -1,8 +1,10 @@
 // A commit, a consolidation and a checkpoint on lent arrays, each run to its end.
 ghost use mathlib.Core.Path.{_≡_};
-ghost use mathlib.Core.Bool.{false};
+ghost use mathlib.Core.Bool.{true, false};
 ghost use lib.ListN.{length};
-ghost use Rattle.operations.specs.Operations.{isIdle};
+ghost use Rattle.bounded.specs.Rows.{refusal};
+ghost use Rattle.operations.specs.Operations.{isIdle, opRows};
+ghost use Rattle.validity.specs.Validity.{opFits};
 ghost use Rattle.refinement.specs.Calls.{commitOf, consolidateOf, checkpointOf};
 ghost use Rattle.in_place.specs.Through.{Through, quietAt, wentTo, askedOf};
 use answers::Answer;
@@ -11,7 +13,7 @@ use layout::Sizes;
 use state::Op;
 use stores::Places;
 
-// Asks for a commit, a consolidation or a checkpoint, and runs it to its end.
+// Asks for a commit, a consolidation or a checkpoint, by the rows of `call`, and runs it to its end. A wide commit is a copying.
 fn ask(
     image: &mut [u8],
     z: Sizes,
@@ -24,10 +26,11 @@ fn ask(
     opened: &mut [bool; 4],
     held: &mut [u64; 64],
     keys: &mut [u64; 64],
+    call: Op,
     op: Op,
 ) -> Went
-    requires { ⌜ isIdle op ≡ false ⌝ }
-    ensures { λ r. ⌜ Through (wentTo z r (now (page .exit)) (now (original .exit)) (now (spare .exit)) (now (bitmap .exit)) (now (last .exit)) (now (opened .exit)) (now (held .exit))) (now (image .exit)) (askedOf (quietAt z at (now (page .entry)) (now (original .entry)) (now (spare .entry)) (now (bitmap .entry)) (now (last .entry)) (now (opened .entry)) (now (held .entry))) (length (now (image .entry))) op) (now (image .entry)) ⌝ }
+    requires { ⌜ (isIdle op ≡ false) × (opFits (at .wide) op ≡ true) × (refusal (opRows (quietAt z at (now page) (now original) (now spare) (now bitmap) (now last) (now opened) (now held) (now keys)) call 0) ≡ 0 → refusal (opRows (quietAt z at (now page) (now original) (now spare) (now bitmap) (now last) (now opened) (now held) (now keys)) op 0) ≡ 0) ⌝ }
+    ensures { λ r. ⌜ Through (wentTo z r (now (page .exit)) (now (original .exit)) (now (spare .exit)) (now (bitmap .exit)) (now (last .exit)) (now (opened .exit)) (now (held .exit)) (now (keys .exit))) (now (image .exit)) (askedOf (quietAt z at (now (page .entry)) (now (original .entry)) (now (spare .entry)) (now (bitmap .entry)) (now (last .entry)) (now (opened .entry)) (now (held .entry)) (now (keys .entry))) (length (now (image .entry))) call op) (now (image .entry)) ⌝ }
 {
     let idle = settled::no_pending();
     let n = image.len();
@@ -48,14 +51,14 @@ fn ask(
         at.count,
         keys,
         idle,
-        op,
+        call,
         n,
     );
     if row != 0 {
         let answer = answers::answer_of(row, 0);
         return Went { answer, to: at };
     }
-    let needed = needs::op_needs(z, at.head, at.tail, page, bitmap, last, held, op);
+    let needed = needs::op_needs(z, at.head, at.tail, page, bitmap, last, held, at.count, op);
     let pending = asking::pending_from(op, [0; 8], [0; 8], 0);
     if needed == 0 {
         let to = stores::complete(
@@ -92,6 +95,7 @@ fn ask(
         last,
         opened,
         held,
+        keys,
         pending,
         needed,
     );
@@ -116,9 +120,10 @@ pub fn commit(
     keys: &mut [u64; 64],
     writer: usize,
 ) -> Went
-    ensures { λ r. ⌜ Through (wentTo z r (now (page .exit)) (now (original .exit)) (now (spare .exit)) (now (bitmap .exit)) (now (last .exit)) (now (opened .exit)) (now (held .exit))) (now (image .exit)) (commitOf (quietAt z at (now (page .entry)) (now (original .entry)) (now (spare .entry)) (now (bitmap .entry)) (now (last .entry)) (now (opened .entry)) (now (held .entry))) (now (image .entry)) writer) (now (image .entry)) ⌝ }
+    ensures { λ r. ⌜ Through (wentTo z r (now (page .exit)) (now (original .exit)) (now (spare .exit)) (now (bitmap .exit)) (now (last .exit)) (now (opened .exit)) (now (held .exit)) (now (keys .exit))) (now (image .exit)) (commitOf (quietAt z at (now (page .entry)) (now (original .entry)) (now (spare .entry)) (now (bitmap .entry)) (now (last .entry)) (now (opened .entry)) (now (held .entry)) (now (keys .entry))) (now (image .entry)) writer) (now (image .entry)) ⌝ }
 {
-    let op = Op::Commit { writer };
+    let call = Op::Commit { writer };
+    let op = finding::commit_op(at.wide, writer);
     ask(
         image,
         z,
@@ -130,6 +135,8 @@ pub fn commit(
         last,
         opened,
         held,
+        keys,
+        call,
         op,
     )
 }
@@ -149,7 +156,7 @@ pub fn consolidate(
     keys: &mut [u64; 64],
     p: usize,
 ) -> Went
-    ensures { λ r. ⌜ Through (wentTo z r (now (page .exit)) (now (original .exit)) (now (spare .exit)) (now (bitmap .exit)) (now (last .exit)) (now (opened .exit)) (now (held .exit))) (now (image .exit)) (consolidateOf (quietAt z at (now (page .entry)) (now (original .entry)) (now (spare .entry)) (now (bitmap .entry)) (now (last .entry)) (now (opened .entry)) (now (held .entry))) (now (image .entry)) p) (now (image .entry)) ⌝ }
+    ensures { λ r. ⌜ Through (wentTo z r (now (page .exit)) (now (original .exit)) (now (spare .exit)) (now (bitmap .exit)) (now (last .exit)) (now (opened .exit)) (now (held .exit)) (now (keys .exit))) (now (image .exit)) (consolidateOf (quietAt z at (now (page .entry)) (now (original .entry)) (now (spare .entry)) (now (bitmap .entry)) (now (last .entry)) (now (opened .entry)) (now (held .entry)) (now (keys .entry))) (now (image .entry)) p) (now (image .entry)) ⌝ }
 {
     let op = Op::Consolidate { page: p };
     ask(
@@ -163,6 +170,8 @@ pub fn consolidate(
         last,
         opened,
         held,
+        keys,
+        op,
         op,
     )
 }
@@ -181,7 +190,7 @@ pub fn checkpoint(
     held: &mut [u64; 64],
     keys: &mut [u64; 64],
 ) -> Went
-    ensures { λ r. ⌜ Through (wentTo z r (now (page .exit)) (now (original .exit)) (now (spare .exit)) (now (bitmap .exit)) (now (last .exit)) (now (opened .exit)) (now (held .exit))) (now (image .exit)) (checkpointOf (quietAt z at (now (page .entry)) (now (original .entry)) (now (spare .entry)) (now (bitmap .entry)) (now (last .entry)) (now (opened .entry)) (now (held .entry))) (now (image .entry))) (now (image .entry)) ⌝ }
+    ensures { λ r. ⌜ Through (wentTo z r (now (page .exit)) (now (original .exit)) (now (spare .exit)) (now (bitmap .exit)) (now (last .exit)) (now (opened .exit)) (now (held .exit)) (now (keys .exit))) (now (image .exit)) (checkpointOf (quietAt z at (now (page .entry)) (now (original .entry)) (now (spare .entry)) (now (bitmap .entry)) (now (last .entry)) (now (opened .entry)) (now (held .entry)) (now (keys .entry))) (now (image .entry))) (now (image .entry)) ⌝ }
 {
     let op = Op::Checkpoint;
     ask(
@@ -195,6 +204,8 @@ pub fn checkpoint(
         last,
         opened,
         held,
+        keys,
+        op,
         op,
     )
 }

@@ -4,7 +4,6 @@ ghost use Rattle.in_place.specs.Through.{Through, quietAt, wentTo};
 use answers::Answer;
 use in_place::Went;
 use layout::Sizes;
-use state::Op;
 use stores::Places;
 
 // Writes the data's first length bytes. It makes no stores if the writer holds the line and no byte of it changes.
@@ -27,7 +26,7 @@ pub fn write(
     length: usize,
     data: &[u8],
 ) -> Went
-    ensures { λ r. ⌜ Through (wentTo z r (now (page .exit)) (now (original .exit)) (now (spare .exit)) (now (bitmap .exit)) (now (last .exit)) (now (opened .exit)) (now (held .exit))) (now (image .exit)) (writeOf (quietAt z at (now (page .entry)) (now (original .entry)) (now (spare .entry)) (now (bitmap .entry)) (now (last .entry)) (now (opened .entry)) (now (held .entry))) (now (image .entry)) writer p line offset length (now («data» .entry))) (now (image .entry)) ⌝ }
+    ensures { λ r. ⌜ Through (wentTo z r (now (page .exit)) (now (original .exit)) (now (spare .exit)) (now (bitmap .exit)) (now (last .exit)) (now (opened .exit)) (now (held .exit)) (now (keys .exit))) (now (image .exit)) (writeOf (quietAt z at (now (page .entry)) (now (original .entry)) (now (spare .entry)) (now (bitmap .entry)) (now (last .entry)) (now (opened .entry)) (now (held .entry)) (now (keys .entry))) (now (image .entry)) writer p line offset length (now («data» .entry))) (now (image .entry)) ⌝ }
 {
     let idle = settled::no_pending();
     let found = finding::write_found(
@@ -59,19 +58,14 @@ pub fn write(
         let answer = answers::answer_of(found.row, 0);
         return Went { answer, to: at };
     }
-    let merged = lines::merged_line(image, z, found.seen, line, offset, data, length);
+    let merged = finding::merged(image, z, found, line, offset, data, length);
     if found.held & !merged.changed {
         let answer = Answer::Taken(0);
         return Went { answer, to: at };
     }
     let words = merged.words;
-    let op = Op::Write {
-        writer,
-        page: p,
-        line,
-        offset,
-        length,
-    };
+    let op = finding::write_op(found.wide, writer, p, line, offset, length);
+    let needed = finding::write_needs(found.wide);
     let pending = asking::pending_from(op, words, [0; 8], found.frame);
     let to = in_place::make_all(
         image,
@@ -84,11 +78,12 @@ pub fn write(
         last,
         opened,
         held,
+        keys,
         pending,
-        8,
+        needed,
     );
     Went {
-        answer: Answer::Taken(8),
+        answer: Answer::Taken(needed),
         to,
     }
 }

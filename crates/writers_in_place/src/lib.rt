@@ -1,8 +1,9 @@
 // Begin and abort on lent arrays.
 ghost use mathlib.Core.Path.{_≡_};
 ghost use Rattle.refinement.specs.Calls.{beginOf, abortOf};
-ghost use Rattle.in_place.specs.Through.{quietAt, answeredAt};
+ghost use Rattle.in_place.specs.Through.{quietAt, answeredAt, wentTo};
 use answers::Answer;
+use in_place::Went;
 use layout::Sizes;
 use stores::Places;
 
@@ -20,7 +21,7 @@ pub fn begin<'a>(
     keys: &'a [u64; 64],
     writer: usize,
 ) -> Answer
-    ensures { λ r. ⌜ answeredAt r (quietAt z at (now (page .entry)) (now (original .entry)) (now (spare .entry)) (now (bitmap .entry)) (now (last .entry)) (now (opened .exit)) (now (held .entry))) ≡ beginOf (quietAt z at (now (page .entry)) (now (original .entry)) (now (spare .entry)) (now (bitmap .entry)) (now (last .entry)) (now (opened .entry)) (now (held .entry))) writer ⌝ }
+    ensures { λ r. ⌜ answeredAt r (quietAt z at (now (page .entry)) (now (original .entry)) (now (spare .entry)) (now (bitmap .entry)) (now (last .entry)) (now (opened .exit)) (now (held .entry)) (now (keys .entry))) ≡ beginOf (quietAt z at (now (page .entry)) (now (original .entry)) (now (spare .entry)) (now (bitmap .entry)) (now (last .entry)) (now (opened .entry)) (now (held .entry)) (now (keys .entry))) writer ⌝ }
 {
     let idle = settled::no_pending();
     let row = writers::writer_row(
@@ -61,10 +62,10 @@ pub fn abort<'a>(
     last: &'a [usize; 16],
     opened: &mut [bool; 4],
     held: &mut [u64; 64],
-    keys: &'a [u64; 64],
+    keys: &mut [u64; 64],
     writer: usize,
-) -> Answer
-    ensures { λ r. ⌜ answeredAt r (quietAt z at (now (page .entry)) (now (original .entry)) (now (spare .entry)) (now (bitmap .entry)) (now (last .entry)) (now (opened .exit)) (now (held .exit))) ≡ abortOf (quietAt z at (now (page .entry)) (now (original .entry)) (now (spare .entry)) (now (bitmap .entry)) (now (last .entry)) (now (opened .entry)) (now (held .entry))) writer ⌝ }
+) -> Went
+    ensures { λ r. ⌜ wentTo z r (now (page .entry)) (now (original .entry)) (now (spare .entry)) (now (bitmap .entry)) (now (last .entry)) (now (opened .exit)) (now (held .exit)) (now (keys .exit)) ≡ abortOf (quietAt z at (now (page .entry)) (now (original .entry)) (now (spare .entry)) (now (bitmap .entry)) (now (last .entry)) (now (opened .entry)) (now (held .entry)) (now (keys .entry))) writer ⌝ }
 {
     let idle = settled::no_pending();
     let row = writers::writer_row(
@@ -88,9 +89,18 @@ pub fn abort<'a>(
         true,
     );
     if row != 0 {
-        return answers::answer_of(row, 0);
+        let answer = answers::answer_of(row, 0);
+        return Went { answer, to: at };
     }
     state::held::set_open(opened, writer, false);
     state::held::let_go(z, held, writer);
-    Answer::Taken(0)
+    let answer = Answer::Taken(0);
+    if at.wide != writer {
+        return Went { answer, to: at };
+    }
+    *keys = [0u64; 64];
+    let mut to = at;
+    to.wide = 4;
+    to.count = 0;
+    Went { answer, to }
 }

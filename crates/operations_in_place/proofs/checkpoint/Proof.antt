@@ -8,4 +8,7 @@ unfolding checkpointOf
 returns c = c .before .before .ask .ensures
 
 pub checkpoint-spec : {M : Type 1} → statement M
-checkpoint-spec = tie.close (tie.spec (λ c κs. search needs) (λ c. search needs) returns)
+checkpoint-spec = tie.close (tie.spec
+    (λ c κs. search needs)
+    (λ c. search needs)
+    returns)

@@ -8,4 +8,7 @@ unfolding consolidateOf
 returns c = c .before .before .ask .ensures
 
 pub consolidate-spec : {M : Type 1} → statement M
-consolidate-spec = tie.close (tie.spec (λ c κs. search needs) (λ c. search needs) returns)
+consolidate-spec = tie.close (tie.spec
+    (λ c κs. search needs)
+    (λ c. search needs)
+    returns)

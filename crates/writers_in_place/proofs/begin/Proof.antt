@@ -21,7 +21,7 @@ use Rattle.writers_in_place.proofs.begin.Tie as tie
 abbrev st : tie.Start → State
 st c =
     let a = c .args in
-    quietAt (a .z) (a .at) (a .page .now) (a .original .now) (a .spare .now) (a .bitmap .now) (a .last .now) (a .opened .now) (a .held .now)
+    quietAt (a .z) (a .at) (a .page .now) (a .original .now) (a .spare .now) (a .bitmap .now) (a .last .now) (a .opened .now) (a .held .now) (a .keys .now)
 
 -- the row that was found, of a state with nothing pending
 row : (c : tie.After-writer-row) → let s = c .before .before .before in c .writer-row .result ≡ refusal (beginRows (st s) (s .args .writer))
@@ -45,7 +45,13 @@ returns-2 c =
     let s = c .before .before .before .before .before .before in
     let a = s .args in
     writer-taken (st s) (withWriters (st s) (opening (st s) (s .args .writer))) (beginRows (st s) (a .writer)) _ (row (c .before .before .before)) _ (c .before .before .if1 .left)
-    (ap (λ (o : List Bool). quietAt (a .z) (a .at) (a .page .now) (a .original .now) (a .spare .now) (a .bitmap .now) (a .last .now) o (a .held .now)) (c .set-open .ensures))
+    (ap (λ (o : List Bool). quietAt (a .z) (a .at) (a .page .now) (a .original .now) (a .spare .now) (a .bitmap .now) (a .last .now) o (a .held .now) (a .keys .now)) (c .set-open .ensures))
 
 pub begin-spec : {M : Type 1} → statement M
-begin-spec = tie.close (tie.spec (λ c κs. search needs) (λ c κs. search needs) (λ c κs. search needs) returns set-open-requires returns-2)
+begin-spec = tie.close (tie.spec
+    (λ c κs. search needs)
+    (λ c κs. search needs)
+    (λ c κs. search needs)
+    returns
+    set-open-requires
+    returns-2)
