@@ -5,7 +5,7 @@ use mathlib.Core.Path.{_≡_, sym, ap, _∙_}
 use native.Mathlib.Omega.{arith}
 use lib.Dec.{eqb}
 use lib.ListN.{length}
-use borrow.Author.Tests.{not-false}
+use borrow.Author.Tests.{not-false, eq-eqb, ne-eqb}
 use Rattle.bounded.specs.Rows.{refusal}
 use Rattle.bounded.proofs.Rows.{none-apply}
 use Rattle.bounded.proofs.Tests.{caseOn}
@@ -21,8 +21,15 @@ use Rattle.state.specs.declared.State.{State}
 use Rattle.refinement.specs.Outcome.{answered}
 use Rattle.answers.specs.Answers.{outcomeOf}
 use Rattle.answers.specs.declared.Done.{Done}
-use Rattle.refinement.specs.Mount.{quietState, noState, mountedState, mountCall, freshState, formatCall}
+use Rattle.refinement.specs.Mount.{quietState, copyingState, noState, mountedState, mountCall, freshState, formatCall}
 use Rattle.answers.proofs.Answered.{row-known, call-refused, call-taken}
+
+-- the state of a mount: quiet where no entry is counted, else copying
+pub mounted-quiet : (m : Mounted) → m .count ≡ 0 → quietState (m .sizes) (m .head) (m .tail) (m .table) ≡ mountedState m
+mounted-quiet m h = rw (eq-eqb (m .count) 0 h)
+
+pub mounted-copying : (m : Mounted) → (m .count ≡ 0 → ⊥) → copyingState (m .sizes) (m .head) (m .tail) (m .table) (m .count) (m .keys) ≡ mountedState m
+mounted-copying m h = rw (ne-eqb (m .count) 0 h)
 
 -- m is what the code found
 module _ (img : List ℕ) (m : Mounted) (e : m ≡ mountOf img) where
@@ -37,7 +44,7 @@ module _ (img : List ℕ) (m : Mounted) (e : m ≡ mountOf img) where
   mount-refused d s a n h =
       call-refused d (mountOf img .row) 0 noState (mountedState (mountOf img)) (λ q. n (ap (λ (x : Mounted). x .row) e ∙ q)) (rw (a, e) at h)
 
-  pub mount-done : (d : Done) (s : State) → s ≡ quietState (m .sizes) (m .head) (m .tail) (m .table) → m .row ≡ 0 → outcomeOf d ≡ answered 0 s 0 s → outcomeOf d ≡ mountCall img
+  pub mount-done : (d : Done) (s : State) → s ≡ mountedState m → m .row ≡ 0 → outcomeOf d ≡ answered 0 s 0 s → outcomeOf d ≡ mountCall img
   unfolding mountCall
   mount-done d s a z h =
       call-taken d (mountOf img .row) 0 noState (mountedState (mountOf img)) (sym (ap (λ (x : Mounted). x .row) e) ∙ z) (rw (a, e) at h)
