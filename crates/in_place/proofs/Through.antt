@@ -13,7 +13,7 @@ use Rattle.layout.specs.Layout.{imageLength}
 use Rattle.state.specs.declared.State.{State}
 use Rattle.state.specs.declared.Op.{Op}
 use Rattle.operations.specs.Operations.{isIdle, opRows, needs}
-use Rattle.validity.specs.Validity.{stateOk}
+use Rattle.validity.specs.Validity.{opFits, stateOk}
 use Rattle.refinement.specs.Stores.{completed, storesMade, steppedBy, left}
 use Rattle.refinement.specs.Outcome.{Outcome, answered}
 use Rattle.refinement.specs.Calls.{withPending, worldOf, asked, stepRows, stepRow, runOf, runBytes}
@@ -32,6 +32,7 @@ through-refused st img rs row n after e z done h =
 pub record Ready (st : State) (img : List ℕ) (op : Op) (frame : ℕ) : Type 0 where
   pub ok : stateOk st ≡ true
   pub long : imageLength (st .sizes) ≤ length img
+  pub fits : opFits (st .wide .writer) op ≡ true
   pub rows : refusal (opRows st op frame) ≡ 0
   pub busy : isIdle op ≡ false
   pub some : 0 < needs st op
@@ -40,7 +41,7 @@ module _ (st : State) (img : List ℕ) (op : Op) (line : List ℕ) (frame : ℕ)
   -- the run to its end is not turned back, and makes all that it needs
   module _ (r : Ready st img op frame) where
     pub ready-valid : stateOk (withPending st op line frame) ≡ true
-    ready-valid = pending-valid st line frame op (r .ok) (r .rows) (r .some)
+    ready-valid = pending-valid st line frame op (r .ok) (r .fits) (r .rows) (r .some)
 
     run-taken : stepRow (withPending st op line frame) img ≡ 0
     run-taken =

@@ -13,6 +13,7 @@ use Rattle.state.specs.declared.State.{State}
 use Rattle.state.specs.declared.Op.{Op}
 use Rattle.operations.specs.Operations.{opRows}
 use Rattle.state.specs.Parts.{stateOf}
+use Rattle.state.specs.Wide.{wideOf}
 use Rattle.refinement.specs.Settled.{noPending}
 use Rattle.refinement.specs.Outcome.{Outcome}
 use Rattle.refinement.specs.Calls.{quietRows, asked, worldOf, runOf, runBytes}
@@ -36,18 +37,18 @@ Through done after o img = (done ≡ throughOf o img) × (after ≡ throughBytes
 abbrev pub InLists : Type 0
 InLists = (o : Outcome) (img : List ℕ) → exec (run (o .stores)) (worldOf (o .state) img) .world ≡ worldOf (throughOf o img .state) (throughBytes o img)
 
--- the state with these parts, at head, tail, next slot and prepared writer, and nothing pending
-abbrev pub quietAt : Sizes → Places → List ℕ → List ℕ → List ℕ → List ℕ → List ℕ → List Bool → List ℕ → State
-quietAt z at page original spare bitmap last opened held =
-    stateOf z (at .head) (at .tail) (at .next) page original spare bitmap last opened held (at .prepared) noPending
+-- the state with these parts, at head, tail, next slot, prepared writer and wide transaction, and nothing pending
+abbrev pub quietAt : Sizes → Places → List ℕ → List ℕ → List ℕ → List ℕ → List ℕ → List Bool → List ℕ → List ℕ → State
+quietAt z at page original spare bitmap last opened held keys =
+    stateOf z (at .head) (at .tail) (at .next) page original spare bitmap last opened held (at .prepared) (wideOf (at .wide) (at .count) keys) noPending
 
 -- an answer with the state after the call
 abbrev pub answeredAt : Answer → State → Outcome
 answeredAt a st = record { number = numberOf a; stores = storesOf a; state = st }
 
 -- what comes of a call: the arrays are as it leaves them
-abbrev pub wentTo : Sizes → Went → List ℕ → List ℕ → List ℕ → List ℕ → List ℕ → List Bool → List ℕ → Outcome
-wentTo z r page original spare bitmap last opened held = answeredAt (r .answer) (quietAt z (r .to) page original spare bitmap last opened held)
+abbrev pub wentTo : Sizes → Went → List ℕ → List ℕ → List ℕ → List ℕ → List ℕ → List Bool → List ℕ → List ℕ → Outcome
+wentTo z r page original spare bitmap last opened held keys = answeredAt (r .answer) (quietAt z (r .to) page original spare bitmap last opened held keys)
 
 -- a commit, a consolidation or a checkpoint asked for, of an image of n bytes
 abbrev pub askedOf : State → ℕ → Op → Outcome

@@ -1,6 +1,7 @@
 use Rattle.state.specs.declared.State.{State}
 use Rattle.state.specs.Parts.{stateOf}
 use Rattle.state.specs.Wide.{wideOf}
+use Rattle.refinement.proofs.StateValid.{valid}
 use Rattle.refinement.proofs.Going.{going}
 use native.Mathlib.Omega.{arith}
 use lib.ListN.{length}
@@ -16,14 +17,14 @@ st c =
 
 make-stores-requires : tie.Need-make-stores-requires
 make-stores-requires c κs =
-    let s = c .before .before .before .before .before .before .before .before .before .before .before .before .before .before .before .before .before .before .before .before .before .before .before in
-    let pages = c .before .before .before .before .before .before .before .before .before .before .before .before .before .before .before .before .before .before .before .before .sixteen in
-    let originals = c .before .before .before .before .before .before .before .before .before .before .before .before .before .before .before .before .before .before .sixteen2 in
-    let spares = c .before .before .before .before .before .before .before .before .before .before .before .before .before .before .before .before .sixteen3 in
-    let lasts = c .before .before .before .before .before .before .before .before .before .before .before .before .before .before .sixteen4 in
-    let bitmaps = c .before .before .before .before .before .before .before .before .before .before .before .before .sixteen-masks in
-    let opened = c .before .before .before .before .before .before .before .before .before .before .four in
-    let held = c .before .before .before .before .before .before .before .before .sixty-four in
+    let s = c .before .before .before .before .before .before .before .before .before .before .before .before .before .before .before .before .before .before .before .before .before .before .before .before in
+    let pages = c .before .before .before .before .before .before .before .before .before .before .before .before .before .before .before .before .before .before .before .before .before .sixteen in
+    let originals = c .before .before .before .before .before .before .before .before .before .before .before .before .before .before .before .before .before .before .before .sixteen2 in
+    let spares = c .before .before .before .before .before .before .before .before .before .before .before .before .before .before .before .before .before .sixteen3 in
+    let lasts = c .before .before .before .before .before .before .before .before .before .before .before .before .before .before .before .sixteen4 in
+    let bitmaps = c .before .before .before .before .before .before .before .before .before .before .before .before .before .sixteen-masks in
+    let opened = c .before .before .before .before .before .before .before .before .before .before .before .four in
+    let held = c .before .before .before .before .before .before .before .before .before .sixty-four in
     let pages-known : length (pages .result) ≡ 16 = search needs in
     let originals-known : length (originals .result) ≡ 16 = search needs in
     let spares-known : length (spares .result) ≡ 16 = search needs in
@@ -47,9 +48,9 @@ make-stores-requires c κs =
     )
 
 complete-requires : tie.Need-complete-requires
-complete-requires c κs = let s = c .before .before .before .before .before .before .before .before .before .before .before .before .before .before .before .before .before .before .before .before .before .before .before .before .before .before .before .before .before .before .before .before .before in
+complete-requires c κs = let s = c .before .before .before .before .before .before .before .before .before .before .before .before .before .before .before .before .before .before .before .before .before .before .before .before .before .before .before .before .before .before .before .before .before .before .before in
     let g = going (st s) (s .pre .0) (s .pre .1) in
-    (g .ranges, g .taken, s .pre .1)
+    (g .ranges, g .taken, s .pre .1, valid (st s) (s .pre .0) .entries .few)
 
 pub make-all-spec : {M : Type 1} → statement M
 make-all-spec =
