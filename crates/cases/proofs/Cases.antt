@@ -9,6 +9,8 @@ use Rattle.journal.specs.Records.{liveRecord, recordsOk}
 use Rattle.replay.specs.Table.{tableFrom, replay, frameNames}
 use Rattle.mount.specs.Mount.{mountRead, mountOf}
 use Rattle.masks.specs.Lines.{inMask, withLine, exclusiveOr, disjoint, others, linesIn, countLines, linesNotIn}
+use Rattle.entries.specs.Entries.{keysFrom, entriesOk}
+use Rattle.state.specs.Wide.{wideOk}
 use Rattle.state.specs.Held.{heldOk, othersHold, someHold, heldSlots}
 use Rattle.operations.specs.Operations.{copyCount, recordedSlots, needs}
 use Rattle.state.specs.Slots.{freeAfter, frameOfSlot, framesApart}
@@ -25,5 +27,5 @@ use Rattle.refinement.specs.Run.{exec, after}
 use Rattle.cases.specs.Cases.{words, seen, fresh, formats, mounts, finds, gives, copies, case, cases, computedAll, statedAll}
 
 pub every-case : computedAll cases ≡ statedAll cases
-unfolding allBelow someBelow firstBelow one countBelow those upTo countOf eachOnce tab filled leOf bytesOf part over wordAt putWord wordsAt flat freshWords formatted freshTable liveRecord recordsOk tableFrom replay frameNames mountRead mountOf inMask withLine exclusiveOr disjoint others linesIn countLines linesNotIn heldOk othersHold someHold heldSlots copyCount recordedSlots needs freeAfter frameOfSlot framesApart slotsOk lastsOk preparedOk pendingOk stateOk checkpointAtOf checkpointValueOf commitRecordOf commitAtOf commitValueOf closedWriter freeingRecord consolidateAt consolidateValue pageFrame seenFrame stepped steppedBy writeSlot beginOf abortOf changesNothing writeOf commitOf consolidateOf checkpointOf readRow readBytes runOf runBytes stepOf stepBytes formatCall mountCall exec after words seen fresh formats mounts finds gives copies case cases computedAll statedAll
+unfolding allBelow someBelow firstBelow one countBelow those upTo countOf eachOnce tab filled leOf bytesOf part over wordAt putWord wordsAt flat freshWords formatted freshTable liveRecord recordsOk tableFrom replay frameNames keysFrom entriesOk mountRead mountOf inMask withLine exclusiveOr disjoint others linesIn countLines linesNotIn wideOk heldOk othersHold someHold heldSlots copyCount recordedSlots needs freeAfter frameOfSlot framesApart slotsOk lastsOk preparedOk pendingOk stateOk checkpointAtOf checkpointValueOf commitRecordOf commitAtOf commitValueOf closedWriter freeingRecord consolidateAt consolidateValue pageFrame seenFrame stepped steppedBy writeSlot beginOf abortOf changesNothing writeOf commitOf consolidateOf checkpointOf readRow readBytes runOf runBytes stepOf stepBytes formatCall mountCall exec after words seen fresh formats mounts finds gives copies case cases computedAll statedAll
 every-case = refl

@@ -56,9 +56,9 @@ module _ (st : State) (img : List ℕ) (p l o n : ℕ) (bytes : List ℕ) (r : F
       → WriteFound st img w p l o n bytes r
   unfolding pageFrame seenFrame
   narrow-found w b f = (
-        rows-then (quietRows st (length img) ++ ((ltb (length bytes) n, 11) ∷ [])) (cond (isWide (st .wide) w) (logRows st p l o n (pageFrame st img p)) (writeRows st w p l o n (pageFrame st img p))) (r .row) past (rw b (f .0)),
-        λ z. let g = f .1 z in (g .0, rw (b, g .0) (g .1), rw b (g .2), g .3 ∙ sym b),
-      )
+    rows-then (quietRows st (length img) ++ ((ltb (length bytes) n, 11) ∷ [])) (cond (isWide (st .wide) w) (logRows st p l o n (pageFrame st img p)) (writeRows st w p l o n (pageFrame st img p))) (r .row) past (rw b (f .0)),
+    λ z. let g = f .1 z in (g .0, rw (b, g .0) (g .1), rw b (g .2), g .3 ∙ sym b),
+  )
 
 -- the line that was found is the one that the writer sees
 pub found-seen : (st : State) (img : List ℕ) (w p l o n : ℕ) (bytes : List ℕ) (r : Found) → WriteFound st img w p l o n bytes r → r .row ≡ 0

@@ -1,5 +1,5 @@
--- What recall gives: mount's number, or row 11's, or the committed line. A taken mount's names name each frame once, so the frame of
--- that line is one of the F.
+-- What recall gives: mount's number, or row 11's, or the committed line, which is that of its entry where one is counted. A taken mount's names name each
+-- frame once, so the frame of that line is one of the F; its entries are at most L.
 use Prim.Native.Nat.{ℕ, _<_, _≤_}
 use mathlib.Core.Bool.{Bool, true, false, _||_, cond}
 use mathlib.Core.List.{List, [], _∷_}
@@ -7,7 +7,7 @@ use mathlib.Core.Path.{_≡_, refl, sym, ap, _∙_, subst}
 use native.Mathlib.Omega.{arith}
 use lib.Dec.{ltb, leb, eqb}
 use lib.ListN.{length}
-use borrow.Author.Tests.{ltb-true, ltb-false, leb-false, eqb-true, eq-eqb, ne-eqb}
+use borrow.Author.Tests.{ltb-true, ltb-false, leb-false, eqb-true, eq-eqb, ne-eqb, lt-ltb, le-ltb}
 use Rattle.bounded.specs.Count.{Once}
 use Rattle.bounded.specs.Rows.{Row, refusal}
 use Rattle.bounded.proofs.Rows.{none-apply}
@@ -18,12 +18,15 @@ use Rattle.image.specs.Lines.{lineBytes}
 use Rattle.words.specs.Words.{word, over}
 use Rattle.mount.specs.declared.Mounted.{Mounted}
 use Rattle.replay.specs.declared.Table.{Table}
-use Rattle.mount.specs.Mount.{mountOf, mountRead, mountRows, sizesFrom, found}
+use Rattle.entries.specs.Entries.{keyOf, entryOf}
+use Rattle.entries.proofs.EntryLaws.{entries-right}
+use Rattle.mount.specs.Mount.{mountOf, mountRead, mountRows, sizesFrom, countFrom, keysAfter, found}
 use Rattle.replay.specs.Table.{slotIn, slotOf, frameNames}
 use Rattle.mount.proofs.Verdict.{mount-taken, taken-mount}
 use Rattle.mount.proofs.View.{viewOf}
 use Rattle.masks.specs.Lines.{inMask}
 use Rattle.refinement.proofs.NamesOnce.{spare-low, home-low}
+use Rattle.refinement.specs.Wide.{entryBytes}
 use Rattle.refinement.specs.Recall.{frameOf, recallRow, recallBytes}
 use Rattle.answers.proofs.Answered.{rows-first, rows-then}
 
@@ -87,9 +90,12 @@ module _ (img : List ℕ) (p l : ℕ) (target : List ℕ) where
     pub page-low : p < m .sizes .pages
     pub line-low : l < 64
     pub target-long : 64 ≤ length target
+    pub few : m .count ≤ m .sizes .entries
     pub low : (f : ℕ) → f ≡ frameOf (word img) (m .sizes) (m .table) p l → f < frames (m .sizes)
     pub answer : 0 ≡ recallRow img p l target
-    pub line : (f : ℕ) → f ≡ frameOf (word img) (m .sizes) (m .table) p l → over target 0 (lineBytes img (m .sizes) f l) ≡ recallBytes img p l target
+    pub entry : (e : ℕ) → e ≡ entryOf (m .keys) (m .count) (keyOf p l) → e < m .count → over target 0 (entryBytes img (m .sizes) e) ≡ recallBytes img p l target
+    pub line : (e f : ℕ) → e ≡ entryOf (m .keys) (m .count) (keyOf p l) → m .count ≤ e → f ≡ frameOf (word img) (m .sizes) (m .table) p l
+        → over target 0 (lineBytes img (m .sizes) f l) ≡ recallBytes img p l target
 
   found-recalled : mountOf img .row ≡ 0 → argsBad (sizesFrom (word img) .pages) ≡ false → Recalled (found (word img))
   unfolding frameNames recallBytes
@@ -99,6 +105,7 @@ module _ (img : List ℕ) (p l : ℕ) (target : List ℕ) where
       let h = mount-taken img (viewOf r) refl z in
       let a = or-left (leb pages p || ltb 63 l) (ltb (length target) 64) b in
       let q : p < pages = leb-false pages p (or-left (leb pages p) (ltb 63 l) a) in
+      let taken : eqb (recallRow img p l target) 0 ≡ true = eq-eqb (recallRow img p l target) 0 (sym (number false b z)) in
       record {
         legal = h .legal;
         fits = h .fits;
@@ -107,7 +114,13 @@ module _ (img : List ℕ) (p l : ℕ) (target : List ℕ) where
         target-long = ltb-false (length target) 64 (or-right (leb pages p || ltb 63 l) (ltb (length target) 64) b);
         low = λ f e. rw e (frame-low r (sizesFrom r) (viewOf r .table) (h .names) p l q);
         answer = number false b z;
-        line = λ f e. rw (e, eq-eqb (recallRow img p l target) 0 (sym (number false b z)));
+        few = entries-right (sizesFrom r) (viewOf r .keys) (viewOf r .count) (h .entries) .few;
+        entry = λ e q c.
+            let t : ltb (entryOf (keysAfter r) (countFrom r) (keyOf p l)) (countFrom r) ≡ true = rw (← q) (lt-ltb e (countFrom r) c) in
+            rw (q, taken, t);
+        line = λ e f q c g.
+            let t : ltb (entryOf (keysAfter r) (countFrom r) (keyOf p l)) (countFrom r) ≡ false = rw (← q) (le-ltb e (countFrom r) c) in
+            rw (g, taken, t);
       }
 
   pub recalled : (m : Mounted) → m ≡ mountOf img → m .row ≡ 0 → argsBad (m .sizes .pages) ≡ false → Recalled m

@@ -66,7 +66,16 @@ pub fn complete(
         } => {
             let f = pending.frame;
             to.next = writes::complete_write(
-                z, next, page, original, bitmap, held, f, writer, p, line,
+                z,
+                next,
+                page,
+                original,
+                bitmap,
+                held,
+                f,
+                writer,
+                p,
+                line,
             );
             to
         }
@@ -77,7 +86,14 @@ pub fn complete(
         }
         Op::Consolidate { page: p } => {
             to.head = consolidations::complete_consolidate(
-                z, head, page, original, spare, bitmap, last, p,
+                z,
+                head,
+                page,
+                original,
+                spare,
+                bitmap,
+                last,
+                p,
             );
             to
         }
@@ -92,8 +108,21 @@ pub fn complete(
             amount: _,
         } => {
             let moved = event_stores::complete_event(
-                z, head, tail, next, page, original, spare, bitmap, last, opened, held, prepared,
-                pending, kind, meter,
+                z,
+                head,
+                tail,
+                next,
+                page,
+                original,
+                spare,
+                bitmap,
+                last,
+                opened,
+                held,
+                prepared,
+                pending,
+                kind,
+                meter,
             );
             to.head = moved.head;
             to.next = moved.next;
