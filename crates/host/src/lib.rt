@@ -18,9 +18,9 @@ pub fn begin_in(st: &mut State, writer: usize) -> Answer
 pub fn begin_wide_in(st: &mut State, writer: usize) -> Answer
     ensures { λ r. ⌜ outcomeIn r (now (st .exit)) ≡ beginWideOf (now (st .entry)) writer ⌝ }
 {
-    let begun = writers::begin_wide(*st, writer);
-    *st = begun.state;
-    begun.answer
+    let wide = writers::begin_wide(*st, writer);
+    *st = wide.state;
+    wide.answer
 }
 
 // Closes a writer and empties its held lines.
