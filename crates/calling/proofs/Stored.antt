@@ -2,7 +2,7 @@
 use Prim.Native.Nat.{ℕ}
 use mathlib.Core.Path.{_≡_, refl}
 use Rattle.answers.specs.Answers.{storesOf}
-use Rattle.answers.specs.declared.Answer.the-variants.{Taken, ImageTooShort, UnknownLayout, SizesOutOfRange, BufferTooShort, BadPositions, BadRecord, BadSlots, BadState, OperationPending, NothingPending, BadArgument, WriterOpen, WriterNotOpen, LineHeld, NoFreeSlot, BadFrame, PageWithoutSlot, PageHeld, JournalFull, UnknownEvent, AmountOutOfRange, NoSlotToFree, TransactionPrepared, WriterNotPrepared, BadTableLine, ModulusOutOfRange, MeterNotBelow}
+use Rattle.answers.specs.declared.Answer.the-variants.{Taken, ImageTooShort, UnknownLayout, SizesOutOfRange, BufferTooShort, BadPositions, BadRecord, BadSlots, BadState, OperationPending, NothingPending, BadArgument, WriterOpen, WriterNotOpen, LineHeld, NoFreeSlot, BadFrame, PageWithoutSlot, PageHeld, JournalFull, UnknownEvent, AmountOutOfRange, NoSlotToFree, TransactionPrepared, WriterNotPrepared, BadTableLine, ModulusOutOfRange, MeterNotBelow, NoWideRounds, OtherOpen, EntriesUsed}
 use Rattle.answers.specs.declared.Answer.{Answer}
 
 -- an answer that is not taken has none
@@ -35,3 +35,6 @@ stores-none WriterNotPrepared h = refl
 stores-none BadTableLine h = refl
 stores-none ModulusOutOfRange h = refl
 stores-none MeterNotBelow h = refl
+stores-none NoWideRounds h = refl
+stores-none OtherOpen h = refl
+stores-none EntriesUsed h = refl

@@ -1,29 +1,30 @@
 -- An event asked for: its rows by what the code finds, its finished lines, and what comes of it.
 use Prim.Native.Nat.{ℕ, _<_}
-use mathlib.Core.Bool.{true, false}
+use mathlib.Core.Bool.{true, false, cond}
 use mathlib.Core.List.{List, [], _∷_, _++_}
 use mathlib.Core.Path.{_≡_, refl, sym, ap, ap₂, _∙_}
 use native.Mathlib.Omega.{arith}
-use lib.ListN.{length}
-use borrow.Author.Tests.{not-false}
+use lib.ListN.{length, replicate}
+use borrow.Author.Tests.{not-false, ne-eqb, ltb-false}
 use Rattle.bounded.specs.Rows.{Row, refusal, Past}
 use Rattle.bounded.proofs.Rows.{none-apply, row-none}
 use Rattle.bounded.proofs.Tests.{row-yes, row-no}
 use Rattle.layout.specs.Layout.{frames}
-use Rattle.words.specs.Words.{bytesOf, putWord}
+use Rattle.words.specs.Words.{bytesOf, putWord, wordAt}
 use Rattle.words.proofs.Bytes.{length-bytes}
 use Rattle.words.proofs.Parts.{over-whole}
 use Rattle.image.specs.Lines.{lineBytes, merged, lineWords}
-use Rattle.meters.specs.Meters.{moduliOk, eventKnown, firstMeter, eventNeeds, firstNumber, amountBad}
+use Rattle.meters.specs.Meters.{moduliOk, eventKnown, movesCredit, firstMeter, ownMeter, rolled, eventNeeds, firstNumber, amountBad}
 use Rattle.state.specs.declared.State.{State}
 use Rattle.state.specs.declared.Pending.{Pending}
+use Rattle.state.specs.Wide.{someWide, isWide}
 use Rattle.state.specs.declared.Op.the-variants.{Event}
 use Rattle.operations.specs.Operations.{slotFor, journalFull, frameBad, eventNextRows}
 use Rattle.operations.proofs.Taken.{EventTaken, event-taken}
 use Rattle.refinement.specs.Frames.{pageFrame, seenFrame}
 use Rattle.refinement.specs.Settled.{withLines}
 use Rattle.refinement.specs.Outcome.{answered}
-use Rattle.refinement.specs.Calls.{quietRows, meterIn, eventLine, eventSecond, eventCallRows, eventOf}
+use Rattle.refinement.specs.Calls.{quietRows, seenLine, meterIn, eventLine, eventSecond, eventCallRows, eventOf}
 use Rattle.refinement.proofs.EventRows.{event-op-row, event-amount, event-moduli}
 use Rattle.refinement.proofs.Going.{ranges-of, shapes-of}
 use Rattle.refinement.proofs.Quiet.{Quiet, quiet}
@@ -39,17 +40,19 @@ use Rattle.events.specs.declared.Found.{Found}
 -- what the rows up to 26 tell
 pub record Started (st : State) (n : ℕ) (ms : List ℕ) (k m : ℕ) : Type 0 where
   pub quiet : Quiet st n
+  pub narrow : someWide (st .wide .writer) ≡ false
   pub known : eventKnown k m ≡ true
   pub moduli : moduliOk ms ≡ true
-  pub past : Past (startRows st n ms k m) 5
+  pub past : Past (startRows st n ms k m) 6
 
 pub started : (st : State) (n : ℕ) (ms : List ℕ) (k m row : ℕ) → row ≡ refusal (startRows st n ms k m) → row ≡ 0 → Started st n ms k m
 started st n ms k m row e z =
     let h = none-apply (startRows st n ms k m) (omega arith) (sym e ∙ z) in
     record {
       quiet = quiet st n 0 (row-none (quietRows st n) (h .0, (h .1 .0, (h .1 .1 .0, tt)))) refl;
-      known = not-false (eventKnown k m) (h .1 .1 .1 .0);
-      moduli = not-false (moduliOk ms) (h .1 .1 .1 .1 .0);
+      narrow = h .1 .1 .1 .0;
+      known = not-false (eventKnown k m) (h .1 .1 .1 .1 .0);
+      moduli = not-false (moduliOk ms) (h .1 .1 .1 .1 .1 .0);
       past = h;
     }
 
@@ -98,6 +101,12 @@ line-frame st n l f q good =
 
 -- ---- numbers and lines
 
+-- with no wide transaction, writer 1 sees a line of page 0 in a frame
+pub narrow-line : (st : State) (img : List ℕ) (l : ℕ) → someWide (st .wide .writer) ≡ false → lineBytes img (st .sizes) (seenFrame st 1 0 l (pageFrame st img 0)) l ≡ seenLine st img 1 0 l
+narrow-line st img l e =
+    let other : isWide (st .wide) 1 ≡ false = ne-eqb (st .wide .writer) 1 (λ q. omega (arith, q, ltb-false (st .wide .writer) 4 e)) in
+    rw other
+
 -- eight bytes with a number put into them are its bytes
 pub number-bytes : (v : ℕ) (l d : List ℕ) → length l ≡ 8 → d ≡ putWord l 0 v → d ≡ bytesOf 8 v
 unfolding putWord
@@ -121,11 +130,17 @@ module _ (st : State) (img ms : List ℕ) (k m a : ℕ) (d : Done) (found : Foun
   unfolding eventOf
   event-asked v l n line second q z ev el eline esecond eq en h =
       let g = f .1 z in
+      let narrow : someWide (st .wide .writer) ≡ false = none-apply (eventCallRows st img ms k m a) (omega arith) (sym (f .0) ∙ z) .1 .1 .1 .0 in
+      let v₀ : ℕ = firstNumber ms k m (meterIn st img (firstMeter k m)) a in
       let one : line ≡ eventLine st img ms k m a =
       eline
       ∙ ap₂ (λ (x y : ℕ). lineWords (merged (lineBytes img (st .sizes) (found .first) x) 0 8 (bytesOf 8 y))) el (ev ∙ ap (λ (s : ℕ). firstNumber ms k m s a) (g .3))
-      ∙ ap (λ (x : ℕ). lineWords (merged (lineBytes img (st .sizes) x (firstMeter k m)) 0 8 (bytesOf 8 (firstNumber ms k m (meterIn st img (firstMeter k m)) a)))) (g .1) in
-      let two : second ≡ eventSecond st img ms k m a = esecond ∙ ap (λ (x : ℕ). secondOf img ms (st .sizes) x k m a) (g .2) in
+      ∙ ap (λ (x : ℕ). lineWords (merged (lineBytes img (st .sizes) x (firstMeter k m)) 0 8 (bytesOf 8 v₀))) (g .1)
+      ∙ ap (λ (x : List ℕ). lineWords (merged x 0 8 (bytesOf 8 v₀))) (narrow-line st img (firstMeter k m) narrow) in
+      let two : second ≡ eventSecond st img ms k m a = 
+      esecond
+      ∙ ap (λ (x : ℕ). secondOf img ms (st .sizes) x k m a) (g .2)
+      ∙ ap (λ (x : List ℕ). cond (movesCredit k) (lineWords (merged x 0 8 (bytesOf 8 (rolled ms (ownMeter k m) (wordAt x 0) a)))) (replicate 8 0)) (narrow-line st img (ownMeter k m) narrow) in
       let pending : q ≡ record { op = Event k m a; made = 0; line = eventLine st img ms k m a; second = eventSecond st img ms k m a; frame = pageFrame st img 0 } = eq ∙ rw (one, two, g .0) in
       taken-by d (eventCallRows st img ms k m a) (found .row) (eventNeeds k) st after (f .0) z
       (h ∙ ap₂ (λ (i : ℕ) (p : Pending). answered 0 (record { sizes = st .sizes; head = st .head; tail = st .tail; next = st .next; table = st .table; writers = st .writers; wide = st .wide; pending = p }) i (record { sizes = st .sizes; head = st .head; tail = st .tail; next = st .next; table = st .table; writers = st .writers; wide = st .wide; pending = p })) en pending)

@@ -11,13 +11,14 @@ use Rattle.layout.specs.declared.Sizes.{Sizes}
 use Rattle.words.specs.Words.{bytesOf, wordAt}
 use Rattle.image.specs.Lines.{lineBytes, merged, lineWords}
 use Rattle.state.specs.declared.State.{State}
+use Rattle.state.specs.Wide.{someWide}
 use Rattle.refinement.specs.Frames.{pageFrame, seenFrame}
 use Rattle.refinement.specs.Calls.{quietRows, meterIn, eventCallRows}
 use Rattle.events.specs.declared.Found.{Found}
 
 -- the rows before those of writer 1 and page 0
 abbrev pub startRows : State → ℕ → List ℕ → ℕ → ℕ → List Row
-startRows st n ms k m = quietRows st n ++ ((not (eventKnown k m), 20) ∷ (not (moduliOk ms), 26) ∷ [])
+startRows st n ms k m = quietRows st n ++ ((someWide (st .wide .writer), 29) ∷ (not (eventKnown k m), 20) ∷ (not (moduliOk ms), 26) ∷ [])
 
 abbrev pub EventFound : State → List ℕ → List ℕ → ℕ → ℕ → ℕ → Found → Type 0
 EventFound st img ms k m a r =

@@ -1,7 +1,7 @@
-// Begin and abort on the host's own state record, which is changed directly.
+// Begin, begin wide and abort on the host's own state record, which is changed directly.
 ghost use mathlib.Core.Path.{_≡_};
 ghost use Rattle.host.specs.Lent.{outcomeIn};
-ghost use Rattle.refinement.specs.Calls.{beginOf, abortOf};
+ghost use Rattle.refinement.specs.Calls.{beginOf, beginWideOf, abortOf};
 use answers::Answer;
 use state::State;
 
@@ -12,6 +12,15 @@ pub fn begin_in(st: &mut State, writer: usize) -> Answer
     let begun = writers::begin(*st, writer);
     *st = begun.state;
     begun.answer
+}
+
+// Opens a writer for a wide transaction.
+pub fn begin_wide_in(st: &mut State, writer: usize) -> Answer
+    ensures { λ r. ⌜ outcomeIn r (now (st .exit)) ≡ beginWideOf (now (st .entry)) writer ⌝ }
+{
+    let wide = writers::begin_wide(*st, writer);
+    *st = wide.state;
+    wide.answer
 }
 
 // Closes a writer and empties its held lines.

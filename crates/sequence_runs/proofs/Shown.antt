@@ -19,8 +19,8 @@ use Rattle.refinement.specs.Run.{Call, checkpoint, recall, exec, after}
 use Rattle.refinement.specs.Reference.{Reference, blank, recallLine}
 use Rattle.refinement.specs.Recall.{recallRow}
 use Rattle.refinement.specs.Statement.{Lent, AllLent}
-use Rattle.refinement.proofs.Between.{between-valid, between-durable}
-use Rattle.refinement.proofs.CallSound.{call-sound}
+use Rattle.refinement.proofs.Cases.{standing-of}
+use Rattle.refinement.proofs.CaseSound.{call-sound}
 use Rattle.refinement.proofs.Reached.{Reached, reached, reached-first}
 use Rattle.refinement.proofs.RecallCall.{row-is}
 use Rattle.sequence_runs.specs.Calls.{twelve, callOf}
@@ -73,15 +73,14 @@ fresh-reached = reached-first small refl (replicate 8320 0) (zeros 8320) (fits 8
 module _ {past : List ℕ} (v : World) (b : Reference) (h : Reached small past v b) (l : ℕ) (low : l < 64) where
   sizes : sizesFrom (word (v .image)) ≡ small
   sizes =
-      let D = between-durable v b (h .related) in
-      ap (λ (w : View). w .sizes) (D .shows) ∙ D .sizes-same ∙ h .sizes
+      let seen = standing-of v b (h .related) .viewed in
+      ap (λ (w : View). w .sizes) (seen .shows) ∙ seen .sizes-same ∙ h .sizes
 
   taken : recallRow (v .image) 0 l (replicate 64 0) ≡ 0
   taken =
-      let D = between-durable v b (h .related) in
       let one : sizesFrom (word (v .image)) .pages ≡ 1 = ap (λ (z : Sizes). z .pages) sizes in
       let t : ltb 63 l ≡ false = le-ltb 63 l (omega arith) in
-      row-is (v .st) (v .image) b (between-valid v b (h .related)) D 0 l (replicate 64 0) ∙ rw (one, t)
+      row-is (v .image) b (standing-of v b (h .related) .viewed) 0 l (replicate 64 0) ∙ rw (one, t)
 
   shown : firstByte v l ≡ b .pages 0 l 0
   unfolding firstByte exec

@@ -1,62 +1,114 @@
 -- A write asked for: what its rows say, and what comes of it. found is what the code found.
-use Prim.Native.Nat.{ℕ, _≤_}
+use Prim.Native.Nat.{ℕ, _+_, _<_, _≤_}
 use mathlib.Core.Bool.{Bool, true, false, not, cond, _&&_}
-use mathlib.Core.List.{List, _∷_}
-use mathlib.Core.Path.{_≡_, refl, sym, ap, _∙_}
+use mathlib.Core.List.{List, [], _∷_, _++_}
+use mathlib.Core.Path.{_≡_, refl, sym, ap, ap₂, _∙_, subst}
 use native.Mathlib.Omega.{arith}
 use lib.Dec.{ltb}
 use lib.ListN.{length}
-use borrow.Author.Tests.{ltb-false}
+use borrow.Author.Tests.{ltb-false, eqb-true}
 use Rattle.bounded.specs.Rows.{refusal}
 use Rattle.bounded.proofs.Rows.{row-none, none-apply}
-use Rattle.image.specs.Lines.{lineBytes, merged, mergeChanges, lineWords}
+use Rattle.bounded.proofs.Tests.{caseOn}
+use Rattle.layout.specs.Layout.{Legal, imageLength}
+use Rattle.image.specs.Lines.{merged, mergeChanges, lineWords}
 use Rattle.state.specs.declared.State.{State}
 use Rattle.state.specs.declared.Pending.{Pending}
-use Rattle.state.specs.declared.Op.the-variants.{Write}
-use Rattle.operations.specs.Operations.{writeRows}
-use Rattle.operations.proofs.Taken.{WriteTaken, write-taken}
+use Rattle.state.specs.declared.Op.{Op}
+use Rattle.state.specs.declared.Op.the-variants.{Write, Log}
+use Rattle.state.specs.Wide.{isWide}
+use Rattle.operations.specs.Operations.{slotFor, frameBad, writeRows, logRows}
+use Rattle.operations.proofs.Taken.{ArgsGood, write-taken, log-taken}
 use Rattle.refinement.specs.Frames.{pageFrame}
 use Rattle.refinement.specs.Outcome.{answered}
 use Rattle.answers.specs.Answers.{outcomeOf}
 use Rattle.answers.specs.declared.Done.{Done}
-use Rattle.answers.proofs.Answered.{refused-by}
-use Rattle.refinement.specs.Calls.{quietRows, withPending, finishedLine, writeCallRows, changesNothing, writeOf}
+use Rattle.answers.proofs.Answered.{row-known, refused-by}
+use Rattle.refinement.specs.Calls.{quietRows, withPending, seenLine, finishedLine, writeCallRows, writeOp, changesNothing, writeOf}
 use Rattle.refinement.proofs.Quiet.{Quiet, quiet}
+use Rattle.refinement.proofs.Going.{ranges-of}
 use Rattle.finding.specs.declared.Found.{Found}
-use Rattle.finding.specs.Finding.{WriteFound}
+use Rattle.finding.specs.Finding.{WriteFound, SeenLow, foundLine}
+use Rattle.finding.proofs.FoundLine.{found-seen, found-low}
 use Rattle.asking.proofs.Taking.{pendingFrom, pendingWith}
 
 -- what no row of a write tells, with the frame found
-pub write-none : (st : State) (img : List ℕ) (w p l o n : ℕ) (bytes : List ℕ) → refusal (writeCallRows st img w p l o n bytes) ≡ 0
-    → Quiet st (length img) × (n ≤ length bytes) × WriteTaken st w p l o n (pageFrame st img p)
+pub record WriteNone (st : State) (img : List ℕ) (w p l o n : ℕ) (bytes : List ℕ) : Type 0 where
+  pub quiet : Quiet st (length img)
+  pub long : n ≤ length bytes
+  pub args : ArgsGood (st .sizes) w p l o n
+  pub frame-good : frameBad (st .sizes) (st .table .page) (st .table .original) (st .table .spare) (slotFor st p) (pageFrame st img p) ≡ false
+
+pub write-none : (st : State) (img : List ℕ) (w p l o n : ℕ) (bytes : List ℕ) → refusal (writeCallRows st img w p l o n bytes) ≡ 0 → WriteNone st img w p l o n bytes
 write-none st img w p l o n bytes e =
-    let rows = writeRows st w p l o n (pageFrame st img p) in
-    let h = none-apply (writeCallRows st img w p l o n bytes) (omega arith) e in (
-      quiet st (length img) 0 (row-none (quietRows st (length img)) (h .0, (h .1 .0, (h .1 .1 .0, tt)))) refl,
-      ltb-false (length bytes) n (h .1 .1 .1 .0),
-      write-taken st w p l o n (pageFrame st img p) (sym (row-none rows (h .1 .1 .1 .1))),
+    let f = pageFrame st img p in
+    let first = quietRows st (length img) ++ ((ltb (length bytes) n, 11) ∷ []) in
+    caseOn (isWide (st .wide) w)
+    (λ t.
+    let q : st .wide .writer ≡ w = eqb-true (st .wide .writer) w t in
+    let h = none-apply (first ++ logRows st p l o n f) (omega arith) (rw t at e) in
+    let g = log-taken st p l o n f (sym (row-none (logRows st p l o n f) (h .1 .1 .1 .1))) in
+    record {
+      quiet = quiet st (length img) 0 (row-none (quietRows st (length img)) (h .0, (h .1 .0, (h .1 .1 .0, tt)))) refl;
+      long = ltb-false (length bytes) n (h .1 .1 .1 .0);
+      args = subst (λ (x : ℕ). ArgsGood (st .sizes) x p l o n) q (g .args);
+      frame-good = g .frame-good;
+    })
+    (λ t.
+    let h = none-apply (first ++ writeRows st w p l o n f) (omega arith) (rw t at e) in
+    let g = write-taken st w p l o n f (sym (row-none (writeRows st w p l o n f) (h .1 .1 .1 .1))) in
+    record {
+      quiet = quiet st (length img) 0 (row-none (quietRows st (length img)) (h .0, (h .1 .0, (h .1 .1 .0, tt)))) refl;
+      long = ltb-false (length bytes) n (h .1 .1 .1 .0);
+      args = g .args;
+      frame-good = g .frame-good;
+    })
+
+-- each number of its rows is an answer's
+pub write-known : (st : State) (img : List ℕ) (w p l o n : ℕ) (bytes : List ℕ) → refusal (writeCallRows st img w p l o n bytes) ≤ 30
+write-known st img w p l o n bytes =
+    let f = pageFrame st img p in
+    let first = quietRows st (length img) ++ ((ltb (length bytes) n, 11) ∷ []) in
+    caseOn (isWide (st .wide) w)
+    (λ t. rw t (row-known (first ++ logRows st p l o n f) (omega arith)))
+    (λ t. rw t (row-known (first ++ writeRows st w p l o n f) (omega arith)))
+
+-- what the merge requires of what was found
+pub write-merge : (st : State) (img : List ℕ) (w p l o n : ℕ) (bytes : List ℕ) (found : Found) → WriteFound st img w p l o n bytes found → found .row ≡ 0
+    → Legal (st .sizes) × SeenLow (st .sizes) found × (l < 64) × (imageLength (st .sizes) ≤ length img) × (o + n ≤ 64) × (n ≤ length bytes)
+write-merge st img w p l o n bytes found f z =
+    let q = write-none st img w p l o n bytes (sym (f .0) ∙ z) in (
+      ranges-of st (q .quiet .ok) .legal,
+      found-low st img w p l o n bytes found f z (q .quiet .ok) (q .args .page-low) (q .frame-good),
+      q .args .line-low,
+      q .quiet .long,
+      q .args .fits,
+      q .long,
     )
 
 -- whether it changes nothing, as the code tests it
 pub idle-is : (st : State) (img : List ℕ) (w p l o n : ℕ) (bytes : List ℕ) (found : Found) → WriteFound st img w p l o n bytes found → found .row ≡ 0
-    → (changed : Bool) → changed ≡ mergeChanges (lineBytes img (st .sizes) (found .seen) l) o n bytes → found .held && not changed ≡ changesNothing st img w p l o n bytes
+    → (changed : Bool) → changed ≡ mergeChanges (foundLine img (st .sizes) found l) o n bytes → found .held && not changed ≡ changesNothing st img w p l o n bytes
 unfolding changesNothing
-idle-is st img w p l o n bytes found f z changed c = let g = f .1 z in rw (g .2, c, g .1, g .0)
+idle-is st img w p l o n bytes found f z changed c =
+    let g = f .1 z in
+    let s : changed ≡ mergeChanges (seenLine st img w p l) o n bytes = c ∙ ap (λ (x : List ℕ). mergeChanges x o n bytes) (found-seen st img w p l o n bytes found f z .1) in
+    rw (g .2, s)
 
 module _ (st : State) (img : List ℕ) (w p l o n : ℕ) (bytes : List ℕ) (d : Done) (found : Found) (f : WriteFound st img w p l o n bytes found) where
   abbrev idle : Bool
   idle = changesNothing st img w p l o n bytes
 
   abbrev asks : State
-  asks = withPending st (Write w p l o n) (finishedLine st img w p l o n bytes) (pageFrame st img p)
+  asks = withPending st (writeOp st w p l o n) (finishedLine st img w p l o n bytes) (pageFrame st img p)
 
   pub write-refused : (found .row ≡ 0 → ⊥) → outcomeOf d ≡ answered (found .row) st 0 st → outcomeOf d ≡ writeOf st img w p l o n bytes
   unfolding writeOf
-  write-refused z h = refused-by d (writeCallRows st img w p l o n bytes) (found .row) (cond idle 0 8) st (cond idle st asks) (f .0) z h
+  write-refused z h = refused-by d (writeCallRows st img w p l o n bytes) (found .row) (cond idle 0 (cond (isWide (st .wide) w) 9 8)) st (cond idle st asks) (f .0) z h
 
   -- no row applies; words and changed are what the code has of the merged line
-  module _ (words : List ℕ) (changed : Bool) (z : found .row ≡ 0) (m : words ≡ lineWords (merged (lineBytes img (st .sizes) (found .seen) l) o n bytes))
-      (c : changed ≡ mergeChanges (lineBytes img (st .sizes) (found .seen) l) o n bytes) where
+  module _ (words : List ℕ) (changed : Bool) (z : found .row ≡ 0) (m : words ≡ lineWords (merged (foundLine img (st .sizes) found l) o n bytes))
+      (c : changed ≡ mergeChanges (foundLine img (st .sizes) found l) o n bytes) where
     is : found .held && not changed ≡ idle
     is = idle-is st img w p l o n bytes found f z changed c
 
@@ -64,10 +116,19 @@ module _ (st : State) (img : List ℕ) (w p l o n : ℕ) (bytes : List ℕ) (d :
     unfolding writeOf
     write-nothing t h = rw (← (sym z ∙ f .0), sym is ∙ t) h
 
-    pub write-asked : (q : Pending) → found .held && not changed ≡ false → q ≡ pendingFrom (Write w p l o n) words (found .frame)
-        → outcomeOf d ≡ answered 0 (pendingWith st q) 8 (pendingWith st q) → outcomeOf d ≡ writeOf st img w p l o n bytes
-    unfolding writeOf
-    write-asked q t e h =
+    -- the operation, the pending one and its stores, as the code has them
+    pub pending-is : (op : Op) (q : Pending) → op ≡ cond (found .wide) (Log p l o n) (Write w p l o n) → q ≡ pendingFrom op words (found .frame)
+        → q ≡ pendingFrom (writeOp st w p l o n) (finishedLine st img w p l o n bytes) (pageFrame st img p)
+    pending-is op q a e =
         let g = f .1 z in
-        let own : q ≡ pendingFrom (Write w p l o n) (finishedLine st img w p l o n bytes) (pageFrame st img p) = rw (m, g .1, g .0) at e in
-        rw (← (sym z ∙ f .0), sym is ∙ t) (h ∙ ap (λ (x : Pending). answered 0 (pendingWith st x) 8 (pendingWith st x)) own)
+        let b : op ≡ writeOp st w p l o n = rw (g .3) at a in
+        let s : words ≡ finishedLine st img w p l o n bytes = m ∙ ap (λ (x : List ℕ). lineWords (merged x o n bytes)) (found-seen st img w p l o n bytes found f z .1) in
+        rw (b, s, g .0) at e
+
+    pub write-asked : (op : Op) (q : Pending) (needed : ℕ) → found .held && not changed ≡ false → op ≡ cond (found .wide) (Log p l o n) (Write w p l o n) → q ≡ pendingFrom op words (found .frame)
+        → needed ≡ cond (found .wide) 9 8 → outcomeOf d ≡ answered 0 (pendingWith st q) needed (pendingWith st q) → outcomeOf d ≡ writeOf st img w p l o n bytes
+    unfolding writeOf
+    write-asked op q needed t a e b h =
+        let g = f .1 z in
+        let k : needed ≡ cond (isWide (st .wide) w) 9 8 = rw (g .3) at b in
+        rw (← (sym z ∙ f .0), sym is ∙ t) (h ∙ ap₂ (λ (x : Pending) (y : ℕ). answered 0 (pendingWith st x) y (pendingWith st x)) (pending-is op q a e) k)

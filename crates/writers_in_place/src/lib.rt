@@ -23,8 +23,7 @@ pub fn begin<'a>(
 ) -> Answer
     ensures { λ r. ⌜ answeredAt r (quietAt z at (now (page .entry)) (now (original .entry)) (now (spare .entry)) (now (bitmap .entry)) (now (last .entry)) (now (opened .exit)) (now (held .entry)) (now (keys .entry))) ≡ beginOf (quietAt z at (now (page .entry)) (now (original .entry)) (now (spare .entry)) (now (bitmap .entry)) (now (last .entry)) (now (opened .entry)) (now (held .entry)) (now (keys .entry))) writer ⌝ }
 {
-    let idle = settled::no_pending();
-    let row = writers::writer_row(
+    let ok = validity::quiet_ok(
         z,
         at.head,
         at.tail,
@@ -40,10 +39,8 @@ pub fn begin<'a>(
         at.wide,
         at.count,
         keys,
-        idle,
-        writer,
-        false,
     );
+    let row = writers::writer_row(ok, true, opened, at.prepared, at.wide, writer, false);
     if row != 0 {
         return answers::answer_of(row, 0);
     }
@@ -67,8 +64,7 @@ pub fn abort<'a>(
 ) -> Went
     ensures { λ r. ⌜ wentTo z r (now (page .entry)) (now (original .entry)) (now (spare .entry)) (now (bitmap .entry)) (now (last .entry)) (now (opened .exit)) (now (held .exit)) (now (keys .exit)) ≡ abortOf (quietAt z at (now (page .entry)) (now (original .entry)) (now (spare .entry)) (now (bitmap .entry)) (now (last .entry)) (now (opened .entry)) (now (held .entry)) (now (keys .entry))) writer ⌝ }
 {
-    let idle = settled::no_pending();
-    let row = writers::writer_row(
+    let ok = validity::quiet_ok(
         z,
         at.head,
         at.tail,
@@ -84,10 +80,8 @@ pub fn abort<'a>(
         at.wide,
         at.count,
         keys,
-        idle,
-        writer,
-        true,
     );
+    let row = writers::writer_row(ok, true, opened, at.prepared, at.wide, writer, true);
     if row != 0 {
         let answer = answers::answer_of(row, 0);
         return Went { answer, to: at };

@@ -15,17 +15,17 @@ use Rattle.events.proofs.event.Tie as tie
 
 refused-requires : tie.Need-refused-requires
 refused-requires c κs =
-    let a = c .before .before .before .before .before .before .before .before .before .before .before .before .before .before .before .args in
+    let a = c .before .before .before .before .before .before .before .before .before .before .before .before .before .before .before .before .args in
     rw (c .before .before .event-found .ensures .0) (row-known (eventCallRows (a .st) (a .image .now) (a .moduli .now) (a .kind) (a .meter) (a .amount)) (omega arith))
 
 returns : tie.Need-returns
 returns c =
-    let a = c .before .before .before .before .before .before .before .before .before .before .before .before .before .before .before .before .args in
+    let a = c .before .before .before .before .before .before .before .before .before .before .before .before .before .before .before .before .before .args in
     event-refused (a .st) (a .image .now) (a .moduli .now) (a .kind) (a .meter) (a .amount) (c .refused .result) _ (c .before .before .before .event-found .ensures) (c .before .if1 .taken) (c .refused .ensures)
 
 first-number-requires : tie.Need-first-number-requires
 first-number-requires c κs =
-    let a = c .before .before .before .before .before .before .before .before .before .before .before .before .before .before .before .before .args in
+    let a = c .before .before .before .before .before .before .before .before .before .before .before .before .before .before .before .before .before .args in
     let f = c .before .before .before .event-found .ensures in
     let z = c .before .if1 .left in
     let q = asked-facts (a .st) (a .image .now) (a .moduli .now) (a .kind) (a .meter) (a .amount) (sym (f .0) ∙ z) in
@@ -33,7 +33,7 @@ first-number-requires c κs =
 
 numbered-line-requires : tie.Need-numbered-line-requires
 numbered-line-requires c κs =
-    let a = c .before .before .before .before .before .before .before .before .before .before .before .before .before .before .before .before .before .before .args in
+    let a = c .before .before .before .before .before .before .before .before .before .before .before .before .before .before .before .before .before .before .before .args in
     let f = c .before .before .before .before .before .event-found .ensures in
     let z = c .before .before .before .if1 .left in
     let q = asked-facts (a .st) (a .image .now) (a .moduli .now) (a .kind) (a .meter) (a .amount) (sym (f .0) ∙ z) in
@@ -41,7 +41,7 @@ numbered-line-requires c κs =
 
 second-line-requires : tie.Need-second-line-requires
 second-line-requires c κs =
-    let a = c .before .before .before .before .before .before .before .before .before .before .before .before .before .before .before .before .before .before .before .args in
+    let a = c .before .before .before .before .before .before .before .before .before .before .before .before .before .before .before .before .before .before .before .before .args in
     let f = c .before .before .before .before .before .before .event-found .ensures in
     let z = c .before .before .before .before .if1 .left in
     let q = asked-facts (a .st) (a .image .now) (a .moduli .now) (a .kind) (a .meter) (a .amount) (sym (f .0) ∙ z) in
@@ -49,7 +49,7 @@ second-line-requires c κs =
 
 returns-2 : tie.Need-returns-2
 returns-2 c =
-    let a = c .before .before .before .before .before .before .before .before .before .before .before .before .before .before .before .before .before .before .before .before .before .before .before .args in
+    let a = c .before .before .before .before .before .before .before .before .before .before .before .before .before .before .before .before .before .before .before .before .before .before .before .before .args in
     event-asked (a .st) (a .image .now) (a .moduli .now) (a .kind) (a .meter) (a .amount) (c .taken .result) _ (c .before .before .before .before .before .before .before .before .before .before .event-found .ensures) _ _ _ _ _ _ (c .before .before .before .before .before .before .before .before .if1 .left) (c .before .before .before .before .before .before .first-number .ensures) (c .before .before .before .before .before .first-meter .ensures) (c .before .before .before .before .numbered-line .ensures) (c .before .before .before .second-line .ensures) (c .before .before .pending-from .ensures) (c .before .event-needs .ensures) (c .taken .ensures)
 
 pub event-spec : {M : Type 1} → statement M

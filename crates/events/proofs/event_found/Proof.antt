@@ -1,6 +1,7 @@
 -- The tests stand in the table's order: the rows that come first, those before 21, then 21 and 19.
 use Prim.Native.Nat.{ℕ, _<_}
 use mathlib.Core.Bool.{true}
+use mathlib.Core.List.{List}
 use mathlib.Core.Path.{_≡_, sym, ap, ap₂, _∙_}
 use native.Mathlib.Omega.{arith}
 use lib.ListN.{length}
@@ -21,7 +22,7 @@ use Rattle.refinement.specs.Calls.{meterIn}
 use Rattle.refinement.proofs.Going.{ranges-of}
 use Rattle.refinement.proofs.Quiet.{Quiet}
 use Rattle.events.specs.declared.Found.{Found}
-use Rattle.events.proofs.Asked.{Started, started, row-start, row-early, row-amount, row-room, row-taken, early-frame, line-frame}
+use Rattle.events.proofs.Asked.{Started, started, row-start, row-early, row-amount, row-room, row-taken, early-frame, line-frame, narrow-line}
 use Rattle.events.proofs.event_found.Statement.{statement}
 use Rattle.events.proofs.event_found.Tie as tie
 
@@ -78,6 +79,7 @@ stored c =
     c .read-line-word .ensures
     ∙ first-word (s .args .image .now) (s .args .z) (d .before .seen-frame .result) (l .result) (first-frame d) (first-line (c .before .before .before .before .before) (l .result) (l .ensures)) (quiet1 (c .before .before .before .before .before .before .before .before .before) .long)
     ∙ ap₂ (λ (f i : ℕ). wordAt (lineBytes (s .args .image .now) (s .args .z) f i) 0) (seen-first d) (l .ensures)
+    ∙ ap (λ (x : List ℕ). wordAt x 0) (narrow-line (st s) (s .args .image .now) (firstMeter (s .args .kind) (s .args .meter)) (started1 (c .before .before .before .before .before .before .before .before .before) .narrow))
 
 -- row 21, as the code found it
 amount : (c : tie.After-amount-bad) → let s = c .before .before .before .before .before .before .before .before .before .before .before .before .before .before in c .amount-bad .result ≡ amountBad (s .args .moduli .now) (s .args .kind) (s .args .meter) (meterIn (st s) (s .args .image .now) (firstMeter (s .args .kind) (s .args .meter))) (s .args .amount)
