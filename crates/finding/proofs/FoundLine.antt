@@ -3,18 +3,30 @@ use Prim.Native.Nat.{ℕ, _<_, _≤_}
 use mathlib.Core.Bool.{Bool, true, false, _&&_, cond}
 use mathlib.Core.List.{List}
 use mathlib.Core.Path.{_≡_, refl, sym, ap, _∙_}
+use native.Mathlib.Omega.{arith}
 use lib.Dec.{ltb}
 use lib.ListN.{length}
-use borrow.Author.Tests.{eq-eqb, lt-ltb, le-ltb}
-use Rattle.bounded.proofs.Tests.{caseOn}
+use borrow.Author.Tests.{eq-eqb, lt-ltb, le-ltb, ltb-true}
+use Rattle.bounded.specs.Rows.{refusal}
+use Rattle.bounded.proofs.Rows.{row-none}
+use Rattle.bounded.proofs.Tests.{caseOn, and-right}
 use Rattle.layout.specs.declared.Sizes.{Sizes}
 use Rattle.entries.specs.Entries.{keyOf, entryOf}
 use Rattle.state.specs.declared.State.{State}
 use Rattle.state.specs.declared.Wide.{Wide}
 use Rattle.state.specs.Wide.{isWide, entryFor, hasEntry}
-use Rattle.refinement.specs.Calls.{seenLine}
+use Rattle.state.specs.declared.Op.{Op}
+use Rattle.state.specs.declared.Op.the-variants.{Commit, Copy}
+use Rattle.operations.specs.Operations.{isIdle, slotFor, frameBad, opRows}
+use Rattle.operations.proofs.Taken.{commit-alone}
+use Rattle.validity.specs.Validity.{stateOk, opFits}
+use Rattle.refinement.specs.Frames.{pageFrame, seenFrame}
+use Rattle.refinement.specs.Calls.{seenLine, commitOp}
+use Rattle.refinement.proofs.Going.{ranges-of, shapes-of}
+use Rattle.refinement.proofs.SeenFrames.{seen-low}
+use Rattle.wide_stores.proofs.WideGoing.{entries-of}
 use Rattle.finding.specs.declared.Found.{Found}
-use Rattle.finding.specs.Finding.{FramesFound, EntryFound, FoundAfter, WriteFound, asEntry, foundLine}
+use Rattle.finding.specs.Finding.{FramesFound, EntryFound, FoundAfter, WriteFound, asEntry, foundLine, SeenLow}
 
 pub back-row : (r : Found) (row : ℕ) → _≡_ {A = Found} r (record { row = row; frame = 0; seen = 0; held = false; wide = false }) → r .row ≡ row
 back-row r row e = ap (λ (x : Found). x .row) e
@@ -47,3 +59,42 @@ found-seen st img w p l o n bytes r f z =
     let a : asEntry r ≡ own =
     caseOn (isWide (st .wide) w) (λ t. rw (g .2, g .3, t)) (λ t. rw (g .3, t)) in
     (a, caseOn own (λ t. rw (a, g .1, t)) (λ t. rw (a, g .1, t, g .0)))
+
+-- and the entry or the frame is one of the image's
+pub found-low : (st : State) (img : List ℕ) (w p l o n : ℕ) (bytes : List ℕ) (r : Found) → WriteFound st img w p l o n bytes r → r .row ≡ 0 → stateOk st ≡ true → p < st .sizes .pages
+    → frameBad (st .sizes) (st .table .page) (st .table .original) (st .table .spare) (slotFor st p) (pageFrame st img p) ≡ false → SeenLow (st .sizes) r
+found-low st img w p l o n bytes r f z ok low good =
+    let g = f .1 z in
+    let own : Bool = isWide (st .wide) w && hasEntry (st .wide) p l in
+    let a : asEntry r ≡ own = found-seen st img w p l o n bytes r f z .0 in (
+      λ t.
+          let b : own ≡ true = sym a ∙ t in
+          let e : r .seen ≡ entryFor (st .wide) p l = rw b at (g .1) in
+          let m = ltb-true (entryFor (st .wide) p l) (st .wide .count) (and-right (isWide (st .wide) w) (hasEntry (st .wide) p l) b) in
+          omega (arith, e, m, entries-of st ok .few),
+      λ t.
+          let b : own ≡ false = sym a ∙ t in
+          let e : r .seen ≡ seenFrame st w p l (r .frame) = rw b at (g .1) in
+          rw (e, g .0) (seen-low st w p l (pageFrame st img p) (ranges-of st ok .legal) low (shapes-of st ok) good),
+    )
+
+-- a commit's rows are those of its operation, too
+pub commit-rows : (st : State) (w : ℕ) (op : Op) → op ≡ commitOp st w → (isIdle op ≡ false) × (refusal (opRows st (Commit w) 0) ≡ 0 → refusal (opRows st op 0) ≡ 0)
+commit-rows st w op e =
+    caseOn (isWide (st .wide) w)
+    (λ t.
+    let q : op ≡ Copy = rw t at e in
+    rw q (refl, λ r. sym (row-none (opRows st Copy 0) (commit-alone st w r, tt))))
+    (λ t.
+    let q : op ≡ Commit w = rw t at e in
+    rw q (refl, λ r. r))
+
+pub commit-fits : (st : State) (w : ℕ) (op : Op) → op ≡ commitOp st w → opFits (st .wide .writer) op ≡ true
+commit-fits st w op e =
+    caseOn (isWide (st .wide) w)
+    (λ t.
+    let q : op ≡ Copy = rw t at e in
+    rw q refl)
+    (λ t.
+    let q : op ≡ Commit w = rw t at e in
+    rw (q, t) refl)
