@@ -13,6 +13,8 @@ use Rattle.masks.specs.Lines.{inMask, withLine, exclusiveOr, disjoint, others, 
 use Rattle.state.specs.Held.{heldOk, othersHold, someHold, heldSlots}
 use Rattle.operations.specs.Operations.{copyCount, recordedSlots, needs}
 use Rattle.state.specs.Slots.{freeAfter, frameOfSlot, framesApart}
+use Rattle.entries.specs.Entries.{entriesOk}
+use Rattle.state.specs.Wide.{wideOk}
 use Rattle.validity.specs.Validity.{slotsOk, lastsOk, preparedOk, pendingOk, stateOk}
 use Rattle.refinement.specs.Commit.{closedWriter, commitRecordOf, commitAtOf, commitValueOf}
 use Rattle.refinement.specs.Frames.{pageFrame, seenFrame}
@@ -31,5 +33,5 @@ use Rattle.executing.specs.Called.{finished}
 use Rattle.script.specs.Turns.{formats, shown, turnOf}
 
 pub listing : printed 1 started (replicate 12480 0) input ≡ output
-unfolding allBelow someBelow firstBelow one countBelow those upTo countOf eachOnce tab filled leOf bytesOf part over wordAt putWord wordsAt flat freshWords formatted freshTable mountRead mountOf liveRecord recordsOk tableFrom replay frameNames inMask withLine exclusiveOr disjoint others linesIn countLines linesNotIn heldOk othersHold someHold heldSlots copyCount recordedSlots needs freeAfter frameOfSlot framesApart slotsOk lastsOk preparedOk pendingOk stateOk commitRecordOf commitAtOf commitValueOf closedWriter pageFrame seenFrame stepped steppedBy writeSlot beginOf changesNothing writeOf commitOf readRow readBytes runOf runBytes mountCall formatCall exec digitsOf withByte fields allDigits valueFrom allNumbers values lineOf parsed formOf text printed outputLine formats finished shown turnOf
+unfolding allBelow someBelow firstBelow one countBelow those upTo countOf eachOnce tab filled leOf bytesOf part over wordAt putWord wordsAt flat freshWords formatted freshTable mountRead mountOf liveRecord recordsOk tableFrom replay frameNames inMask withLine exclusiveOr disjoint others linesIn countLines linesNotIn heldOk othersHold someHold heldSlots copyCount recordedSlots needs freeAfter frameOfSlot framesApart slotsOk lastsOk preparedOk wideOk entriesOk pendingOk stateOk commitRecordOf commitAtOf commitValueOf closedWriter pageFrame seenFrame stepped steppedBy writeSlot beginOf changesNothing writeOf commitOf readRow readBytes runOf runBytes mountCall formatCall exec digitsOf withByte fields allDigits valueFrom allNumbers values lineOf parsed formOf text printed outputLine formats finished shown turnOf
 listing = refl

@@ -210,12 +210,13 @@ pub fn fresh(image: &mut [u8]) -> State {
 fn edited(st: State, row: [usize; 5]) -> Done {
     let mut keys = st.wide.keys;
     keys[0] = row[3] as u64;
-    let mut after = st;
-    after.wide = Wide {
+    let wide = Wide {
         writer: row[1],
         count: row[2],
         keys,
     };
+    let mut after = st;
+    after.wide = wide;
     answers::taken(0, after)
 }
 

@@ -21,7 +21,7 @@ lengths c =
     }
 
 go-on-requires : tie.Need-go-on-requires
-go-on-requires c κs = lengths (c .before .before .before .before .before .before .before .before .before .before .before .before .before .before .before .before .before .before)
+go-on-requires c κs = lengths (c .before .before .before .before .before .before .before .before .before .before .before .before .before .before .before .before .before .before .before .before)
 
 returns : tie.Need-returns
 returns c = let e = c .before .before .before .before .go-on .ensures in
