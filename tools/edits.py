@@ -68,3 +68,4 @@ for crate in [line.split(":")[0] for line in open("crates.txt", encoding="utf-8"
         if len(edits) < 2 or "-v" in sys.argv:
             print(f"{crate} {os.path.basename(path)} {name}: {len(edits)}", *edits)
 print(f"{total} public functions with a contract, {few} of them with fewer than two edits")
+sys.exit(few > 0)
