@@ -17,7 +17,8 @@ use Rattle.state.specs.declared.Pending.{Pending}
 use Rattle.state.specs.declared.Op.{Op}
 use Rattle.state.specs.declared.Op.the-variants.{Write, Log}
 use Rattle.state.specs.Wide.{isWide}
-use Rattle.operations.specs.Operations.{slotFor, frameBad, writeRows, logRows}
+use Rattle.operations.specs.Operations.{isIdle, slotFor, frameBad, writeRows, logRows, opRows, needs}
+use Rattle.validity.specs.Validity.{opFits}
 use Rattle.operations.proofs.Taken.{ArgsGood, write-taken, log-taken}
 use Rattle.refinement.specs.Frames.{pageFrame}
 use Rattle.refinement.specs.Outcome.{answered}
@@ -95,6 +96,17 @@ idle-is st img w p l o n bytes found f z changed c =
     let s : changed ≡ mergeChanges (seenLine st img w p l) o n bytes = c ∙ ap (λ (x : List ℕ). mergeChanges x o n bytes) (found-seen st img w p l o n bytes found f z .1) in
     rw (g .2, s)
 
+-- the pending operation, as the code has it
+pub pending-is : (st : State) (img : List ℕ) (w p l o n : ℕ) (bytes : List ℕ) (found : Found) → WriteFound st img w p l o n bytes found → found .row ≡ 0
+    → (words : List ℕ) → words ≡ lineWords (merged (foundLine img (st .sizes) found l) o n bytes)
+    → (op : Op) (q : Pending) → op ≡ cond (found .wide) (Log p l o n) (Write w p l o n) → q ≡ pendingFrom op words (found .frame)
+    → q ≡ pendingFrom (writeOp st w p l o n) (finishedLine st img w p l o n bytes) (pageFrame st img p)
+pending-is st img w p l o n bytes found f z words m op q a e =
+    let g = f .1 z in
+    let b : op ≡ writeOp st w p l o n = rw (g .3) at a in
+    let s : words ≡ finishedLine st img w p l o n bytes = m ∙ ap (λ (x : List ℕ). lineWords (merged x o n bytes)) (found-seen st img w p l o n bytes found f z .1) in
+    rw (b, s, g .0) at e
+
 module _ (st : State) (img : List ℕ) (w p l o n : ℕ) (bytes : List ℕ) (d : Done) (found : Found) (f : WriteFound st img w p l o n bytes found) where
   abbrev idle : Bool
   idle = changesNothing st img w p l o n bytes
@@ -116,19 +128,30 @@ module _ (st : State) (img : List ℕ) (w p l o n : ℕ) (bytes : List ℕ) (d :
     unfolding writeOf
     write-nothing t h = rw (← (sym z ∙ f .0), sym is ∙ t) h
 
-    -- the operation, the pending one and its stores, as the code has them
-    pub pending-is : (op : Op) (q : Pending) → op ≡ cond (found .wide) (Log p l o n) (Write w p l o n) → q ≡ pendingFrom op words (found .frame)
-        → q ≡ pendingFrom (writeOp st w p l o n) (finishedLine st img w p l o n bytes) (pageFrame st img p)
-    pending-is op q a e =
-        let g = f .1 z in
-        let b : op ≡ writeOp st w p l o n = rw (g .3) at a in
-        let s : words ≡ finishedLine st img w p l o n bytes = m ∙ ap (λ (x : List ℕ). lineWords (merged x o n bytes)) (found-seen st img w p l o n bytes found f z .1) in
-        rw (b, s, g .0) at e
-
     pub write-asked : (op : Op) (q : Pending) (needed : ℕ) → found .held && not changed ≡ false → op ≡ cond (found .wide) (Log p l o n) (Write w p l o n) → q ≡ pendingFrom op words (found .frame)
         → needed ≡ cond (found .wide) 9 8 → outcomeOf d ≡ answered 0 (pendingWith st q) needed (pendingWith st q) → outcomeOf d ≡ writeOf st img w p l o n bytes
     unfolding writeOf
     write-asked op q needed t a e b h =
         let g = f .1 z in
         let k : needed ≡ cond (isWide (st .wide) w) 9 8 = rw (g .3) at b in
-        rw (← (sym z ∙ f .0), sym is ∙ t) (h ∙ ap₂ (λ (x : Pending) (y : ℕ). answered 0 (pendingWith st x) y (pendingWith st x)) (pending-is op q a e) k)
+        rw (← (sym z ∙ f .0), sym is ∙ t) (h ∙ ap₂ (λ (x : Pending) (y : ℕ). answered 0 (pendingWith st x) y (pendingWith st x)) (pending-is st img w p l o n bytes found f z words m op q a e) k)
+
+-- the operation that a taken write asks for: no row turns it back, it fits the writer, and it needs stores
+module _ (st : State) (img : List ℕ) (w p l o n : ℕ) (bytes : List ℕ) where
+  pub op-rows : refusal (writeCallRows st img w p l o n bytes) ≡ 0 → refusal (opRows st (writeOp st w p l o n) (pageFrame st img p)) ≡ 0
+  op-rows e =
+      let f = pageFrame st img p in
+      let first = quietRows st (length img) ++ ((ltb (length bytes) n, 11) ∷ []) in
+      caseOn (isWide (st .wide) w)
+      (λ t. rw t (sym (row-none (logRows st p l o n f) (none-apply (first ++ logRows st p l o n f) (omega arith) (rw t at e) .1 .1 .1 .1))))
+      (λ t. rw t (sym (row-none (writeRows st w p l o n f) (none-apply (first ++ writeRows st w p l o n f) (omega arith) (rw t at e) .1 .1 .1 .1))))
+
+  pub op-fits : opFits (st .wide .writer) (writeOp st w p l o n) ≡ true
+  op-fits = caseOn (isWide (st .wide) w) (λ t. rw t refl) (λ t. rw t (rw t refl))
+
+  pub op-busy : isIdle (writeOp st w p l o n) ≡ false
+  op-busy = caseOn (isWide (st .wide) w) (λ t. rw t refl) (λ t. rw t refl)
+
+  pub op-needs : needs st (writeOp st w p l o n) ≡ cond (isWide (st .wide) w) 9 8
+  unfolding needs
+  op-needs = caseOn (isWide (st .wide) w) (λ t. rw t refl) (λ t. rw t refl)
