@@ -4,9 +4,11 @@ ghost use Rattle.in_place.specs.Through.{Through, quietAt, wentTo};
 use answers::Answer;
 use in_place::Went;
 use layout::Sizes;
+use state::Op;
 use stores::Places;
 
-// Writes the data's first length bytes. It makes no stores if the writer holds the line and no byte of it changes.
+// Writes the data's first length bytes. It makes no stores if the writer holds the line and no byte of it changes. A narrow writer's stores are made
+// directly, with no pending operation put together.
 pub fn write(
     image: &mut [u8],
     z: Sizes,
@@ -28,8 +30,7 @@ pub fn write(
 ) -> Went
     ensures { λ r. ⌜ Through (wentTo z r (now (page .exit)) (now (original .exit)) (now (spare .exit)) (now (bitmap .exit)) (now (last .exit)) (now (opened .exit)) (now (held .exit)) (now (keys .exit))) (now (image .exit)) (writeOf (quietAt z at (now (page .entry)) (now (original .entry)) (now (spare .entry)) (now (bitmap .entry)) (now (last .entry)) (now (opened .entry)) (now (held .entry)) (now (keys .entry))) (now (image .entry)) writer p line offset length (now («data» .entry))) (now (image .entry)) ⌝ }
 {
-    let idle = settled::no_pending();
-    let found = finding::write_found(
+    let found = finding::quiet_found(
         z,
         at.head,
         at.tail,
@@ -45,7 +46,6 @@ pub fn write(
         at.wide,
         at.count,
         keys,
-        idle,
         image,
         writer,
         p,
@@ -64,26 +64,64 @@ pub fn write(
         return Went { answer, to: at };
     }
     let words = merged.words;
-    let op = finding::write_op(found.wide, writer, p, line, offset, length);
-    let needed = finding::write_needs(found.wide);
-    let pending = asking::pending_from(op, words, [0; 8], found.frame);
-    let to = in_place::make_all(
+    if found.wide {
+        let op = Op::Log {
+            page: p,
+            line,
+            offset,
+            length,
+        };
+        let pending = asking::pending_from(op, words, [0; 8], found.frame);
+        let to = in_place::make_all(
+            image,
+            z,
+            at,
+            page,
+            original,
+            spare,
+            bitmap,
+            last,
+            opened,
+            held,
+            keys,
+            pending,
+            9,
+        );
+        return Went {
+            answer: Answer::Taken(9),
+            to,
+        };
+    }
+    writes::make_write_stores(
         image,
         z,
-        at,
         page,
         original,
         spare,
         bitmap,
-        last,
-        opened,
-        held,
-        keys,
-        pending,
-        needed,
+        &words,
+        at.next,
+        p,
+        line,
+        0,
+        8,
     );
+    let next = writes::complete_write(
+        z,
+        at.next,
+        page,
+        original,
+        bitmap,
+        held,
+        found.frame,
+        writer,
+        p,
+        line,
+    );
+    let mut to = at;
+    to.next = next;
     Went {
-        answer: Answer::Taken(needed),
+        answer: Answer::Taken(8),
         to,
     }
 }
