@@ -39,7 +39,7 @@ completed-pending st line (Confirm w) n i = refl
 completed-pending st line (Log p l o k) n i = absurd (log-needs st p l o k n)
 completed-pending st line Copy n i = refl
 
-abbrev zeros : List ℕ
+abbrev pub zeros : List ℕ
 zeros = replicate 8 0
 
 module _ (st : State) (img : List ℕ) (call op : Op) (row : ℕ) (e : row ≡ refusal (quietRows st (length img) ++ opRows st call 0)) where

@@ -77,7 +77,15 @@ pub fn begin(st: State, writer: usize) -> Done
     let idle = operations::is_idle(op);
     let prepared = next.writers.prepared;
     let wide = next.wide.writer;
-    let row = writer_row(ok, idle, &next.writers.opened, prepared, wide, writer, false);
+    let row = writer_row(
+        ok,
+        idle,
+        &next.writers.opened,
+        prepared,
+        wide,
+        writer,
+        false,
+    );
     if row != 0 {
         return answers::refused(row, next);
     }

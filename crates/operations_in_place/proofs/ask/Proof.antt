@@ -1,17 +1,10 @@
-use Prim.Native.Nat.{ℕ}
-use mathlib.Core.List.{List, _++_}
-use mathlib.Core.Path.{_≡_, refl, sym, ap, _∙_, subst}
+use mathlib.Core.Path.{refl, sym, _∙_}
 use native.Mathlib.Omega.{arith}
 use lib.ListN.{length}
 use borrow.Author.Needs.{needs}
-use Rattle.bounded.specs.Rows.{refusal}
 use Rattle.state.specs.declared.State.{State}
-use Rattle.state.specs.declared.Pending.{Pending}
-use Rattle.state.specs.Parts.{stateOf}
-use Rattle.state.specs.Wide.{wideOf}
-use Rattle.operations.specs.Operations.{opRows, needs as storesNeeded}
+use Rattle.operations.specs.Operations.{needs as storesNeeded}
 use Rattle.operations.proofs.Taken.{op-asked}
-use Rattle.refinement.specs.Calls.{quietRows}
 use Rattle.answers.proofs.Answered.{refused-known}
 use Rattle.asking.proofs.Taking.{ask-known}
 use Rattle.in_place.specs.Through.{quietAt}
@@ -24,63 +17,53 @@ st c =
     let a = c .args in
     quietAt (a .z) (a .at) (a .page .now) (a .original .now) (a .spare .now) (a .bitmap .now) (a .last .now) (a .opened .now) (a .held .now) (a .keys .now)
 
--- the row that was found, of a state with nothing pending
-row : (c : tie.After-ask-row) → let s = c .before .before .before .before .before .before .before .before .before .before .before in
-    c .ask-row .result ≡ refusal (quietRows (st s) (length (s .args .image .now)) ++ opRows (st s) (s .args .call) 0)
-row c =
-    let a = c .before .before .before .before .before .before .before .before .before .before .before .args in
-    let state : Pending → State = λ (q : Pending). stateOf (a .z) (a .at .head) (a .at .tail) (a .at .next) (a .page .now) (a .original .now) (a .spare .now) (a .bitmap .now) (a .last .now) (a .opened .now) (a .held .now) (a .at .prepared) (wideOf (a .at .wide) (a .at .count) (a .keys .now)) q in
-    subst (λ (q : Pending). c .ask-row .result ≡ refusal (quietRows (state q) (length (a .image .now)) ++ opRows (state q) (a .call) 0))
-    (c .before .before .before .before .before .before .before .before .before .no-pending .ensures) (c .ask-row .ensures)
-
 returns : tie.Need-returns
 returns c =
-    let s = c .before .before .before .before .before .before .before .before .before .before .before .before .before in
+    let s = c .before .before .before .before .before .before .before .before .before .before .before .before in
     let a = s .args in
-    let e = row (c .before .before) in
+    let e = c .before .before .quiet-ask-row .ensures in
     ask-refused (st s) (a .image .now) (a .call) (a .op) _ e (c .before .if1 .taken) _ (refused-known _ _ (st s) (rw e (ask-known (st s) (length (a .image .now)) (a .call))) (c .answer-of .ensures))
 
 op-needs-requires : tie.Need-op-needs-requires
 op-needs-requires c κs =
-    let s = c .before .before .before .before .before .before .before .before .before .before .before .before .before .before .before .before in
+    let s = c .before .before .before .before .before .before .before .before .before .before .before .before .before .before .before in
     let a = s .args in
-    let q = ask-ranges (st s) (a .image .now) (a .call) (a .op) _ (row (c .before .before .before .before .before)) (c .before .before .before .before .if1 .left) (s .pre) in
+    let q = ask-ranges (st s) (a .image .now) (a .call) (a .op) _ (c .before .before .before .before .before .quiet-ask-row .ensures) (c .before .before .before .before .if1 .left) (s .pre) in
     (q .0 .legal, omega (arith, q .2, q .0 .legal .entries-high), op-asked (st s) (a .op) 0 (q .1))
 
 complete-requires : tie.Need-complete-requires
 complete-requires c κs =
-    let s = c .before .before .before .before .before .before .before .before .before .before .before .before .before .before .before .before .before .before .before .before .before .before .before .before .before .before .before in
+    let s = c .before .before .before .before .before .before .before .before .before .before .before .before .before .before .before .before .before .before .before .before .before .before .before .before .before .before in
     let a = s .args in
-    ask-complete (st s) (a .image .now) (a .call) (a .op) _ (row (c .before .before .before .before .before .before .before .before .before .before .before .before .before .before .before .before)) (c .before .before .before .before .before .before .before .before .before .before .before .before .before .before .before .if1 .left) (s .pre) _ (c .before .before .before .before .before .before .before .before .before .pending-from .ensures)
+    ask-complete (st s) (a .image .now) (a .call) (a .op) _ (c .before .before .before .before .before .before .before .before .before .before .before .before .before .before .before .before .quiet-ask-row .ensures) (c .before .before .before .before .before .before .before .before .before .before .before .before .before .before .before .if1 .left) (s .pre) _ (c .before .before .before .before .before .before .before .before .before .pending-from .ensures)
 
 returns-2 : tie.Need-returns-2
 unfolding storesNeeded
 returns-2 c =
-    let s = c .before .before .before .before .before .before .before .before .before .before .before .before .before .before .before .before .before .before .before .before .before .before .before .before .before .before .before .before in
+    let s = c .before .before .before .before .before .before .before .before .before .before .before .before .before .before .before .before .before .before .before .before .before .before .before .before .before .before .before in
     let a = s .args in
-    ask-done (st s) (a .image .now) (a .call) (a .op) _ (row (c .before .before .before .before .before .before .before .before .before .before .before .before .before .before .before .before .before)) (c .before .before .before .before .before .before .before .before .before .before .before .before .before .before .before .before .if1 .left) (s .pre) _ (c .before .before .before .before .before .before .before .before .before .before .pending-from .ensures) _ _
+    ask-done (st s) (a .image .now) (a .call) (a .op) _ (c .before .before .before .before .before .before .before .before .before .before .before .before .before .before .before .before .before .quiet-ask-row .ensures) (c .before .before .before .before .before .before .before .before .before .before .before .before .before .before .before .before .if1 .left) (s .pre) _ (c .before .before .before .before .before .before .before .before .before .before .pending-from .ensures) _ _
     (sym (c .before .before .before .before .before .before .before .before .before .before .before .op-needs .ensures) ∙ c .before .before .before .before .before .before .before .before .before .if2 .taken) (c .complete .ensures) refl
 
 make-all-requires : tie.Need-make-all-requires
 unfolding storesNeeded
 make-all-requires c κs =
-    let s = c .before .before .before .before .before .before .before .before .before .before .before .before .before .before .before .before .before .before .before .before .before .before .before .before .before .before .before .before in
+    let s = c .before .before .before .before .before .before .before .before .before .before .before .before .before .before .before .before .before .before .before .before .before .before .before .before .before .before .before in
     let a = s .args in
-    ask-pends (st s) (a .image .now) (a .call) (a .op) _ (row (c .before .before .before .before .before .before .before .before .before .before .before .before .before .before .before .before .before)) (c .before .before .before .before .before .before .before .before .before .before .before .before .before .before .before .before .if1 .left) (s .pre) _ (c .before .before .before .before .before .before .before .before .before .before .pending-from .ensures) _ (c .before .before .before .before .before .before .before .before .before .before .before .op-needs .ensures) (c .before .before .before .before .before .before .before .before .before .if2 .left)
+    ask-pends (st s) (a .image .now) (a .call) (a .op) _ (c .before .before .before .before .before .before .before .before .before .before .before .before .before .before .before .before .before .quiet-ask-row .ensures) (c .before .before .before .before .before .before .before .before .before .before .before .before .before .before .before .before .if1 .left) (s .pre) _ (c .before .before .before .before .before .before .before .before .before .before .pending-from .ensures) _ (c .before .before .before .before .before .before .before .before .before .before .before .op-needs .ensures) (c .before .before .before .before .before .before .before .before .before .if2 .left)
 
 returns-3 : tie.Need-returns-3
 unfolding storesNeeded
 returns-3 c =
-    let s = c .before .before .before .before .before .before .before .before .before .before .before .before .before .before .before .before .before .before .before .before .before .before .before .before .before .before .before .before .before .before .before in
+    let s = c .before .before .before .before .before .before .before .before .before .before .before .before .before .before .before .before .before .before .before .before .before .before .before .before .before .before .before .before .before .before in
     let a = s .args in
     let e = c .before .before .make-all .ensures in
-    ask-through (st s) (a .image .now) (a .call) (a .op) _ (row (c .before .before .before .before .before .before .before .before .before .before .before .before .before .before .before .before .before .before .before .before)) (c .before .before .before .before .before .before .before .before .before .before .before .before .before .before .before .before .before .before .before .if1 .left) (s .pre) _ (c .before .before .before .before .before .before .before .before .before .before .before .before .before .pending-from .ensures) _ (c .before .before .before .before .before .before .before .before .before .before .before .before .before .before .op-needs .ensures) (c .before .before .before .before .before .before .before .before .before .before .before .before .if2 .left) _ _ _ (e .0) (e .1) refl
+    ask-through (st s) (a .image .now) (a .call) (a .op) _ (c .before .before .before .before .before .before .before .before .before .before .before .before .before .before .before .before .before .before .before .before .quiet-ask-row .ensures) (c .before .before .before .before .before .before .before .before .before .before .before .before .before .before .before .before .before .before .before .if1 .left) (s .pre) _ (c .before .before .before .before .before .before .before .before .before .before .before .before .before .pending-from .ensures) _ (c .before .before .before .before .before .before .before .before .before .before .before .before .before .before .op-needs .ensures) (c .before .before .before .before .before .before .before .before .before .before .before .before .if2 .left) _ _ _ (e .0) (e .1) refl
 
 pub ask-spec : {M : Type 1} → statement M
 ask-spec =
     tie.close
     (tie.spec
-    (λ c κs. search needs)
     (λ c κs. search needs)
     (λ c κs. search needs)
     returns
