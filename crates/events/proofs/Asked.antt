@@ -137,7 +137,7 @@ module _ (st : State) (img ms : List ℕ) (k m a : ℕ) (d : Done) (found : Foun
       ∙ ap₂ (λ (x y : ℕ). lineWords (merged (lineBytes img (st .sizes) (found .first) x) 0 8 (bytesOf 8 y))) el (ev ∙ ap (λ (s : ℕ). firstNumber ms k m s a) (g .3))
       ∙ ap (λ (x : ℕ). lineWords (merged (lineBytes img (st .sizes) x (firstMeter k m)) 0 8 (bytesOf 8 v₀))) (g .1)
       ∙ ap (λ (x : List ℕ). lineWords (merged x 0 8 (bytesOf 8 v₀))) (narrow-line st img (firstMeter k m) narrow) in
-      let two : second ≡ eventSecond st img ms k m a = 
+      let two : second ≡ eventSecond st img ms k m a =
       esecond
       ∙ ap (λ (x : ℕ). secondOf img ms (st .sizes) x k m a) (g .2)
       ∙ ap (λ (x : List ℕ). cond (movesCredit k) (lineWords (merged x 0 8 (bytesOf 8 (rolled ms (ownMeter k m) (wordAt x 0) a)))) (replicate 8 0)) (narrow-line st img (ownMeter k m) narrow) in
