@@ -117,18 +117,22 @@ fn fresh(image: &mut [u8], entries: usize) -> State {
     mounting::format(image, z).state
 }
 
-// The calls one after the other, each run to its end. A format starts anew with so many entries.
+// Makes a call, tells why it was refused, and runs it to its end. A format starts anew with so many entries.
+fn turn(image: &mut [u8; 12552], st: State, row: &[usize; 4]) -> State {
+    if row[0] == wording::FORMAT {
+        return fresh(image, row[1]);
+    }
+    let done = make(st, image, row);
+    tell(done, row);
+    stepping::run(done.state, image, 13).state
+}
+
+// The calls one after the other.
 pub fn show_met() {
     let mut image = [0u8; 12552];
     let mut st = fresh(&mut image, 0);
     for k in 0..55 {
         let row = CALLS[k];
-        if row[0] == wording::FORMAT {
-            st = fresh(&mut image, row[1]);
-        } else {
-            let done = make(st, &image, &row);
-            tell(done, &row);
-            st = stepping::run(done.state, &mut image, 13).state;
-        }
+        st = turn(&mut image, st, &row);
     }
 }

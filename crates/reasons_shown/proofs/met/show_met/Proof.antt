@@ -1,12 +1,10 @@
 use Prim.Native.Nat.{_-_, _≤_}
-use mathlib.Core.Path.{_≡_}
-use lib.ListN.{length}
 use borrow.Author.Needs.{needs}
 use Rattle.reasons_shown.proofs.met.show_met.Statement.{statement}
 use Rattle.reasons_shown.proofs.met.show_met.Tie as tie
 
 abbrev Inv-loop : tie.InvT-loop
-Inv-loop image₀ st₀ k₀ image st k = (k ≤ 55) × (length image ≡ 12552)
+Inv-loop image₀ st₀ k₀ image st k = k ≤ 55
 
 abbrev μ-loop : tie.MeasureT-loop
 μ-loop image₀ st₀ k₀ image st k = 55 - k
@@ -21,10 +19,6 @@ show-met-spec =
     (λ c κs. search needs)
     (λ c. search needs)
     (λ c. search needs)
-    (λ c. search needs)
-    (λ c. search needs)
-    (λ c κs. search needs)
-    (λ c κs. search needs)
     (λ c. search needs)
     (λ c κs. search needs)
     (λ c. search needs)
