@@ -55,15 +55,24 @@ pub fn place_rows(state: &State, writer: u64, page: u64, line: u64) -> Answer<()
     row(BadArgument, line >= LINES)
 }
 
-/// Rows 11 (without the data) to 15.
-pub fn write_rows(
+/// Rows 11 (without the data) and 13 of any write.
+fn first_write_rows(
     state: &State,
     (writer, page, line): (u64, u64, u64),
     (offset, length): (u64, u64),
 ) -> Answer<()> {
     place_rows(state, writer, page, line)?;
     length_row(offset, length)?;
-    row(WriterClosed, !state.is_open(writer))?;
+    row(WriterClosed, !state.is_open(writer))
+}
+
+/// Rows 11 (without the data) to 15.
+pub fn write_rows(
+    state: &State,
+    (writer, page, line): (u64, u64, u64),
+    span: (u64, u64),
+) -> Answer<()> {
+    first_write_rows(state, (writer, page, line), span)?;
     own_row(state, writer)?;
     row(LineHeld, held_by_another(state, writer, page, line))?;
     row(NoFreeSlot, state.slot_of(page).is_none() && state.first_free().is_none())
@@ -73,11 +82,9 @@ pub fn write_rows(
 pub fn log_rows(
     state: &State,
     (writer, page, line): (u64, u64, u64),
-    (offset, length): (u64, u64),
+    span: (u64, u64),
 ) -> Answer<()> {
-    place_rows(state, writer, page, line)?;
-    length_row(offset, length)?;
-    row(WriterClosed, !state.is_open(writer))?;
+    first_write_rows(state, (writer, page, line), span)?;
     let used = state.wide.keys.len() as u64;
     row(EntriesUsed, state.wide.entry_of(page, line).is_none() && used >= state.sizes.l)
 }
