@@ -23,7 +23,7 @@ def functions(folder):
     total = 0
     for root, _, names in os.walk(folder):
         for name in names:
-            total += len(re.findall(r"(?m)^\s*(?:pub )?(?:extern \"C\" )?fn \w+", open(os.path.join(root, name), encoding="utf-8").read()))
+            total += len(re.findall(r"(?m)^\s*(?:pub |pub\(crate\) )?(?:extern \"C\" )?fn \w+", open(os.path.join(root, name), encoding="utf-8").read()))
     return total
 
 

@@ -10,7 +10,7 @@ import re
 import sys
 
 FOLDERS = ("crates/{}/must-fail", "tests/call_edits/{}", "tests/more_edits/{}")
-ITEM = re.compile(r"(?:pub )?(?:extern \"C\" )?(?:fn|const) (\w+)")
+ITEM = re.compile(r"(?:pub |pub\(crate\) )?(?:extern \"C\" )?(?:fn|const) (\w+)")
 DEFINITION = re.compile(r"(?:\w+ )*?([\w'-]+)[ \w]* [:=]")
 
 

@@ -1,16 +1,15 @@
 -- What a call comes to: a row's number with nothing changed, or taken. In a law about code, row is what the code found.
 use Prim.Native.Nat.{ℕ, _≤_}
 use mathlib.Core.Bool.{Bool, true, _&&_}
-use mathlib.Core.List.{List, [], _∷_, _++_}
+use mathlib.Core.List.{List, [], _∷_}
 use mathlib.Core.Path.{_≡_, refl, sym, ap, _∙_}
 use native.Mathlib.Omega.{arith}
 use lib.Dec.{eqb}
-use lib.ListN.{length}
 use borrow.Author.Tests.{ne-eqb, eqb-true}
-use Rattle.bounded.specs.Rows.{Row, refusal, Past}
+use Rattle.bounded.specs.Rows.{Row, refusal}
 use Rattle.bounded.specs.Below.{allBelow}
 use Rattle.bounded.proofs.Below.{all-at}
-use Rattle.bounded.proofs.Tests.{caseOn, and-left, and-right, row-keeps, row-no}
+use Rattle.bounded.proofs.Tests.{caseOn, and-left, and-right, row-keeps}
 use Rattle.state.specs.declared.State.{State}
 use Rattle.refinement.specs.Outcome.{answered}
 use Rattle.answers.specs.Answers.{numberOf, storesOf, asAnswer, outcomeOf}
@@ -27,18 +26,6 @@ Known (r ∷ rs) = (r .1 ≤ 30) × Known rs
 pub row-known : (rs : List Row) → Known rs → refusal rs ≤ 30
 row-known [] k = omega arith
 row-known (r ∷ rs) k = row-keeps (λ (x : ℕ). x ≤ 30) (r .0) (r .1) (refusal rs) (k .0) (row-known rs (k .1))
-
--- rows before others: the first of them that applies, or none and the others
-pub rows-first : (rs ss : List Row) (row : ℕ) → row ≡ refusal rs → (row ≡ 0 → ⊥) → row ≡ refusal (rs ++ ss)
-rows-first [] ss row e n = absurd (n e)
-rows-first (r ∷ rs) ss row e n =
-    caseOn (r .0)
-    (λ t. rw t (rw t at e))
-    (λ t. rw t (rows-first rs ss row (rw t at e) n))
-
-pub rows-then : (rs ss : List Row) (row : ℕ) → Past rs (length rs) → row ≡ refusal ss → row ≡ refusal (rs ++ ss)
-rows-then [] ss row p e = e
-rows-then (r ∷ rs) ss row p e = row-no (r .0) (r .1) (refusal (rs ++ ss)) row (p .0) (rows-then rs ss row (p .1) e)
 
 -- ---- calls
 

@@ -10,7 +10,6 @@ ghost use Rattle.layout.specs.Layout.{Legal};
 ghost use Rattle.journal.specs.Records.{liveCount};
 ghost use Rattle.state.specs.Parts.{stateOf};
 ghost use Rattle.state.specs.Wide.{wideOf};
-ghost use Rattle.refinement.specs.Settled.{noPending};
 ghost use Rattle.operations.specs.Operations.{Ranged, isIdle, opRowsOf, opRows, needs};
 ghost use Rattle.answers.specs.Answers.{outcomeOf};
 ghost use Rattle.refinement.specs.Stores.{completed};
@@ -119,65 +118,6 @@ pub fn ask_row<'a>(
         pending,
         n,
         false,
-    );
-    row_after(
-        row,
-        z,
-        head,
-        tail,
-        next,
-        page,
-        original,
-        spare,
-        opened,
-        held,
-        prepared,
-        wide,
-        count,
-        keys,
-        op,
-    )
-}
-
-// The same where nothing is pending.
-pub fn quiet_ask_row<'a>(
-    z: Sizes,
-    head: usize,
-    tail: usize,
-    next: usize,
-    page: &'a [usize; 16],
-    original: &'a [usize; 16],
-    spare: &'a [usize; 16],
-    bitmap: &'a [u64; 16],
-    last: &'a [usize; 16],
-    opened: &'a [bool; 4],
-    held: &'a [u64; 64],
-    prepared: usize,
-    wide: usize,
-    count: usize,
-    keys: &'a [u64; 64],
-    op: Op,
-    n: usize,
-) -> usize
-    ensures { λ r. ⌜ r ≡ refusal (quietRows (stateOf z head tail next (now (page .entry)) (now (original .entry)) (now (spare .entry)) (now (bitmap .entry)) (now (last .entry)) (now (opened .entry)) (now (held .entry)) prepared (wideOf wide count (now (keys .entry))) noPending) n ++ opRows (stateOf z head tail next (now (page .entry)) (now (original .entry)) (now (spare .entry)) (now (bitmap .entry)) (now (last .entry)) (now (opened .entry)) (now (held .entry)) prepared (wideOf wide count (now (keys .entry))) noPending) op 0) ⌝ }
-{
-    let row = rows::quiet_row(
-        z,
-        head,
-        tail,
-        next,
-        page,
-        original,
-        spare,
-        bitmap,
-        last,
-        opened,
-        held,
-        prepared,
-        wide,
-        count,
-        keys,
-        n,
     );
     row_after(
         row,

@@ -85,7 +85,7 @@ pub fn make_checkpoint_stores(
     ensures { λ _. ⌜ now (image .exit) ≡ checkpointStores z head (now (last .entry)) from n (now (image .entry)) ⌝ }
 {
     let c = needs::recorded_count(z, last);
-    let m = pieces::smaller(n, 3 * c - from);
+    let m = bounded::smaller(n, 3 * c - from);
     make_slot_stores(image, z, head, last, from, m);
     if m < n {
         image_words::store_word(image, 5, head as u64);

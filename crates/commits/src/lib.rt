@@ -116,7 +116,7 @@ pub fn make_commit_stores<'a>(
     ensures { λ _. ⌜ now (image .exit) ≡ commitStores z head (slotsOfArrays (now (page .entry)) (now (original .entry)) (now (spare .entry)) (now (bitmap .entry))) (now (held .entry)) w from n (now (image .entry)) ⌝ }
 {
     let c = state::held::held_count(z, held, w);
-    let m = pieces::smaller(n, 4 * c - from);
+    let m = bounded::smaller(n, 4 * c - from);
     make_record_stores(
         image,
         z,

@@ -1,6 +1,6 @@
 // Lines cut out of input that comes in pieces.
 ghost use mathlib.Core.Path.{_≡_};
-ghost use Prim.Native.Nat.{_+_, _-_, min};
+ghost use Prim.Native.Nat.{_+_, _-_};
 ghost use lib.ListN.{length};
 ghost use Rattle.words.specs.Words.{over};
 ghost use Rattle.cutting.specs.Pieces.{lineEnd, fitting};
@@ -13,12 +13,6 @@ pub fn line_end(input: &[u8], from: usize) -> usize
         return input.len();
     }
     bytes::scan::find(input, from, input.len(), 10)
-}
-
-pub fn lesser(a: usize, b: usize) -> usize
-    ensures { λ r. ⌜ r ≡ min a b ⌝ }
-{
-    if a < b { a } else { b }
 }
 
 // What is left of a after b.
@@ -35,8 +29,8 @@ pub fn keep(line: &mut [u8], have: usize, input: &[u8], from: usize, to: usize) 
     ensures { λ r. ⌜ r ≡ have + length (fitting (now (line .entry)) have (now (input .entry)) from to) ⌝ }
 {
     let room = left(line.len(), have);
-    let piece = lesser(left(to, from), left(input.len(), from));
-    let n = lesser(room, piece);
+    let piece = bounded::smaller(left(to, from), left(input.len(), from));
+    let n = bounded::smaller(room, piece);
     if n == 0 {
         return have;
     }

@@ -1,6 +1,6 @@
 // The entries of a wide transaction: their keys, and whether they are right.
 ghost use mathlib.Core.Path.{_≡_};
-ghost use Prim.Native.Nat.{_<_, _≤_, min};
+ghost use Prim.Native.Nat.{_<_, _≤_};
 ghost use lib.ListN.{length};
 ghost use Rattle.layout.specs.Layout.{Legal, imageLength};
 ghost use Rattle.words.specs.Words.{word};
@@ -51,19 +51,12 @@ pub fn entries_ok(z: Sizes, keys: &[u64; 64], n: usize) -> bool
     true
 }
 
-// The smaller of n and the number of entries.
-fn at_most(z: Sizes, n: usize) -> usize
-    ensures { λ r. ⌜ r ≡ min n (z .entries) ⌝ }
-{
-    if n < z.entries { n } else { z.entries }
-}
-
 // The keys of the first n entries of an image, as far as there are so many.
 pub fn read_keys(image: &[u8], z: Sizes, n: usize) -> [u64; 64]
     requires { ⌜ Legal z × (imageLength z ≤ length (now image)) ⌝ }
     ensures { λ r. ⌜ r ≡ keysFrom (word (now (image .entry))) z n ⌝ }
 {
-    let end = at_most(z, n);
+    let end = bounded::smaller(n, z.entries);
     let mut keys = [0u64; 64];
     let mut e = 0;
     while e < end {

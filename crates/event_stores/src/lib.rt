@@ -37,7 +37,7 @@ fn before(from: usize, n: usize, to: usize) -> usize
     if to <= from {
         return 0;
     }
-    pieces::smaller(n, to - from)
+    bounded::smaller(n, to - from)
 }
 
 // Makes n stores of an event's lines, from store `from` on.
@@ -82,7 +82,7 @@ fn make_line_stores<'a>(
         );
         return;
     }
-    let a = pieces::smaller(n, 8 - from);
+    let a = bounded::smaller(n, 8 - from);
     writes::make_write_stores(
         image,
         z,

@@ -7,7 +7,7 @@ use native.Mathlib.Omega.{arith}
 use lib.ListN.{length, replicate}
 use borrow.Author.Tests.{not-false, ne-eqb, ltb-false}
 use Rattle.bounded.specs.Rows.{Row, refusal, Past}
-use Rattle.bounded.proofs.Rows.{none-apply, row-none}
+use Rattle.bounded.proofs.Rows.{none-apply, row-none, rows-first, rows-then}
 use Rattle.bounded.proofs.Tests.{row-yes, row-no}
 use Rattle.layout.specs.Layout.{frames}
 use Rattle.words.specs.Words.{bytesOf, putWord, wordAt}
@@ -31,7 +31,7 @@ use Rattle.refinement.proofs.Quiet.{Quiet, quiet}
 use Rattle.refinement.proofs.SeenFrames.{seen-low}
 use Rattle.answers.specs.Answers.{outcomeOf}
 use Rattle.answers.specs.declared.Done.{Done}
-use Rattle.answers.proofs.Answered.{rows-first, rows-then, refused-by, taken-by}
+use Rattle.answers.proofs.Answered.{refused-by, taken-by}
 use Rattle.events.specs.Found.{startRows, EventFound, secondOf}
 use Rattle.events.specs.declared.Found.{Found}
 

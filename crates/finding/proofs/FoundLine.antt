@@ -7,24 +7,18 @@ use native.Mathlib.Omega.{arith}
 use lib.Dec.{ltb}
 use lib.ListN.{length}
 use borrow.Author.Tests.{eq-eqb, lt-ltb, le-ltb, ltb-true}
-use Rattle.bounded.specs.Rows.{refusal}
-use Rattle.bounded.proofs.Rows.{row-none}
 use Rattle.bounded.proofs.Tests.{caseOn, and-right}
 use Rattle.layout.specs.declared.Sizes.{Sizes}
 use Rattle.entries.specs.Entries.{keyOf, entryOf}
 use Rattle.state.specs.declared.State.{State}
 use Rattle.state.specs.declared.Wide.{Wide}
 use Rattle.state.specs.Wide.{isWide, entryFor, hasEntry}
-use Rattle.state.specs.declared.Op.{Op}
-use Rattle.state.specs.declared.Op.the-variants.{Commit, Copy}
-use Rattle.operations.specs.Operations.{isIdle, slotFor, frameBad, opRows}
-use Rattle.operations.proofs.Taken.{commit-alone}
-use Rattle.validity.specs.Validity.{stateOk, opFits}
+use Rattle.operations.specs.Operations.{slotFor, frameBad}
+use Rattle.validity.specs.Validity.{stateOk}
 use Rattle.refinement.specs.Frames.{pageFrame, seenFrame}
-use Rattle.refinement.specs.Calls.{seenLine, commitOp}
-use Rattle.refinement.proofs.Going.{ranges-of, shapes-of}
+use Rattle.refinement.specs.Calls.{seenLine}
+use Rattle.refinement.proofs.Going.{ranges-of, shapes-of, entries-of}
 use Rattle.refinement.proofs.SeenFrames.{seen-low}
-use Rattle.wide_stores.proofs.WideGoing.{entries-of}
 use Rattle.finding.specs.declared.Found.{Found}
 use Rattle.finding.specs.Finding.{FramesFound, EntryFound, FoundAfter, WriteFound, asEntry, foundLine, SeenLow}
 
@@ -77,24 +71,3 @@ found-low st img w p l o n bytes r f z ok low good =
           let e : r .seen ≡ seenFrame st w p l (r .frame) = rw b at (g .1) in
           rw (e, g .0) (seen-low st w p l (pageFrame st img p) (ranges-of st ok .legal) low (shapes-of st ok) good),
     )
-
--- a commit's rows are those of its operation, too
-pub commit-rows : (st : State) (w : ℕ) (op : Op) → op ≡ commitOp st w → (isIdle op ≡ false) × (refusal (opRows st (Commit w) 0) ≡ 0 → refusal (opRows st op 0) ≡ 0)
-commit-rows st w op e =
-    caseOn (isWide (st .wide) w)
-    (λ t.
-    let q : op ≡ Copy = rw t at e in
-    rw q (refl, λ r. sym (row-none (opRows st Copy 0) (commit-alone st w r, tt))))
-    (λ t.
-    let q : op ≡ Commit w = rw t at e in
-    rw q (refl, λ r. r))
-
-pub commit-fits : (st : State) (w : ℕ) (op : Op) → op ≡ commitOp st w → opFits (st .wide .writer) op ≡ true
-commit-fits st w op e =
-    caseOn (isWide (st .wide) w)
-    (λ t.
-    let q : op ≡ Copy = rw t at e in
-    rw q refl)
-    (λ t.
-    let q : op ≡ Commit w = rw t at e in
-    rw (q, t) refl)

@@ -1,3 +1,4 @@
 pub mod ShortData
 pub mod FoundLine
 pub mod Whole
+pub mod Writing

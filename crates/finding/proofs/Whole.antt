@@ -8,6 +8,7 @@ use lib.Dec.{eqb, ltb}
 use lib.ListN.{length}
 use borrow.Author.Tests.{eqb-true, eqb-false}
 use Rattle.bounded.specs.Rows.{Row, refusal}
+use Rattle.bounded.proofs.Rows.{rows-first, rows-then}
 use Rattle.bounded.proofs.Tests.{caseOn}
 use Rattle.layout.specs.Layout.{Legal, imageLength}
 use Rattle.state.specs.declared.State.{State}
@@ -15,10 +16,8 @@ use Rattle.state.specs.Wide.{isWide}
 use Rattle.operations.specs.Operations.{writeRows, logRows}
 use Rattle.refinement.specs.Frames.{pageFrame, seenFrame}
 use Rattle.refinement.specs.Calls.{quietRows}
-use Rattle.refinement.proofs.Going.{ranges-of}
+use Rattle.refinement.proofs.Going.{ranges-of, entries-of}
 use Rattle.refinement.proofs.Quiet.{quiet}
-use Rattle.wide_stores.proofs.WideGoing.{entries-of}
-use Rattle.answers.proofs.Answered.{rows-first, rows-then}
 use Rattle.finding.specs.declared.Found.{Found}
 use Rattle.finding.specs.Finding.{FoundAfter, WriteFound}
 

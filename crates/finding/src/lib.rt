@@ -1,8 +1,8 @@
-// What a write finds before it is taken: the row that turns it back, or the frames of its page and its line and whether the writer holds the line; and what
-// it then asks for.
+// What a write finds before it is taken: the row that turns it back, or the frames of its page and its line and whether the writer holds the line; and the
+// line that it then puts.
 ghost use mathlib.Core.Path.{_≡_};
-ghost use mathlib.Core.Bool.{true, false, _&&_, cond};
-ghost use lib.Dec.{ltb, eqb};
+ghost use mathlib.Core.Bool.{true, false, _&&_};
+ghost use lib.Dec.{ltb};
 ghost use Prim.Native.Nat.{_+_, _<_, _≤_};
 ghost use lib.ListN.{length as listLength};
 ghost use Rattle.layout.specs.Layout.{Legal, imageLength};
@@ -12,12 +12,10 @@ ghost use Rattle.state.specs.Parts.{stateOf};
 ghost use Rattle.state.specs.Wide.{wideOf};
 ghost use Rattle.refinement.specs.Settled.{noPending};
 ghost use Rattle.image.specs.Lines.{merged as mergedOf, mergeChanges, lineWords};
-ghost use Rattle.state.specs.declared.Op.the-variants.{Write, Commit, Log, Copy};
 ghost use Rattle.finding.specs.Finding.{FramesFound, EntryFound, FoundAfter, WriteFound, SeenLow, foundLine};
 use layout::Sizes;
 use lines::Merged;
-use state::Op;
-use state::Pending;
+use state::Places;
 
 // The row, 0 where none turns the write back; then the page's frame, the one that the line is read from, whether the writer holds the line, and whether it
 // is the wide one. That one holds a line as an entry: it is then `seen`.
@@ -170,7 +168,7 @@ fn entry_found<'a>(
 }
 
 // What is found after the rows that come first, row being what they gave: it, or row 11 for the data, or what the rows from 11 on find.
-fn found_after<'a>(
+pub fn found_after<'a>(
     row: usize,
     z: Sizes,
     next: usize,
@@ -239,84 +237,10 @@ fn found_after<'a>(
     )
 }
 
-// All rows of a write.
-pub fn write_found<'a>(
-    z: Sizes,
-    head: usize,
-    tail: usize,
-    next: usize,
-    page: &'a [usize; 16],
-    original: &'a [usize; 16],
-    spare: &'a [usize; 16],
-    bitmap: &'a [u64; 16],
-    last: &'a [usize; 16],
-    opened: &'a [bool; 4],
-    held: &'a [u64; 64],
-    prepared: usize,
-    wide: usize,
-    count: usize,
-    keys: &'a [u64; 64],
-    pending: Pending,
-    image: &[u8],
-    writer: usize,
-    p: usize,
-    line: usize,
-    offset: usize,
-    length: usize,
-    data: &[u8],
-) -> Found
-    ensures { λ r. ⌜ WriteFound (stateOf z head tail next (now (page .entry)) (now (original .entry)) (now (spare .entry)) (now (bitmap .entry)) (now (last .entry)) (now (opened .entry)) (now (held .entry)) prepared (wideOf wide count (now (keys .entry))) pending) (now (image .entry)) writer p line offset length (now («data» .entry)) r ⌝ }
-{
-    let row = rows::first_row(
-        z,
-        head,
-        tail,
-        next,
-        page,
-        original,
-        spare,
-        bitmap,
-        last,
-        opened,
-        held,
-        prepared,
-        wide,
-        count,
-        keys,
-        pending,
-        image.len(),
-        false,
-    );
-    found_after(
-        row,
-        z,
-        next,
-        page,
-        original,
-        spare,
-        bitmap,
-        opened,
-        held,
-        prepared,
-        wide,
-        count,
-        keys,
-        image,
-        writer,
-        p,
-        line,
-        offset,
-        length,
-        data,
-    )
-}
-
-// The same where nothing is pending.
+// All rows of a write where nothing is pending.
 pub fn quiet_found<'a>(
     z: Sizes,
-    head: usize,
-    tail: usize,
-    next: usize,
+    at: Places,
     page: &'a [usize; 16],
     original: &'a [usize; 16],
     spare: &'a [usize; 16],
@@ -324,9 +248,6 @@ pub fn quiet_found<'a>(
     last: &'a [usize; 16],
     opened: &'a [bool; 4],
     held: &'a [u64; 64],
-    prepared: usize,
-    wide: usize,
-    count: usize,
     keys: &'a [u64; 64],
     image: &[u8],
     writer: usize,
@@ -336,13 +257,11 @@ pub fn quiet_found<'a>(
     length: usize,
     data: &[u8],
 ) -> Found
-    ensures { λ r. ⌜ WriteFound (stateOf z head tail next (now (page .entry)) (now (original .entry)) (now (spare .entry)) (now (bitmap .entry)) (now (last .entry)) (now (opened .entry)) (now (held .entry)) prepared (wideOf wide count (now (keys .entry))) noPending) (now (image .entry)) writer p line offset length (now («data» .entry)) r ⌝ }
+    ensures { λ r. ⌜ WriteFound (stateOf z (at .head) (at .tail) (at .next) (now (page .entry)) (now (original .entry)) (now (spare .entry)) (now (bitmap .entry)) (now (last .entry)) (now (opened .entry)) (now (held .entry)) (at .prepared) (wideOf (at .wide) (at .count) (now (keys .entry))) noPending) (now (image .entry)) writer p line offset length (now («data» .entry)) r ⌝ }
 {
     let row = rows::quiet_row(
         z,
-        head,
-        tail,
-        next,
+        at,
         page,
         original,
         spare,
@@ -350,25 +269,22 @@ pub fn quiet_found<'a>(
         last,
         opened,
         held,
-        prepared,
-        wide,
-        count,
         keys,
         image.len(),
     );
     found_after(
         row,
         z,
-        next,
+        at.next,
         page,
         original,
         spare,
         bitmap,
         opened,
         held,
-        prepared,
-        wide,
-        count,
+        at.prepared,
+        at.wide,
+        at.count,
         keys,
         image,
         writer,
@@ -398,49 +314,4 @@ pub fn merged(
         return entry_lines::merged_entry(image, z, found.seen, offset, data, n);
     }
     lines::merged_line(image, z, found.seen, line, offset, data, n)
-}
-
-// The operation that a write asks for: a wide writer's is a `Log`.
-pub fn write_op(
-    wide: bool,
-    writer: usize,
-    page: usize,
-    line: usize,
-    offset: usize,
-    length: usize,
-) -> Op
-    ensures { λ r. ⌜ r ≡ cond wide (Log page line offset length) (Write writer page line offset length) ⌝ }
-{
-    if wide {
-        return Op::Log {
-            page,
-            line,
-            offset,
-            length,
-        };
-    }
-    Op::Write {
-        writer,
-        page,
-        line,
-        offset,
-        length,
-    }
-}
-
-// The stores that it needs.
-pub fn write_needs(wide: bool) -> usize
-    ensures { λ r. ⌜ r ≡ cond wide 9 8 ⌝ }
-{
-    if wide { 9 } else { 8 }
-}
-
-// The operation that a commit asks for: the wide writer's is a copying.
-pub fn commit_op(wide: usize, writer: usize) -> Op
-    ensures { λ r. ⌜ r ≡ cond (eqb wide writer) Copy (Commit writer) ⌝ }
-{
-    if wide == writer {
-        return Op::Copy;
-    }
-    Op::Commit { writer }
 }

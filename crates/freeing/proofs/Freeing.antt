@@ -8,7 +8,7 @@ use lib.Dec.{leb, ltb}
 use lib.ListN.{length, getD, replicate}
 use borrow.Author.Tests.{le-leb, lt-leb, lt-ltb, le-ltb}
 use Rattle.bounded.specs.Rows.{refusal}
-use Rattle.bounded.proofs.Rows.{row-at, row-none}
+use Rattle.bounded.proofs.Rows.{row-at, row-none, rows-first}
 use Rattle.journal.specs.Records.{liveCount}
 use Rattle.state.specs.declared.State.{State}
 use Rattle.state.specs.Held.{somePrepared}
@@ -22,8 +22,8 @@ use Rattle.refinement.proofs.Choice.{own-slot}
 use Rattle.refinement.proofs.Quiet.{Quiet}
 use Rattle.answers.specs.Answers.{outcomeOf}
 use Rattle.answers.specs.declared.Done.{Done}
-use Rattle.answers.proofs.Answered.{rows-first}
-use Rattle.asking.proofs.Taking.{pendingFrom, pendingWith, ask-refused, ask-pending, consolidate-needs}
+use Rattle.asked.proofs.Asked.{pendingFrom, pendingWith, consolidate-needs}
+use Rattle.asking.proofs.Taking.{ask-refused, ask-pending}
 
 module _ (st : State) (img : List ℕ) (d : Done) where
   by-row : (row : ℕ) → row ≡ refusal (freeCallRows st img) → (row ≡ 0 → ⊥) → outcomeOf d ≡ answered row st 0 st → outcomeOf d ≡ freeOf st img

@@ -8,7 +8,7 @@ ghost use Rattle.refinement.specs.Outcome.{answered};
 ghost use Rattle.refinement.specs.Calls.{runOf, runBytes};
 use layout::Sizes;
 use state::Pending;
-use stores::Places;
+use state::Places;
 use stores::making::Made;
 
 // What a run came to, where head, tail and the next slot then are, who is prepared, the wide writer and its entries, and what is then pending.

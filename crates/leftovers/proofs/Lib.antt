@@ -5,6 +5,8 @@ pub mod OneEvent
 pub mod AnyStore
 pub mod Runs
 pub mod SameRows
+pub mod SameReads
+pub mod AskedSame
 pub mod CallSame
 pub mod AfterMount
 pub mod Replaced

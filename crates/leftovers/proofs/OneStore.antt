@@ -44,7 +44,8 @@ use Rattle.refinement.proofs.HeaderStore.{header-page}
 use Rattle.refinement.proofs.Invariant.{TakenOnly, Behind, Durable, Writing, Never, Changing, Doing, Busy}
 use Rattle.refinement.proofs.PageSlots.{slotted-of, unslotted-of}
 use Rattle.refinement.proofs.Pending.{pends}
-use Rattle.refinement.proofs.Stepping.{Aside, Mid, store-fits, store-none, page-kept}
+use Rattle.refinement.proofs.StoreKept.{store-fits, store-none, page-kept}
+use Rattle.refinement.proofs.Stepping.{Aside, Mid}
 use Rattle.refinement.proofs.StepCheckpoint.{few-made, needed, checkpoint-shows, checkpoint-image}
 use Rattle.refinement.proofs.StepCommit.{commit-shows, records-there, image-is}
 use Rattle.refinement.proofs.StepPrepare.{prepare-left, confirm-pending, records-ready}

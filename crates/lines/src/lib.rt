@@ -2,7 +2,7 @@
 ghost use mathlib.Core.Path.{_≡_};
 ghost use Prim.Native.Nat.{_+_, _≤_, _<_};
 ghost use lib.ListN.{length};
-ghost use Rattle.words.specs.Words.{over};
+ghost use Rattle.words.specs.Words.{part, over};
 ghost use Rattle.layout.specs.Layout.{Legal, frames, imageLength};
 ghost use Rattle.image.specs.Lines.{lineBytes, merged, differ, mergeChanges, lineWords, copyStores};
 use layout::Sizes;
@@ -47,6 +47,21 @@ pub struct Merged {
     pub changed: bool,
 }
 
+// The line of 64 bytes from byte at on with the first n bytes of data laid over it from offset on.
+pub fn merged_at(bytes: &[u8], at: usize, offset: usize, data: &[u8], n: usize) -> Merged
+    requires { ⌜ (at + 64 ≤ length (now bytes)) × (offset + n ≤ 64) × (n ≤ length (now «data»)) ⌝ }
+    ensures words { λ r. ⌜ r .words ≡ lineWords (merged (part (now (bytes .entry)) at 64) offset n (now («data» .entry))) ⌝ }
+    ensures changed { λ r. ⌜ r .changed ≡ mergeChanges (part (now (bytes .entry)) at 64) offset n (now («data» .entry)) ⌝ }
+{
+    let mut line = [0u8; 64];
+    runs::copy_words(bytes, at, &mut line, 0, 8);
+    let before = runs::words_of(&line);
+    bytes::copy(&data[0..n], &mut line[offset..offset + n]);
+    let words = runs::words_of(&line);
+    let changed = words_differ(&words, &before);
+    Merged { words, changed }
+}
+
 // Line l of frame f with the first n bytes of data laid over it from offset on.
 pub fn merged_line(
     image: &[u8],
@@ -61,11 +76,5 @@ pub fn merged_line(
     ensures words { λ r. ⌜ r .words ≡ lineWords (merged (lineBytes (now (image .entry)) z f l) offset n (now («data» .entry))) ⌝ }
     ensures changed { λ r. ⌜ r .changed ≡ mergeChanges (lineBytes (now (image .entry)) z f l) offset n (now («data» .entry)) ⌝ }
 {
-    let mut line = [0u8; 64];
-    read_line(image, z, f, l, &mut line);
-    let before = runs::words_of(&line);
-    bytes::copy(&data[0..n], &mut line[offset..offset + n]);
-    let words = runs::words_of(&line);
-    let changed = words_differ(&words, &before);
-    Merged { words, changed }
+    merged_at(image::frame(image, z, f), 64 * l, offset, data, n)
 }

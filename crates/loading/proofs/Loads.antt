@@ -8,6 +8,7 @@ use lib.Dec.{ltb, leb, eqb}
 use lib.ListN.{length, replicate}
 use borrow.Author.Tests.{leb-false, eqb-true, eqb-false, eq-eqb, ne-eqb}
 use Rattle.bounded.specs.Below.{someBelow}
+use Rattle.bounded.proofs.Rows.{rows-first, rows-then}
 use Rattle.bounded.specs.Rows.{Row, refusal}
 use Rattle.bounded.proofs.Below.{some-ext}
 use Rattle.bounded.proofs.Tests.{caseOn, or-left, row-yes, row-no, row-keeps}
@@ -25,7 +26,6 @@ use Rattle.operations.specs.Operations.{slotFor, slotted, frameBad}
 use Rattle.validity.specs.Validity.{stateOk}
 use Rattle.answers.specs.declared.Answer.{Answer}
 use Rattle.answers.specs.Answers.{numberOf}
-use Rattle.answers.proofs.Answered.{rows-first, rows-then}
 use Rattle.refinement.specs.Frames.{slotAt, pageSlot, committedFrame, frameAt, pageFrame}
 use Rattle.refinement.specs.Recall.{frameOf}
 use Rattle.refinement.specs.Calls.{quietRows, meterStored, Loading, loadRows, loadOf}

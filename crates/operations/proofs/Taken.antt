@@ -1,9 +1,9 @@
 -- What no row from 11 on tells of an operation, as facts.
-use Prim.Native.Nat.{ℕ, zero, suc, _+_, _*_, _<_, _≤_}
-use mathlib.Core.Bool.{Bool, true, false, not, _||_}
-use mathlib.Core.Path.{_≡_, refl}
+use Prim.Native.Nat.{ℕ, _+_, _<_, _≤_}
+use mathlib.Core.Bool.{true, false, _||_}
+use mathlib.Core.Path.{_≡_}
 use native.Mathlib.Omega.{arith}
-use borrow.Author.Tests.{ltb-true, ltb-false, leb-true, leb-false, eqb-true, eqb-false, not-true, not-false}
+use borrow.Author.Tests.{ltb-true, ltb-false, leb-false, eqb-true, eqb-false, not-false}
 use lib.Dec.{ltb, leb, eqb}
 use lib.ListN.{length}
 use Rattle.bounded.specs.Rows.{refusal}
@@ -16,7 +16,7 @@ use Rattle.state.specs.declared.Op.{Op}
 use Rattle.state.specs.declared.Op.the-variants.{Idle, Write, Commit, Consolidate, Checkpoint, Event, Prepare, Confirm, Log, Copy}
 use Rattle.state.specs.Held.{isOpen, somePrepared, someHold, heldSlots}
 use Rattle.state.specs.Wide.{someWide, noEntryLeft}
-use Rattle.operations.specs.Operations.{live, slotFor, slotted, writeArgsBad, lineTaken, noneFree, frameBad, writeRows, commitRows, prepareRows, logRows, confirmRows, consolidateRows, eventNextRows, opRows, Asked}
+use Rattle.operations.specs.Operations.{live, slotFor, slotted, writeArgsBad, lineTaken, noneFree, frameBad, writeRows, commitRows, prepareRows, logRows, confirmRows, consolidateRows, opRows, Asked}
 
 -- row 11 of a write
 pub record ArgsGood (z : Sizes) (w p l o n : ℕ) : Type 0 where

@@ -1,29 +1,34 @@
--- A commit, a consolidation or a checkpoint in place. row is the one that the code found, and needed the stores that it counted.
+-- What a commit, a consolidation and a checkpoint in place share: turned back by a row, or all stores made and the operation complete. row is the one that
+-- the code found.
 use Prim.Native.Nat.{ℕ, _≤_}
-use mathlib.Core.Bool.{true, false}
+use mathlib.Core.Bool.{Bool, true, false, cond}
 use mathlib.Core.List.{List, _++_}
-use mathlib.Core.Path.{_≡_, refl, sym, ap, _∙_}
+use mathlib.Core.Path.{_≡_, refl, sym, _∙_}
 use native.Mathlib.Omega.{arith}
+use lib.Dec.{eqb}
 use lib.ListN.{length, replicate}
+use borrow.Author.Tests.{eqb-true, eqb-false}
 use Rattle.bounded.specs.Rows.{refusal}
-use Rattle.bounded.proofs.Tests.{contradicts}
+use Rattle.bounded.proofs.Tests.{caseOn, contradicts, row-keeps}
+use Rattle.bounded.proofs.Below.{up-none}
 use Rattle.layout.specs.Layout.{imageLength}
 use Rattle.state.specs.declared.State.{State}
-use Rattle.state.specs.declared.Pending.{Pending}
+use Rattle.state.specs.declared.Places.{Places}
 use Rattle.state.specs.declared.Op.{Op}
 use Rattle.state.specs.declared.Op.the-variants.{Idle, Write, Commit, Consolidate, Checkpoint, Event, Prepare, Confirm, Log, Copy}
-use Rattle.operations.specs.Operations.{Ranged, isIdle, opRows, needs}
+use Rattle.operations.specs.Operations.{isIdle, opRows, needs}
 use Rattle.validity.specs.Validity.{stateOk, opFits}
 use Rattle.refinement.specs.Commit.{commitRecordOf}
-use Rattle.refinement.specs.Stores.{completed, storesMade, left}
+use Rattle.refinement.specs.Stores.{completed, storesMade}
 use Rattle.refinement.specs.Outcome.{Outcome, answered}
 use Rattle.refinement.specs.Calls.{withPending, quietRows}
-use Rattle.refinement.proofs.CallAsked.{rows-asked}
-use Rattle.refinement.proofs.Going.{ranges-of}
-use Rattle.wide_stores.proofs.WideGoing.{entries-of}
-use Rattle.asking.proofs.Taking.{pendingFrom, pendingWith, ask-none, ask-long, write-needs, log-needs, consolidate-needs, event-needs}
-use Rattle.in_place.specs.Through.{Through, askedOf}
-use Rattle.in_place.proofs.Through.{Ready, ready-valid, all-left, through-refused, through-done, through-run}
+use Rattle.answers.specs.declared.Answer.{Answer}
+use Rattle.answers.specs.Answers.{asAnswer}
+use Rattle.answers.proofs.Answered.{refused-known}
+use Rattle.answers.proofs.AskKnown.{ask-known}
+use Rattle.asked.proofs.Asked.{ask-none, ask-long, write-needs, log-needs, consolidate-needs, event-needs}
+use Rattle.in_place.specs.Through.{Through, answeredAt, askedOf}
+use Rattle.in_place.proofs.Through.{through-refused, through-done, through-run}
 
 -- what is pending does not change what an operation without stores comes to
 completed-pending : (st : State) (line : List ℕ) (op : Op) → needs st op ≡ 0 → isIdle op ≡ false → completed (withPending st op line 0) op ≡ completed st op
@@ -39,43 +44,39 @@ completed-pending st line (Confirm w) n i = refl
 completed-pending st line (Log p l o k) n i = absurd (log-needs st p l o k n)
 completed-pending st line Copy n i = refl
 
-abbrev pub zeros : List ℕ
-zeros = replicate 8 0
+-- an operation needs n stores or none
+pub most : (b : Bool) (n : ℕ) → cond b 0 n ≤ n
+most b n = row-keeps (λ (x : ℕ). x ≤ n) b 0 n (omega arith) (omega arith)
+
+-- where a state is
+abbrev pub placesOf : State → Places
+placesOf st = record { head = st .head; tail = st .tail; next = st .next; prepared = st .writers .prepared; wide = st .wide .writer; count = st .wide .count }
+
+-- the state with an operation pending that keeps no lines
+abbrev pub pends : State → Op → State
+pends st op = withPending st op (replicate 8 0) 0
 
 module _ (st : State) (img : List ℕ) (call op : Op) (row : ℕ) (e : row ≡ refusal (quietRows st (length img) ++ opRows st call 0)) where
-  pub ask-refused : (row ≡ 0 → ⊥) → (done : Outcome) → done ≡ answered row st 0 st → Through done img (askedOf st (length img) call op) img
-  ask-refused n done h = through-refused st img (quietRows st (length img) ++ opRows st call 0) row _ _ e n done h
+  pub ask-refused : (row ≡ 0 → ⊥) → (a : Answer) → a ≡ asAnswer row 0 → Through (answeredAt a st) img (askedOf st (length img) call op) img
+  ask-refused n a h =
+      through-refused st img (quietRows st (length img) ++ opRows st call 0) row _ _ e n (answeredAt a st) (refused-known a row st (rw e (ask-known st (length img) call)) h)
 
-  module _ (z : row ≡ 0) (given : (isIdle op ≡ false) × (opFits (st .wide .writer) op ≡ true) × (refusal (opRows st call 0) ≡ 0 → refusal (opRows st op 0) ≡ 0)) where
-    i : isIdle op ≡ false
-    i = given .0
+  module _ (z : row ≡ 0) where
+    pub ask-taken : (stateOk st ≡ true) × (refusal (opRows st call 0) ≡ 0) × (imageLength (st .sizes) ≤ length img)
+    ask-taken = let q = ask-none st (length img) call (sym e ∙ z) in (q .0, q .1, ask-long st (length img) call (sym e ∙ z))
 
-    none : (stateOk st ≡ true) × (refusal (opRows st op 0) ≡ 0)
-    none = let q = ask-none st (length img) call (sym e ∙ z) in (q .0, given .2 (q .1))
-
-    pub ask-ranges : Ranged st × (refusal (opRows st op 0) ≡ 0) × (st .wide .count ≤ st .sizes .entries)
-    ask-ranges = (ranges-of st (none .0), none .1, entries-of st (none .0) .few)
-
-    -- q is what the code has pending
-    module _ (q : Pending) (m : q ≡ pendingFrom op zeros 0) where
-      pub ask-complete : Ranged (pendingWith st q) × (refusal (opRows (pendingWith st q) (q .op) (q .frame)) ≡ 0) × (isIdle (q .op) ≡ false) × (st .wide .count ≤ st .sizes .entries)
-      ask-complete =
-          let r = ask-ranges .0 in
-          rw m (record { legal = r .legal; head-low = r .head-low; tail-low = r .tail-low; live-high = r .live-high; next-low = r .next-low }, rows-asked st zeros 0 op op 0 ∙ none .1, i, ask-ranges .2)
-
-      pub ask-done : (done : Outcome) (after : State) → needs st op ≡ 0 → after ≡ completed (pendingWith st q) (q .op) → done ≡ answered 0 after 0 after
-          → Through done img (askedOf st (length img) call op) img
-      ask-done done after n a h =
-          through-done st img op zeros 0 (quietRows st (length img) ++ opRows st call 0) row e z n done after (rw m at a ∙ completed-pending st zeros op n i) h
-
-      module _ (n : ℕ) (k : n ≡ needs st op) (some : n ≡ 0 → ⊥) where
-        ready : Ready st img op 0
-        ready = record { ok = none .0; long = ask-long st (length img) call (sym e ∙ z); rows = none .1; busy = i; some = omega (arith, k, some); fits = given .1 }
-
-        pub ask-pends : (stateOk (pendingWith st q) ≡ true) × (isIdle (q .op) ≡ false) × (n ≡ left (pendingWith st q)) × (imageLength (st .sizes) ≤ length img)
-        ask-pends = rw m (ready-valid st img op zeros 0 ready, i, omega (arith, k, all-left st img op zeros 0 ready), ready .long)
-
-        pub ask-through : (done : Outcome) (after : State) (bs : List ℕ) → after ≡ completed (pendingWith st q) (q .op) → bs ≡ storesMade (pendingWith st q) n img
-            → done ≡ answered 0 after n after → Through done bs (askedOf st (length img) call op) img
-        ask-through done after bs a b h =
-            through-run st img op zeros 0 (quietRows st (length img) ++ opRows st call 0) row e z ready n done after bs k (rw m at a) (rw m at b) h
+    -- n is the count of stores, after the state and bs the bytes, as the code has them
+    pub ask-through : isIdle op ≡ false → opFits (st .wide .writer) op ≡ true → refusal (opRows st op 0) ≡ 0 → (n : ℕ) → n ≡ needs st op → (after : State) → after ≡ completed (pends st op) op
+        → (bs : List ℕ) → bs ≡ storesMade (pends st op) n img → Through (answered 0 after n after) bs (askedOf st (length img) call op) img
+    ask-through i f r n k after a bs b =
+        let rs = quietRows st (length img) ++ opRows st call 0 in
+        let done : Outcome = answered 0 after n after in
+        caseOn (eqb n 0)
+        (λ t.
+        let none : n ≡ 0 = eqb-true n 0 t in
+        let q = through-done st img op (replicate 8 0) 0 rs row e z (sym k ∙ none) done after (a ∙ completed-pending st (replicate 8 0) op (sym k ∙ none) i) (rw none) in
+        let same : bs ≡ img = rw none at b ∙ sym (up-none _ img) in
+        (q .0, same ∙ q .1))
+        (λ t.
+        let some : n ≡ 0 → ⊥ = eqb-false n 0 t in
+        through-run st img op (replicate 8 0) 0 rs row e z (record { ok = ask-taken .0; long = ask-taken .2; rows = r; busy = i; some = omega (arith, k, some); fits = f }) n done after bs k a b refl)

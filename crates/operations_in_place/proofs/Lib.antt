@@ -1,2 +1,4 @@
 pub mod Asking
 pub mod Committing
+pub mod Consolidating
+pub mod Checkpointing

@@ -7,19 +7,12 @@ ghost use Rattle.pieces.specs.Pieces.{Fits, lineStores, lineCopies, reco
 use journal::Record;
 use layout::Sizes;
 
-// The smaller of two numbers.
-pub fn smaller(a: usize, b: usize) -> usize
-    ensures { λ r. ⌜ r ≡ min a b ⌝ }
-{
-    if a < b { a } else { b }
-}
-
 // How many of the next stores, store `at` the first of them, lie in its piece of so many.
 pub fn in_piece(size: usize, at: usize, left: usize) -> usize
     requires { ⌜ 0 < size ⌝ }
     ensures { λ r. ⌜ r ≡ min (size - at % size) left ⌝ }
 {
-    smaller(size - at % size, left)
+    bounded::smaller(size - at % size, left)
 }
 
 // Stores n words of a line, from word k on, as line l of frame f.

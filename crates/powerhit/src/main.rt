@@ -111,7 +111,7 @@ fn perform_kept(s: Session, image: &mut [u8], line: &mut [u8], out: &mut [u8; 65
     requires { ⌜ length (now line) ≡ 2048 ⌝ }
     ensures { λ r. ⌜ Takes s (now (image .entry)) (now (line .entry)) (now (out .entry)) (10 ∷ []) r (now (image .exit)) (now (line .exit)) (now (out .exit)) ⌝ }
 {
-    let end = cutting::lesser(s.kept, 2047);
+    let end = bounded::smaller(s.kept, 2047);
     line[end] = b'\n';
     perform_lines(s, image, &line[..end + 1], 0, end, out)
 }

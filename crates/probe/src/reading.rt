@@ -38,7 +38,7 @@ fn perform_kept(s: Session, buffer: &mut [u8; 65536], line: &[u8], out: &mut [u8
     ensures { λ r. ⌜ Takes (stand s (now (buffer .entry)) (now (line .entry)) (now (out .entry))) (10 ∷ []) (stand r (now (buffer .exit)) (now (line .entry)) (now (out .exit))) ⌝ }
 {
     let mut next = make_room(s, out);
-    let k = cutting::lesser(next.kept, line.len());
+    let k = bounded::smaller(next.kept, line.len());
     next.lines = std::num::wrapping_add_u64(next.lines, 1);
     next.kept = 0;
     let p = lines::perform(next.bench, buffer, &line[..k], next.lines, out, next.at);

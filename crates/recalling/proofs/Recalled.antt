@@ -10,7 +10,7 @@ use lib.ListN.{length}
 use borrow.Author.Tests.{ltb-true, ltb-false, leb-false, eqb-true, eq-eqb, ne-eqb, lt-ltb, le-ltb}
 use Rattle.bounded.specs.Count.{Once}
 use Rattle.bounded.specs.Rows.{Row, refusal}
-use Rattle.bounded.proofs.Rows.{none-apply}
+use Rattle.bounded.proofs.Rows.{none-apply, rows-first, rows-then}
 use Rattle.bounded.proofs.Tests.{caseOn, or-left, or-right}
 use Rattle.layout.specs.declared.Sizes.{Sizes}
 use Rattle.layout.specs.Layout.{Legal, frames, imageLength}
@@ -28,7 +28,6 @@ use Rattle.masks.specs.Lines.{inMask}
 use Rattle.refinement.proofs.NamesOnce.{spare-low, home-low}
 use Rattle.refinement.specs.Wide.{entryBytes}
 use Rattle.refinement.specs.Recall.{frameOf, recallRow, recallBytes}
-use Rattle.answers.proofs.Answered.{rows-first, rows-then}
 
 -- mount's number is that of its rows
 mount-row : (img : List ℕ) → mountOf img .row ≡ refusal (mountRows (length img) (word img))

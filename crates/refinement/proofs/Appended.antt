@@ -16,7 +16,7 @@ use Rattle.replay.specs.Table.{noPosition, lastIn, replay}
 use Rattle.journal.proofs.Ring.{Positions, pos-lt, pos-apart, live-more}
 use Rattle.replay.proofs.Tables.{Sixteen}
 use Rattle.replay.proofs.Latest.{Latest, latest, sixteen-replay, replay-latest, replay-kept}
-use Rattle.refinement.proofs.StateValid.{lastAt, LastsFine}
+use Rattle.refinement.proofs.ValidLasts.{lastAt, LastsFine}
 
 -- an entry inside a list does not depend on what is read past its end
 any-default : (l : List ℕ) (i d e : ℕ) → i < length l → getD l i d ≡ getD l i e

@@ -21,7 +21,8 @@ use Rattle.state.specs.declared.Op.the-variants.{Checkpoint}
 use Rattle.operations.specs.Operations.{needs}
 use Rattle.refinement.specs.Stores.{World, completed}
 use Rattle.refinement.proofs.Appended.{last-at}
-use Rattle.refinement.proofs.StateValid.{lastAt, valid}
+use Rattle.refinement.proofs.ValidLasts.{lastAt}
+use Rattle.refinement.proofs.StateValid.{valid}
 use Rattle.refinement.specs.Calls.{checkpointCallRows, checkpointOf}
 use Rattle.refinement.specs.Run.{checkpoint, exec}
 use Rattle.refinement.specs.Reference.{Reference, nothing}

@@ -13,7 +13,6 @@ use Rattle.bounded.specs.Rows.{refusal}
 use Rattle.bounded.proofs.Below.{none-at, none-made}
 use Rattle.bounded.proofs.Rows.{none-apply}
 use Rattle.bounded.proofs.Tests.{caseOn, contradicts, row-keeps}
-use Rattle.layout.specs.declared.Sizes.{Sizes}
 use Rattle.entries.specs.Entries.{noKeys}
 use Rattle.entries.proofs.EntryLaws.{Right, none-right}
 use Rattle.state.specs.declared.State.{State}
@@ -25,7 +24,8 @@ use Rattle.operations.specs.Operations.{isIdle}
 use Rattle.validity.specs.Validity.{stateOk}
 use Rattle.refinement.specs.Commit.{closedWriter}
 use Rattle.refinement.specs.Settled.{withPrepared}
-use Rattle.refinement.proofs.StateValid.{HeldFine, PreparedFine, WideFine, narrow, valid, valid-ok}
+use Rattle.refinement.proofs.ValidWriters.{HeldFine, PreparedFine, WideFine}
+use Rattle.refinement.proofs.StateValid.{narrow, valid, valid-ok}
 use Rattle.refinement.proofs.Pending.{idle-ok}
 use Rattle.refinement.proofs.Closed.{closed-fine, closed-prepared}
 use Rattle.refinement.proofs.Sized.{Sized, closed-sized}

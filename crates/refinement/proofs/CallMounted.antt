@@ -13,7 +13,7 @@ use Rattle.state.specs.declared.State.{State}
 use Rattle.entries.proofs.EntryLaws.{length-keys, none-right, Right, entries-right}
 use Rattle.entries.specs.Entries.{noKeys}
 use Prim.Native.Nat.{ℕ, _+_, _*_, _<_, _≤_}
-use mathlib.Core.Bool.{true, cond}
+use mathlib.Core.Bool.{true}
 use mathlib.Core.List.{List, _++_}
 use mathlib.Core.Path.{_≡_, refl, sym, ap, _∙_, subst}
 use native.Mathlib.Omega.{arith}
@@ -43,7 +43,9 @@ use Rattle.state.specs.Held.{heldAt, noWriter}
 use Rattle.validity.specs.Validity.{stateOk, pendingOk}
 use Rattle.masks.specs.Lines.{disjoint}
 use Rattle.masks.proofs.Disjoint.{none-disjoint}
-use Rattle.refinement.proofs.StateValid.{lastAt, LastsFine, HeldFine, valid-ok}
+use Rattle.refinement.proofs.ValidWriters.{HeldFine}
+use Rattle.refinement.proofs.ValidLasts.{lastAt, LastsFine}
+use Rattle.refinement.proofs.StateValid.{valid-ok}
 use Rattle.refinement.proofs.Pending.{idle-ok, pends-ok}
 use Rattle.refinement.proofs.Appended.{last-at}
 use Rattle.refinement.proofs.NamesOnce.{names-fine}

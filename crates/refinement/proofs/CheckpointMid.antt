@@ -28,7 +28,8 @@ use Rattle.refinement.specs.Checkpoint.{checkpointSlot, checkpointAt, ch
 use Rattle.refinement.specs.Reference.{Reference}
 use Rattle.refinement.proofs.Copies.{durable-legal}
 use Rattle.refinement.proofs.Invariant.{Durable}
-use Rattle.refinement.proofs.Stepping.{Mid, aside-before, store-fits}
+use Rattle.refinement.proofs.StoreKept.{store-fits}
+use Rattle.refinement.proofs.Stepping.{Mid, aside-before}
 
 -- how many slots have a live record
 abbrev pub recorded : State → ℕ

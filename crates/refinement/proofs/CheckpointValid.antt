@@ -14,7 +14,8 @@ use Rattle.state.proofs.Numbers.{held-le}
 use Rattle.validity.specs.Validity.{stateOk}
 use Rattle.refinement.specs.Stores.{completed}
 use Rattle.refinement.specs.Checkpoint.{withoutLasts}
-use Rattle.refinement.proofs.StateValid.{valid, valid-ok, lastAt}
+use Rattle.refinement.proofs.ValidLasts.{lastAt}
+use Rattle.refinement.proofs.StateValid.{valid, valid-ok}
 use Rattle.refinement.proofs.Pending.{idle-ok}
 
 pub checkpoint-valid : (st : State) → stateOk st ≡ true → Sixteen (st .table) → stateOk (completed st Checkpoint) ≡ true

@@ -21,7 +21,7 @@ use Rattle.state.specs.declared.Writers.{Writers}
 use Rattle.state.specs.Held.{isOpen, heldAt}
 use Rattle.refinement.specs.Commit.{closedWriter}
 use Rattle.refinement.proofs.Records.{slots-same}
-use Rattle.refinement.proofs.StateValid.{HeldFine, PreparedFine}
+use Rattle.refinement.proofs.ValidWriters.{HeldFine, PreparedFine}
 
 set-none : (l : List ℕ) (i : ℕ) → getD (set l i 0) i 0 ≡ 0
 set-none l i =

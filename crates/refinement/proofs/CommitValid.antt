@@ -28,7 +28,9 @@ use Rattle.validity.specs.Validity.{stateOk}
 use Rattle.operations.proofs.Taken.{CommitTaken, ConfirmTaken, commit-taken}
 use Rattle.refinement.specs.Stores.{completed}
 use Rattle.refinement.specs.Commit.{commitSlots, committedSlot, commitRecord, commitTable, commitRecordOf}
-use Rattle.refinement.proofs.StateValid.{Apart, HeldFine, narrow, valid, valid-ok}
+use Rattle.refinement.proofs.ValidSlots.{Apart}
+use Rattle.refinement.proofs.ValidWriters.{HeldFine}
+use Rattle.refinement.proofs.StateValid.{narrow, valid, valid-ok}
 use Rattle.refinement.proofs.Pending.{idle-ok}
 use Rattle.refinement.proofs.Appended.{lasts-more}
 use Rattle.refinement.proofs.Closed.{closed-fine}

@@ -37,7 +37,8 @@ use Rattle.refinement.proofs.Copies.{copy-apart, others-apart, other-lo
 use Rattle.refinement.proofs.PageSlots.{slotted-of}
 use Rattle.refinement.proofs.ConsolidateStores.{lineOf, copied-line, Part, line, page, freeing, value-page}
 use Rattle.refinement.proofs.ConsolidateSlot.{Freed, at-line′, at-page′, at-freeing′, in-image, words-differ, value-kept, value-low}
-use Rattle.refinement.proofs.Stepping.{Aside, Mid, aside-before, store-fits}
+use Rattle.refinement.proofs.StoreKept.{store-fits}
+use Rattle.refinement.proofs.Stepping.{Aside, Mid, aside-before}
 
 -- a page with a held line is not the one whose slot is freed
 pub held-other : (st : State) (p : ℕ) → Freed st p → (w q l : ℕ) → w < 4 → holds st w q l ≡ true → q ≡ p → ⊥

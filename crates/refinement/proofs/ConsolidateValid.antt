@@ -28,7 +28,8 @@ use Rattle.operations.proofs.Taken.{ConsolidateTaken, consolidate-taken}
 use Rattle.refinement.specs.Stores.{completed}
 use Rattle.refinement.specs.Frames.{pageSlot}
 use Rattle.refinement.specs.Consolidate.{isFew, copyFrom, freeingRecord, consolidateTable}
-use Rattle.refinement.proofs.StateValid.{Apart, valid, valid-ok}
+use Rattle.refinement.proofs.ValidSlots.{Apart}
+use Rattle.refinement.proofs.StateValid.{valid, valid-ok}
 use Rattle.refinement.proofs.Pending.{idle-ok}
 use Rattle.refinement.proofs.OneSlot.{slots-changed, held-changed}
 use Rattle.refinement.proofs.Appended.{lasts-more}

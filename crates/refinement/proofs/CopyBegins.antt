@@ -29,7 +29,8 @@ use Rattle.refinement.proofs.Invariant.{Durable}
 use Rattle.refinement.proofs.Keeps.{durable-kept}
 use Rattle.refinement.proofs.Copies.{durable-fits}
 use Rattle.refinement.proofs.HeaderStore.{header-copy}
-use Rattle.refinement.proofs.Stepping.{eight-kept, step-on}
+use Rattle.refinement.proofs.StoreKept.{eight-kept}
+use Rattle.refinement.proofs.Stepping.{step-on}
 use Rattle.refinement.proofs.Keys.{keys-ext}
 use Rattle.refinement.proofs.Counted.{durable-counted}
 use Rattle.refinement.proofs.Copying.{placed, Copying}

@@ -32,7 +32,8 @@ use Rattle.refinement.proofs.Pending.{made-valid}
 use Rattle.refinement.proofs.Copies.{committed-low, durable-legal, durable-fits}
 use Rattle.refinement.proofs.Keys.{keys-ext}
 use Rattle.refinement.proofs.CopyPlaces.{home-low, same-line, lines-apart}
-use Rattle.refinement.proofs.Stepping.{eight-kept, line-kept, store-fits, page-kept, frame-ext, durable-stored, durable-made}
+use Rattle.refinement.proofs.StoreKept.{eight-kept, line-kept, store-fits, page-kept, frame-ext, durable-stored}
+use Rattle.refinement.proofs.Stepping.{durable-made}
 use Rattle.refinement.proofs.Copying.{paged, paged-line, copyOf, copyWord, keyAt, inPlace, placed, Copying}
 
 module _ (past : List ℕ) (st : State) (img : List ℕ) (b : Reference) (C : Copying past st img b) (e k : ℕ) (le : e < st .wide .count) (lk : k < 8) where

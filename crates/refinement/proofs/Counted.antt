@@ -22,7 +22,7 @@ use Rattle.refinement.specs.Reference.{Reference}
 use Rattle.refinement.proofs.Copies.{durable-legal, durable-fits}
 use Rattle.refinement.proofs.Invariant.{Durable}
 use Rattle.refinement.proofs.HeaderStore.{header-page, header-copy}
-use Rattle.refinement.proofs.Stepping.{behind-ext}
+use Rattle.refinement.proofs.StoreKept.{behind-ext}
 
 -- the view with n entries counted
 abbrev pub counting : View → ℕ → List ℕ → View

@@ -19,23 +19,22 @@ use Rattle.refinement.specs.Stores.{World, stepped, steppedBy, left}
 use Rattle.refinement.specs.Outcome.{answered}
 use Rattle.refinement.specs.Calls.{worldOf, eventOf, eventLine, eventSecond, eventCallRows, stepRow, stepOf, stepBytes, runOf, runBytes}
 use Rattle.refinement.specs.Run.{Call, mount, checkpoint, free, step, begin, beginWide, abort, commit, prepare, confirm, withdraw, consolidate, run, write, read, recall, event, load, exec}
-use Rattle.refinement.specs.Recall.{recallRow}
-use Rattle.refinement.specs.Reference.{Reference, Task, Work, under, moving, withWork, starts, continues, advances, taken, turn}
+use Rattle.refinement.specs.Reference.{Reference, Task, Work, under, moving, withWork, starts, continues, advances, turn}
 use Rattle.refinement.proofs.AskEvent.{event-moving}
-use Rattle.refinement.proofs.Between.{Between, Sounds, sounds, moving-pending}
+use Rattle.refinement.proofs.Between.{Between, Sounds, moving-pending}
 use Rattle.refinement.proofs.Copies.{durable-fits}
 use Rattle.refinement.proofs.EventRows.{event-some, event-needs}
-use Rattle.refinement.proofs.Invariant.{Quiet, Related, uncounted}
-use Rattle.refinement.proofs.MountCall.{mount-sound}
+use Rattle.refinement.proofs.Invariant.{Quiet, Related}
 use Rattle.refinement.proofs.Moving.{Moving}
 use Rattle.refinement.proofs.Nine.{Asks, nine-stays, nine-keeps, nine-right}
 use Rattle.refinement.proofs.Pending.{pends}
-use Rattle.refinement.proofs.RecallCall.{recall-answer, recall-right}
-use Rattle.refinement.proofs.Viewed.{Viewed, durable-viewed}
 use Rattle.refinement.proofs.Sound.{is-quiet}
 use Rattle.refinement.proofs.StepCall.{many, idle-apart, stepped-sizes, steppedBy-sizes}
 use Rattle.refinement.proofs.StepEvent.{Goes, step-event}
 use Rattle.refinement.proofs.Next.{answered-next}
+use Rattle.refinement.proofs.Standing.{between-standing}
+use Rattle.refinement.proofs.StandingCalls.{mount-kept, recall-kept}
+use Rattle.refinement.proofs.Cases.{Invariant, narrow, Kept, kept}
 
 -- what follows a step or a run of it
 between-goes : {past : List ℕ} (v : World) (b : Reference) → Goes past v b → Between past v b
@@ -81,14 +80,14 @@ module _ {past : List ℕ} (v : World) (b : Reference) (M : Moving past (v .st) 
   img = v .image
 
   -- row 9 turns any other call back
-  others : (c : Call) → Asks c → Sounds past c v b
+  others : (c : Call) → Asks c → Kept past c v b
   others c a =
       let fits = durable-fits past st img b (M .durable) in
       let pending = moving-pending v b M in
       record {
         right = nine-right v (M .valid) fits pending b c a;
         sizes = ap (λ (u : World). u .st .sizes) (nine-stays v (M .valid) fits pending c a);
-        between = nine-keeps v (M .valid) fits pending (Between past) b c a (inr M);
+        related = nine-keeps v (M .valid) fits pending (Invariant past) b c a (narrow (inr M));
       }
 
   -- ---- step and run
@@ -126,31 +125,13 @@ module _ {past : List ℕ} (v : World) (b : Reference) (M : Moving past (v .st) 
       let r = answered-next (Between past) (run k) v b (stepRow st img) n (steppedBy n v .st) (steppedBy n v .image) (inr M) (λ e. record { sizes = steppedBy-sizes n v; related = run-stores k }) in
       record { right = tt; sizes = r .sizes; between = r .related }
 
-  -- ---- recall
-
-  kept : (p l : ℕ) (target : List ℕ) (row : ℕ) → Between past v (turn (recall p l target) row 0 b)
-  kept p l target zero = inr M
-  kept p l target (suc n) = inr M
-
-  viewed : Viewed past st img b
-  viewed = durable-viewed st img b (M .valid) (M .durable) (M .narrow)
-
-  recall-goes : (p l : ℕ) (target : List ℕ) → Sounds past (recall p l target) v b
-  unfolding exec
-  recall-goes p l target =
-      record {
-        right = (recall-answer img b viewed p l target, recall-right img b viewed p l target);
-        sizes = refl;
-        between = kept p l target (recallRow img p l target);
-      }
-
   -- ---- every call
 
-  pub moving-sound-at : (c : Call) → Sounds past c v b
-  moving-sound-at mount = sounds v b (mount-sound v b (M .valid) (M .durable) (uncounted st img b (M .durable) (M .narrow)))
-  moving-sound-at step = step-goes
-  moving-sound-at (run k) = run-goes k
-  moving-sound-at (recall p l target) = recall-goes p l target
+  pub moving-sound-at : (c : Call) → Kept past c v b
+  moving-sound-at mount = mount-kept v b (between-standing v b (inr M))
+  moving-sound-at step = kept v b step-goes
+  moving-sound-at (run k) = kept v b (run-goes k)
+  moving-sound-at (recall p l target) = recall-kept v b (between-standing v b (inr M)) (narrow (inr M)) p l target
   moving-sound-at checkpoint = others checkpoint tt
   moving-sound-at free = others free tt
   moving-sound-at (begin w) = others (begin w) tt
@@ -166,5 +147,5 @@ module _ {past : List ℕ} (v : World) (b : Reference) (M : Moving past (v .st) 
   moving-sound-at (event ms k m a) = others (event ms k m a) tt
   moving-sound-at (load text) = others (load text) tt
 
-pub moving-sound : {past : List ℕ} (c : Call) (v : World) (b : Reference) → Moving past (v .st) (v .image) b → Sounds past c v b
+pub moving-sound : {past : List ℕ} (c : Call) (v : World) (b : Reference) → Moving past (v .st) (v .image) b → Kept past c v b
 moving-sound c v b M = moving-sound-at v b M c

@@ -18,7 +18,8 @@ use Rattle.refinement.specs.Recall.{frameOf}
 use Rattle.refinement.specs.Reference.{Reference}
 use Rattle.refinement.proofs.Copies.{frame-kept, mount-apart}
 use Rattle.refinement.proofs.Invariant.{Durable}
-use Rattle.refinement.proofs.Stepping.{Mid, Aside, durable-kept, store-none}
+use Rattle.refinement.proofs.StoreKept.{durable-kept, store-none}
+use Rattle.refinement.proofs.Stepping.{Mid, Aside}
 use Rattle.refinement.proofs.Valid.{good, legal-sizes}
 
 -- the frames of committed lines are those of the view

@@ -10,6 +10,7 @@ use borrow.Author.Tests.{ltb-true}
 use Rattle.bounded.proofs.Tests.{row-keeps}
 use Rattle.bounded.specs.Below.{upTo}
 use Rattle.bounded.specs.Rows.{refusal}
+use Rattle.entries.proofs.EntryLaws.{Right}
 use Rattle.replay.specs.Table.{slotsShaped}
 use Rattle.state.specs.declared.State.{State}
 use Rattle.state.specs.declared.Op.{Op}
@@ -23,16 +24,19 @@ use Rattle.refinement.specs.Frames.{pageSlot}
 use Rattle.refinement.specs.Commit.{commitSlots}
 use Rattle.refinement.specs.Consolidate.{copyStoreCount}
 use Rattle.refinement.specs.Stores.{left, storeMade, storesMade}
-use Rattle.refinement.proofs.StateValid.{parts}
+use Rattle.refinement.proofs.StateValid.{parts, valid}
 use Rattle.refinement.proofs.Pending.{pends}
 
--- its numbers are in their ranges and its slots have shapes
+-- its numbers are in their ranges, its slots have shapes, and its entries are right
 module _ (st : State) (e : stateOk st ≡ true) where
   pub ranges-of : Ranged st
   ranges-of = let h = parts st e in ranged st (h .slots) (ltb-true (st .next) (st .sizes .slots) (h .next))
 
   pub shapes-of : slotsShaped (st .sizes) (st .table) ≡ true
   shapes-of = slots-good (st .sizes) (st .head) (st .tail) (st .table) (parts st e .slots) .shapes
+
+  pub entries-of : Right (st .sizes) (st .wide .keys) (st .wide .count)
+  entries-of = valid st e .entries
 
 pub record Going (st : State) : Type 0 where
   pub ranges : Ranged st

@@ -14,7 +14,7 @@ use Rattle.words.proofs.WordLaws.{word-store-other}
 use Rattle.replay.specs.declared.Table.{Table}
 use Rattle.replay.specs.Table.{slotOf}
 use Rattle.refinement.specs.Recall.{frameOf}
-use Rattle.refinement.proofs.Stepping.{line-kept}
+use Rattle.refinement.proofs.StoreKept.{line-kept}
 
 module _ (img : List ℕ) (z : Sizes) (a w : ℕ) (low : a < 8) (whole : imageLength z ≤ length img) where
   pub header-fits : 8 * a + 8 ≤ length img

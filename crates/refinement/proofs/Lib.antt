@@ -4,6 +4,9 @@ pub mod WritePlaces
 pub mod CommitPlaces
 pub mod ConsolidatePlaces
 pub mod CheckpointPlaces
+pub mod ValidSlots
+pub mod ValidWriters
+pub mod ValidLasts
 pub mod StateValid
 pub mod Pending
 pub mod LinesAsked
@@ -62,6 +65,7 @@ pub mod AskPrepare
 pub mod AskCheckpoint
 pub mod AskConsolidate
 pub mod AskFree
+pub mod StoreKept
 pub mod Stepping
 pub mod StepLast
 pub mod Keys
@@ -132,6 +136,8 @@ pub mod Lacks
 pub mod PageFrame
 pub mod NeverRefused
 pub mod Totals
+pub mod Tally
+pub mod TallyCall
 pub mod MetersAddUp
 pub mod FixedEvent
 pub mod CommitWhole

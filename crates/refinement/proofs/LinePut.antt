@@ -21,7 +21,7 @@ use Rattle.masks.proofs.Bits.{in-and, in-ext}
 use Rattle.masks.proofs.Members.{in-none, in-with-same, in-with-other, with-lt, same-members}
 use Rattle.masks.proofs.Disjoint.{disjoint-at, disjoint-sym}
 use Rattle.state.specs.Held.{isOpen, heldAt}
-use Rattle.refinement.proofs.StateValid.{HeldFine}
+use Rattle.refinement.proofs.ValidWriters.{HeldFine}
 
 -- ---- sets of any numbers
 

@@ -30,7 +30,7 @@ use Rattle.refinement.proofs.StateValid.{Valid, valid}
 use Rattle.refinement.proofs.Pending.{pends, made-valid}
 use Rattle.refinement.proofs.Invariant.{Durable}
 use Rattle.refinement.proofs.Copies.{committed-low}
-use Rattle.refinement.proofs.Stepping.{eight-kept, store-fits, durable-kept}
+use Rattle.refinement.proofs.StoreKept.{eight-kept, store-fits, durable-kept}
 use Rattle.refinement.proofs.WriteMid.{line-word}
 use Rattle.refinement.proofs.Keys.{keys-ext}
 use Rattle.refinement.proofs.Copying.{keyAt}

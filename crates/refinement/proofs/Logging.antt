@@ -27,7 +27,8 @@ use Rattle.refinement.specs.Settled.{noPending, withWriters, withWide}
 use Rattle.refinement.specs.Stores.{completed}
 use Rattle.refinement.specs.Wide.{isCopy, entryBytes, logAt, logValue}
 use Rattle.refinement.specs.Reference.{Reference, none, idle, under, copying, writing, withWork, emptied, written, readLine, recallLine}
-use Rattle.refinement.proofs.StateValid.{WideFine, valid}
+use Rattle.refinement.proofs.ValidWriters.{WideFine}
+use Rattle.refinement.proofs.StateValid.{valid}
 use Rattle.refinement.proofs.WideValid.{copied-valid}
 use Rattle.refinement.proofs.Invariant.{Durable, Quiet, Busy}
 use Rattle.refinement.proofs.Keeps.{durable-kept}

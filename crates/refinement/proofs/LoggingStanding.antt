@@ -79,8 +79,8 @@ module _ {past : List ℕ} (st : State) (img : List ℕ) (b : Reference) (G : Lo
 
   -- ---- where nothing is pending
 
-  at-rest : not (isIdle (st .pending .op)) ≡ false → (st .pending ≡ noPending) × (b .work ≡ idle)
-  at-rest e = by-stage (G .stage)
+  nothing-under-way : not (isIdle (st .pending .op)) ≡ false → (st .pending ≡ noPending) × (b .work ≡ idle)
+  nothing-under-way e = by-stage (G .stage)
     where
       by-stage : Stage past st img b → (st .pending ≡ noPending) × (b .work ≡ idle)
       by-stage (settled rest work) = (rest, work)
@@ -90,7 +90,7 @@ module _ {past : List ℕ} (st : State) (img : List ℕ) (b : Reference) (G : Lo
 
   -- so no entry is being written
   pub unlogged : not (isIdle (st .pending .op)) ≡ false → (e : ℕ) → Logged (st .wide) (st .pending .op) e → ⊥
-  unlogged i e h = subst (λ (o : Op). Logged (st .wide) o e) (ap (λ (x : Pending). x .op) (at-rest i .0)) h
+  unlogged i e h = subst (λ (o : Op). Logged (st .wide) o e) (ap (λ (x : Pending). x .op) (nothing-under-way i .0)) h
 
   busy : (b .work ≡ idle → ⊥) → isIdle (st .pending .op) ≡ false
   busy n = by-stage (G .stage)
@@ -152,8 +152,8 @@ logging-standing v b G =
       viewed = logging-viewed st img b G;
       names = names-once (completed st Copy) img (ok st img b G) (G .durable);
       busy = busy st img b G;
-      work-idle = λ e. at-rest st img b G e .1;
-      none-pending = λ e. at-rest st img b G e .0;
+      work-idle = λ e. nothing-under-way st img b G e .1;
+      none-pending = λ e. nothing-under-way st img b G e .0;
       book = λ e w l. ap (λ (x : ℕ). eqb x w) (sym (G .book));
       key-stored = λ e i l. sym (ap (λ (ks : List ℕ). getD ks i 0) (G .entries .keys) ∙ key-read (word img) (st .sizes) (st .wide .count) i (facts .legal .entries-high) (facts .entries .few) l);
       seen = logging-seen st img b G;

@@ -20,7 +20,7 @@ use Rattle.replay.specs.Table.{slotIn, homeOf, frameNames, slotsShaped, pagesAp
 use Rattle.names.proofs.Homes.{length-names}
 use Rattle.journal.proofs.SlotWords.{Owning, Free, shape}
 use Rattle.refinement.proofs.PageSlots.{slot-is}
-use Rattle.refinement.proofs.StateValid.{SlotsFine}
+use Rattle.refinement.proofs.ValidSlots.{SlotsFine}
 
 -- the names at their places
 module _ (r : ℕ → ℕ) (z : Sizes) (t : Table) where

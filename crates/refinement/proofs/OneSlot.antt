@@ -10,7 +10,8 @@ use Rattle.layout.specs.declared.Sizes.{Sizes}
 use Rattle.journal.specs.declared.Slot.{Slot}
 use Rattle.journal.specs.Slots.{noPage, shaped}
 use Rattle.state.specs.Held.{heldAt}
-use Rattle.refinement.proofs.StateValid.{Apart, apart-sym, SlotsFine, HeldFine}
+use Rattle.refinement.proofs.ValidSlots.{Apart, apart-sym, SlotsFine}
+use Rattle.refinement.proofs.ValidWriters.{HeldFine}
 
 -- g is f with slot s replaced by v
 module _ (z : Sizes) (f g : ℕ → Slot) (s : ℕ) (v : Slot) (same : g s ≡ v) (others : (k : ℕ) → (k ≡ s → ⊥) → g k ≡ f k) where

@@ -1,6 +1,6 @@
 -- A recall mounts and copies a committed line: it is refused for its arguments alone, and changes nothing.
 use Prim.Native.Nat.{ℕ, _<_}
-use mathlib.Core.Bool.{Bool, true, false, _||_, cond}
+use mathlib.Core.Bool.{Bool, false, _||_, cond}
 use mathlib.Core.List.{List, [], _∷_, _++_}
 use mathlib.Core.Logic.{_⊎_, inl, inr}
 use mathlib.Core.Path.{_≡_, refl, sym, ap, _∙_, subst}
@@ -17,15 +17,10 @@ use Rattle.mount.specs.Mount.{mountOf, mountRead, mountRows, sizesFrom}
 use Rattle.mount.proofs.Verdict.{taken-mount}
 use Rattle.mount.proofs.View.{View}
 use Rattle.state.specs.declared.State.{State}
-use Rattle.refinement.specs.Stores.{World}
 use Rattle.refinement.specs.Wide.{shownLine}
 use Rattle.refinement.specs.Recall.{recallRow, recallBytes}
-use Rattle.refinement.specs.Run.{recall, exec}
 use Rattle.refinement.specs.Reference.{Reference, recallLine}
-use Rattle.refinement.proofs.Invariant.{Related}
-use Rattle.refinement.proofs.ReadCall.{turn-kept}
-use Rattle.refinement.proofs.Sound.{Sound}
-use Rattle.refinement.proofs.Viewed.{Viewed, related-viewed}
+use Rattle.refinement.proofs.Viewed.{Viewed}
 
 -- rows of which none applies, before others
 refusal-past : (rs ss : List Row) → Past rs (length rs) → refusal (rs ++ ss) ≡ refusal ss
@@ -70,13 +65,3 @@ module _ {past : List ℕ} {st : State} (img : List ℕ) (b : Reference) (seen :
       let a = or-left (low || ltb 63 l) (ltb (length target) 64) (args-good e) in
       rw e
       (ap (over target 0) (shown p l (leb-false (sizesFrom (word img) .pages) p (or-left low (ltb 63 l) a)) (omega (arith, ltb-false 63 l (or-right low (ltb 63 l) a)))))
-
-pub recall-sound : {past : List ℕ} (p l : ℕ) (target : List ℕ) (v : World) (b : Reference) → Related past v b → Sound past (recall p l target) v b
-unfolding exec
-recall-sound {past = past} p l target v b h =
-    let seen = related-viewed (v .st) (v .image) b h in
-    record {
-      right = (recall-answer (v .image) b seen p l target, recall-right (v .image) b seen p l target);
-      sizes = refl;
-      related = subst (Related past v) (sym (turn-kept (recall p l target) (recallRow (v .image) p l target) 0 b refl)) h;
-    }

@@ -33,7 +33,8 @@ use Rattle.refinement.proofs.Invariant.{Doing, Quiet, Busy, Related}
 use Rattle.refinement.proofs.Sound.{related-durable}
 use Rattle.refinement.proofs.Keeps.{durable-kept}
 use Rattle.refinement.proofs.Copies.{durable-fits}
-use Rattle.refinement.proofs.Stepping.{eight-kept, step-on, step-ends}
+use Rattle.refinement.proofs.StoreKept.{eight-kept}
+use Rattle.refinement.proofs.Stepping.{step-on, step-ends}
 use Rattle.refinement.proofs.StepCall.{one-store}
 use Rattle.refinement.proofs.Keys.{keys-ext}
 use Rattle.refinement.proofs.Logging.{Entries, Logged, Beside, settled, beside, shut, Logging, beside-some}

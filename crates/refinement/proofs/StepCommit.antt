@@ -48,7 +48,7 @@ use Rattle.refinement.proofs.CommitNames.{behind-shapes, behind-apart, 
 use Rattle.refinement.proofs.Copies.{names-once, durable-fits}
 use Rattle.refinement.proofs.HeaderStore.{header-fits, header-page, header-line, header-copy}
 use Rattle.refinement.proofs.CallMounted.{view-sixteen}
-use Rattle.refinement.proofs.Stepping.{behind-ext}
+use Rattle.refinement.proofs.StoreKept.{behind-ext}
 use Rattle.refinement.proofs.Records.{Stored}
 use Rattle.refinement.proofs.StepLast.{step-last}
 use Rattle.refinement.proofs.Valid.{good}

@@ -35,7 +35,8 @@ use Rattle.refinement.specs.Reference.{Reference, idle, writing, withWor
 use Rattle.refinement.proofs.Copies.{durable-legal, durable-fits}
 use Rattle.refinement.proofs.Invariant.{Durable, holds, Writing, Never, Changing, Busy, Related}
 use Rattle.refinement.proofs.Records.{stored-same}
-use Rattle.refinement.proofs.Stepping.{Mid, unslotted-durable, mid-durable, mid-writing, mid-landed}
+use Rattle.refinement.proofs.StoreKept.{unslotted-durable}
+use Rattle.refinement.proofs.Stepping.{Mid, mid-durable, mid-writing, mid-landed}
 use Rattle.refinement.proofs.StepLast.{step-last}
 use Rattle.refinement.proofs.Valid.{good}
 use Rattle.refinement.proofs.WriteTable.{Own, Takes, own-or-takes, page-slot, slot-whole, other-kept, frame-kept, write-behind}

@@ -24,9 +24,7 @@ use Rattle.refinement.specs.Recall.{frameOf}
 use Rattle.refinement.specs.Wide.{entryBytes, isCopy, shownLine}
 use Rattle.refinement.specs.Beside.{counted, lineOf}
 use Rattle.refinement.specs.Reference.{Reference, recallLine}
-use Rattle.refinement.proofs.Invariant.{Behind, Durable, Narrow, Related, uncounted}
-use Rattle.refinement.proofs.Sound.{related-valid, related-durable, related-narrow}
-use Rattle.refinement.specs.Calls.{worldOf}
+use Rattle.refinement.proofs.Invariant.{Behind, Durable, Narrow, uncounted}
 use Rattle.refinement.proofs.MountCall.{mounted-committed}
 
 pub record Viewed (past : List ℕ) (st : State) (img : List ℕ) (b : Reference) : Type 0 where
@@ -73,6 +71,3 @@ durable-viewed st img b ok D N =
       shown = λ p l lp ll. shown-copy img (v .sizes) (v .table) (v .count) (v .keys) p l (uncounted st img b D N) ∙ mounted-committed st img b ok D p l lp ll;
       own = λ p l lp ll. shown-copy img (st .sizes) (st .table) (counted st) (st .wide .keys) p l none ∙ D .committed p l lp ll;
     }
-
-pub related-viewed : {past : List ℕ} (st : State) (img : List ℕ) (b : Reference) → Related past (worldOf st img) b → Viewed past st img b
-related-viewed st img b h = durable-viewed st img b (related-valid st img b h) (related-durable st img b h) (related-narrow st img b h)

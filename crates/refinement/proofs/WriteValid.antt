@@ -32,7 +32,10 @@ use Rattle.validity.specs.Validity.{stateOk}
 use Rattle.operations.proofs.Taken.{WriteTaken, write-taken}
 use Rattle.refinement.specs.Stores.{completed}
 use Rattle.refinement.specs.Write.{writeSlot, writeTable, writeNext, writeWriters}
-use Rattle.refinement.proofs.StateValid.{narrow, Apart, SlotsFine, HeldFine, LastsFine, lastAt, valid, valid-ok}
+use Rattle.refinement.proofs.ValidSlots.{Apart, SlotsFine}
+use Rattle.refinement.proofs.ValidWriters.{HeldFine}
+use Rattle.refinement.proofs.ValidLasts.{LastsFine, lastAt}
+use Rattle.refinement.proofs.StateValid.{narrow, valid, valid-ok}
 use Rattle.refinement.proofs.Pending.{idle-ok, pends}
 use Rattle.refinement.proofs.OneSlot.{slots-changed, held-changed}
 use Rattle.refinement.proofs.LinePut.{held-writer, line-put}

@@ -84,7 +84,7 @@ pub fn event_holder(st: State, kind: usize, meter: usize) -> usize
 {
     let first = line_holder(st, 1, 0, meters::first_meter(kind, meter));
     let own = line_holder(st, 1, 0, meters::own_meter(kind, meter));
-    if first < own { first } else { own }
+    bounded::smaller(first, own)
 }
 
 // The writer in the way of a call that a number turns back.

@@ -67,6 +67,16 @@ pub struct Pending {
     pub frame: usize,
 }
 
+// Head, tail, the next slot to try, the prepared writer, the wide one, and how many entries it uses.
+pub struct Places {
+    pub head: usize,
+    pub tail: usize,
+    pub next: usize,
+    pub prepared: usize,
+    pub wide: usize,
+    pub count: usize,
+}
+
 pub struct State {
     pub sizes: Sizes,
     pub head: usize,

@@ -1,6 +1,6 @@
 // The state's numbers, parted by blanks.
 ghost use mathlib.Core.Path.{_≡_};
-ghost use Prim.Native.Nat.{_+_, _*_, _<_, _≤_, min};
+ghost use Prim.Native.Nat.{_+_, _*_, _<_, _≤_};
 ghost use lib.ListN.{length};
 ghost use Rattle.number_text.specs.Text.{Put, blanked, each};
 ghost use Rattle.state_text.specs.Numbers.{slotNumbers, openNumbers, heldNumbers, writerNumbers, headerNumbers, stateField};
@@ -93,18 +93,12 @@ fn header_numbers(st: State) -> [u64; 5]
     ]
 }
 
-fn smaller(a: usize, b: usize) -> usize
-    ensures { λ r. ⌜ r ≡ min a b ⌝ }
-{
-    if a < b { a } else { b }
-}
-
 // At most 226 numbers.
 pub fn put_state(out: &mut [u8], at: usize, st: State) -> usize
     requires { ⌜ at + 4746 ≤ length (now out) ⌝ }
     ensures { λ r. ⌜ Put (now (out .entry)) at (stateField st) (now (out .exit)) r ⌝ }
 {
-    let n = smaller(st.sizes.slots, 16);
+    let n = bounded::smaller(st.sizes.slots, 16);
     let next = number_text::put_after(out, at, b',', st.sizes.pages as u64);
     let header = header_numbers(st);
     let next = number_text::put_numbers(out, next, &header);

@@ -13,16 +13,7 @@ ghost use Rattle.refinement.specs.Stores.{completed as completedOf};
 use layout::Sizes;
 use state::Op;
 use state::Pending;
-
-// Head, tail, the next slot to try, the prepared writer, the wide one, and how many entries it uses.
-pub struct Places {
-    pub head: usize,
-    pub tail: usize,
-    pub next: usize,
-    pub prepared: usize,
-    pub wide: usize,
-    pub count: usize,
-}
+use state::Places;
 
 // Completes the pending operation: the arrays are changed where they lie, since a state that is passed on by value is copied each time.
 pub fn complete(

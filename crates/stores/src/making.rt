@@ -215,7 +215,7 @@ pub fn make_left<'a>(
     let op = pending.op;
     let needed = needs::op_needs(z, head, tail, page, bitmap, last, held, count, op);
     let left = needed - pending.made;
-    let n = pieces::smaller(k, left);
+    let n = bounded::smaller(k, left);
     make_stores(
         image,
         z,

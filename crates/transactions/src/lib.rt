@@ -1,6 +1,11 @@
 // The calls that ask: write, commit, consolidate, checkpoint. None relies on its caller having checked anything; a refused call
 // changes no state and no byte.
+mod writing;
+
 ghost use mathlib.Core.Path.{_≡_};
+ghost use mathlib.Core.Bool.{cond};
+ghost use lib.Dec.{eqb};
+ghost use Rattle.state.specs.declared.Op.the-variants.{Commit, Copy};
 ghost use Rattle.answers.specs.Answers.{outcomeOf};
 ghost use Rattle.refinement.specs.Calls.{writeOf, commitOf, consolidateOf, checkpointOf};
 use answers::Done;
@@ -21,7 +26,7 @@ pub fn write(
     ensures { λ r. ⌜ outcomeOf r ≡ writeOf st (now (image .entry)) writer page line offset length (now («data» .entry)) ⌝ }
 {
     let mut next = st;
-    let found = finding::write_found(
+    let found = writing::write_found(
         next.sizes,
         next.head,
         next.tail,
@@ -54,10 +59,20 @@ pub fn write(
         return answers::taken(0, next);
     }
     let words = merged.words;
-    let op = finding::write_op(found.wide, writer, page, line, offset, length);
+    let op = writing::write_op(found.wide, writer, page, line, offset, length);
     let pending = asking::pending_from(op, words, [0; 8], found.frame);
     next.pending = pending;
-    answers::taken(finding::write_needs(found.wide), next)
+    answers::taken(writing::write_needs(found.wide), next)
+}
+
+// The operation that a commit asks for: the wide writer's is a copying.
+fn commit_op(wide: usize, writer: usize) -> Op
+    ensures { λ r. ⌜ r ≡ cond (eqb wide writer) Copy (Commit writer) ⌝ }
+{
+    if wide == writer {
+        return Op::Copy;
+    }
+    Op::Commit { writer }
 }
 
 // Asks for a commit; by the wide writer, for a copying.
@@ -65,7 +80,7 @@ pub fn commit(st: State, image: &[u8], writer: usize) -> Done
     ensures { λ r. ⌜ outcomeOf r ≡ commitOf st (now (image .entry)) writer ⌝ }
 {
     let call = Op::Commit { writer };
-    let op = finding::commit_op(st.wide.writer, writer);
+    let op = commit_op(st.wide.writer, writer);
     asking::ask(st, image.len(), call, op)
 }
 

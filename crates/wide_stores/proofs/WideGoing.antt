@@ -1,28 +1,23 @@
 -- What row 8 and the rows of a pending wide write or commit tell, as the functions that make their stores require it.
 use Prim.Native.Nat.{ℕ, _+_, _*_, _<_, _≤_}
-use mathlib.Core.Bool.{true, false}
+use mathlib.Core.Bool.{false}
 use mathlib.Core.Path.{_≡_}
 use native.Mathlib.Omega.{arith}
-use lib.Dec.{eqb, leb, ltb}
+use lib.Dec.{eqb, leb}
 use borrow.Author.Tests.{ltb-true, leb-false}
 use Rattle.bounded.specs.Rows.{refusal}
 use Rattle.bounded.proofs.Tests.{caseOn, row-keeps}
 use Rattle.layout.specs.declared.Sizes.{Sizes}
 use Rattle.entries.specs.Entries.{keyOf}
-use Rattle.entries.proofs.EntryLaws.{Right, entry-le}
+use Rattle.entries.proofs.EntryLaws.{entry-le}
 use Rattle.state.specs.declared.State.{State}
 use Rattle.state.specs.declared.Wide.{Wide}
 use Rattle.state.specs.declared.Op.the-variants.{Log, Copy}
 use Rattle.state.specs.Wide.{entryFor, hasEntry, noEntryLeft}
 use Rattle.operations.specs.Operations.{opRows, needs, copyNeeds}
 use Rattle.operations.proofs.Taken.{LogTaken, log-taken}
-use Rattle.validity.specs.Validity.{stateOk}
 use Rattle.refinement.specs.Stores.{left}
-use Rattle.refinement.proofs.StateValid.{valid}
 use Rattle.refinement.proofs.Going.{Going}
-
-pub entries-of : (st : State) → stateOk st ≡ true → Right (st .sizes) (st .wide .keys) (st .wide .count)
-entries-of st e = valid st e .entries
 
 -- a line that has no entry has one left for it
 pub entry-room : (z : Sizes) (d : Wide) (p l : ℕ) → d .count ≤ z .entries → noEntryLeft z d p l ≡ false → entryFor d p l < z .entries

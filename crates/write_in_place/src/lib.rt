@@ -1,14 +1,96 @@
 // A write on lent arrays, run to its end.
+ghost use mathlib.Core.Path.{_≡_};
+ghost use mathlib.Core.Bool.{true};
+ghost use Prim.Native.Nat.{_+_, _<_, _≤_};
+ghost use lib.ListN.{length as listLength};
+ghost use Rattle.layout.specs.Layout.{Legal, imageLength};
+ghost use Rattle.entries.specs.Entries.{keyOf, entryOf};
+ghost use Rattle.replay.specs.Table.{slotsOfArrays, slotsShaped};
+ghost use Rattle.pieces.specs.Pieces.{lineStores};
+ghost use Rattle.state.specs.Wide.{wideOf, withEntry};
+ghost use Rattle.refinement.specs.Write.{frameToWrite};
 ghost use Rattle.refinement.specs.Calls.{writeOf};
+ghost use Rattle.writes.specs.Completed.{nextAfter, putFresh, heldAfter};
+ghost use Rattle.wide_stores.specs.Stored.{logStores};
 ghost use Rattle.in_place.specs.Through.{Through, quietAt, wentTo};
 use answers::Answer;
 use in_place::Went;
 use layout::Sizes;
-use state::Op;
-use stores::Places;
+use state::Places;
 
-// Writes the data's first length bytes. It makes no stores if the writer holds the line and no byte of it changes. A narrow writer's stores are made
-// directly, with no pending operation put together.
+// A narrow writer's line: its eight stores, and what they leave. Says the next slot to try.
+fn put_line<'a>(
+    image: &mut [u8],
+    z: Sizes,
+    next: usize,
+    page: &mut [usize; 16],
+    original: &mut [usize; 16],
+    spare: &'a [usize; 16],
+    bitmap: &mut [u64; 16],
+    held: &mut [u64; 64],
+    words: &'a [u64; 8],
+    frame: usize,
+    writer: usize,
+    p: usize,
+    line: usize,
+) -> usize
+    requires { ⌜ Legal z × (next < z .slots) × (slotsShaped z (slotsOfArrays (now page) (now original) (now spare) (now bitmap)) ≡ true) × (writer < 4) × (line < 64) × (imageLength z ≤ listLength (now image)) ⌝ }
+    ensures bytes { λ _. ⌜ now (image .exit) ≡ lineStores z (frameToWrite z (slotsOfArrays (now (page .entry)) (now (original .entry)) (now (spare .entry)) (now (bitmap .entry))) next p line) line (now (words .entry)) 0 8 (now (image .entry)) ⌝ }
+    ensures next { λ r. ⌜ r ≡ nextAfter z next (now (page .entry)) p ⌝ }
+    ensures page { λ _. ⌜ now (page .exit) ≡ putFresh z next (now (page .entry)) p p (now (page .entry)) ⌝ }
+    ensures original { λ _. ⌜ now (original .exit) ≡ putFresh z next (now (page .entry)) p frame (now (original .entry)) ⌝ }
+    ensures bitmap { λ _. ⌜ now (bitmap .exit) ≡ putFresh z next (now (page .entry)) p 0 (now (bitmap .entry)) ⌝ }
+    ensures held { λ _. ⌜ now (held .exit) ≡ heldAfter z next (now (page .entry)) p writer line (now (held .entry)) ⌝ }
+{
+    writes::make_write_stores(
+        image,
+        z,
+        page,
+        original,
+        spare,
+        bitmap,
+        words,
+        next,
+        p,
+        line,
+        0,
+        8,
+    );
+    writes::complete_write(
+        z,
+        next,
+        page,
+        original,
+        bitmap,
+        held,
+        frame,
+        writer,
+        p,
+        line,
+    )
+}
+
+// A wide writer's entry, likewise. Says how many entries are used.
+fn put_entry(
+    image: &mut [u8],
+    z: Sizes,
+    count: usize,
+    keys: &mut [u64; 64],
+    words: &[u64; 8],
+    p: usize,
+    line: usize,
+) -> usize
+    requires { ⌜ Legal z × (count ≤ 64) × (entryOf (now keys) count (keyOf p line) < z .entries) × (p < z .pages) × (line < 64) × (imageLength z ≤ listLength (now image)) ⌝ }
+    ensures bytes { λ _. ⌜ now (image .exit) ≡ logStores z (entryOf (now (keys .entry)) count (keyOf p line)) (keyOf p line) (now (words .entry)) 0 9 (now (image .entry)) ⌝ }
+    ensures count { λ r. ⌜ r ≡ withEntry (wideOf 0 count (now (keys .entry))) p line .count ⌝ }
+    ensures keys { λ _. ⌜ now (keys .exit) ≡ withEntry (wideOf 0 count (now (keys .entry))) p line .keys ⌝ }
+{
+    wide_stores::make_log_stores(image, z, count, keys, words, p, line, 0, 9);
+    wide_stores::complete_log(keys, count, p, line)
+}
+
+// Writes the data's first length bytes. It makes no stores if the writer holds the line and no byte of it changes. No pending operation is put together
+// for them.
 pub fn write(
     image: &mut [u8],
     z: Sizes,
@@ -32,9 +114,7 @@ pub fn write(
 {
     let found = finding::quiet_found(
         z,
-        at.head,
-        at.tail,
-        at.next,
+        at,
         page,
         original,
         spare,
@@ -42,9 +122,6 @@ pub fn write(
         last,
         opened,
         held,
-        at.prepared,
-        at.wide,
-        at.count,
         keys,
         image,
         writer,
@@ -65,61 +142,30 @@ pub fn write(
     }
     let words = merged.words;
     if found.wide {
-        let op = Op::Log {
-            page: p,
-            line,
-            offset,
-            length,
-        };
-        let pending = asking::pending_from(op, words, [0; 8], found.frame);
-        let to = in_place::make_all(
-            image,
-            z,
-            at,
-            page,
-            original,
-            spare,
-            bitmap,
-            last,
-            opened,
-            held,
-            keys,
-            pending,
-            9,
-        );
+        let mut to = at;
+        to.count = put_entry(image, z, at.count, keys, &words, p, line);
         return Went {
             answer: Answer::Taken(9),
             to,
         };
     }
-    writes::make_write_stores(
+    let frame = found.frame;
+    let mut to = at;
+    to.next = put_line(
         image,
         z,
+        at.next,
         page,
         original,
         spare,
         bitmap,
-        &words,
-        at.next,
-        p,
-        line,
-        0,
-        8,
-    );
-    let next = writes::complete_write(
-        z,
-        at.next,
-        page,
-        original,
-        bitmap,
         held,
-        found.frame,
+        &words,
+        frame,
         writer,
         p,
         line,
     );
-    let mut to = at;
-    to.next = next;
     Went {
         answer: Answer::Taken(8),
         to,

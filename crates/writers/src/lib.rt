@@ -5,49 +5,10 @@ ghost use Rattle.state.specs.Parts.{stateOf};
 ghost use Rattle.state.specs.Wide.{wideOf};
 ghost use Rattle.answers.specs.Answers.{outcomeOf};
 ghost use Rattle.refinement.specs.Calls.{beginOf, abortOf, beginWideRows, beginWideOf};
-ghost use Rattle.writers.specs.Writers.{writerRowsOf};
 use answers::Done;
 use layout::Sizes;
 use state::Pending;
 use state::State;
-
-// The first row that turns back begin, which wants the writer closed and no wide one, or abort, which wants it open and not prepared. ok is row 8's
-// test and idle row 9's: a caller that knows that nothing is pending has no pending operation to pass.
-pub fn writer_row(
-    ok: bool,
-    idle: bool,
-    opened: &[bool; 4],
-    prepared: usize,
-    wide: usize,
-    writer: usize,
-    wanted: bool,
-) -> usize
-    ensures { λ r. ⌜ r ≡ refusal (writerRowsOf ok idle (now (opened .entry)) prepared wide wanted writer) ⌝ }
-{
-    if !ok {
-        return 8;
-    }
-    if !idle {
-        return 9;
-    }
-    if writer > 3 {
-        return 11;
-    }
-    if !wanted & (wide < 4) {
-        return 29;
-    }
-    let open = opened[writer];
-    if !wanted & open {
-        return 12;
-    }
-    if wanted & !open {
-        return 13;
-    }
-    if wanted & (prepared == writer) {
-        return 23;
-    }
-    0
-}
 
 // Opens a writer.
 pub fn begin(st: State, writer: usize) -> Done
@@ -77,7 +38,7 @@ pub fn begin(st: State, writer: usize) -> Done
     let idle = operations::is_idle(op);
     let prepared = next.writers.prepared;
     let wide = next.wide.writer;
-    let row = writer_row(
+    let row = rows::writers::writer_row(
         ok,
         idle,
         &next.writers.opened,
@@ -121,7 +82,15 @@ pub fn abort(st: State, writer: usize) -> Done
     let idle = operations::is_idle(op);
     let prepared = next.writers.prepared;
     let wide = next.wide.writer;
-    let row = writer_row(ok, idle, &next.writers.opened, prepared, wide, writer, true);
+    let row = rows::writers::writer_row(
+        ok,
+        idle,
+        &next.writers.opened,
+        prepared,
+        wide,
+        writer,
+        true,
+    );
     if row != 0 {
         return answers::refused(row, next);
     }

@@ -5,7 +5,7 @@ ghost use Rattle.in_place.specs.Through.{quietAt, answeredAt, wentTo};
 use answers::Answer;
 use in_place::Went;
 use layout::Sizes;
-use stores::Places;
+use state::Places;
 
 // Opens a writer.
 pub fn begin<'a>(
@@ -40,7 +40,7 @@ pub fn begin<'a>(
         at.count,
         keys,
     );
-    let row = writers::writer_row(ok, true, opened, at.prepared, at.wide, writer, false);
+    let row = rows::writers::writer_row(ok, true, opened, at.prepared, at.wide, writer, false);
     if row != 0 {
         return answers::answer_of(row, 0);
     }
@@ -81,7 +81,7 @@ pub fn abort<'a>(
         at.count,
         keys,
     );
-    let row = writers::writer_row(ok, true, opened, at.prepared, at.wide, writer, true);
+    let row = rows::writers::writer_row(ok, true, opened, at.prepared, at.wide, writer, true);
     if row != 0 {
         let answer = answers::answer_of(row, 0);
         return Went { answer, to: at };

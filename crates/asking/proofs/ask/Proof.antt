@@ -1,15 +1,16 @@
 use Prim.Native.Nat.{ℕ, _≤_}
 use native.Mathlib.Omega.{arith}
-use Rattle.wide_stores.proofs.WideGoing.{entries-of}
 use mathlib.Core.List.{List, _++_}
 use mathlib.Core.Path.{_≡_, sym, _∙_}
 use lib.ListN.{replicate}
 use Rattle.bounded.specs.Rows.{Row, refusal}
 use Rattle.operations.specs.Operations.{opRows, Ranged, needs as storesNeeded}
 use Rattle.operations.proofs.Taken.{op-asked}
-use Rattle.refinement.proofs.Going.{ranges-of}
+use Rattle.refinement.proofs.Going.{ranges-of, entries-of}
 use Rattle.refinement.specs.Calls.{quietRows}
-use Rattle.asking.proofs.Taking.{ask-known, ask-none, ask-refused, ask-pending, ask-done}
+use Rattle.asked.proofs.Asked.{ask-none}
+use Rattle.answers.proofs.AskKnown.{ask-known}
+use Rattle.asking.proofs.Taking.{ask-refused, ask-pending, ask-done}
 use borrow.Author.Needs.{needs}
 use Rattle.asking.proofs.ask.Statement.{statement}
 use Rattle.asking.proofs.ask.Tie as tie

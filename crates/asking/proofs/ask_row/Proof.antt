@@ -2,7 +2,7 @@ use borrow.Author.Needs.{needs}
 use Rattle.state.specs.declared.State.{State}
 use Rattle.state.specs.Parts.{stateOf}
 use Rattle.state.specs.Wide.{wideOf}
-use Rattle.asking.proofs.Rows.{first-ranges, rows-whole}
+use Rattle.asked.proofs.Rows.{first-ranges, rows-whole}
 use Rattle.asking.proofs.ask_row.Statement.{statement}
 use Rattle.asking.proofs.ask_row.Tie as tie
 

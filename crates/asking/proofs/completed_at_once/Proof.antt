@@ -3,7 +3,8 @@ use Rattle.bounded.proofs.Tests.{contradicts}
 use Rattle.operations.specs.Operations.{isIdle}
 use Rattle.operations.proofs.Taken.{commit-taken, confirm-taken}
 use Rattle.refinement.specs.Stores.{completed}
-use Rattle.asking.proofs.Taking.{commit-none, confirm-none, empty-commit, empty-prepare, empty-checkpoint, empty-copy, write-needs, log-needs, consolidate-needs, event-needs}
+use Rattle.asked.proofs.Asked.{write-needs, log-needs, consolidate-needs, event-needs}
+use Rattle.asking.proofs.Taking.{commit-none, confirm-none, empty-commit, empty-prepare, empty-checkpoint, empty-copy}
 use borrow.Author.Needs.{needs}
 use Rattle.asking.proofs.completed_at_once.Statement.{statement}
 use Rattle.asking.proofs.completed_at_once.Tie as tie

@@ -9,9 +9,9 @@ use borrow.Author.Needs.{needs}
 use Rattle.cutting.proofs.keep.Statement.{statement}
 use Rattle.cutting.proofs.keep.Tie as tie
 
-counted : (c : tie.After-lesser2)
+counted : (c : tie.After-smaller2)
     → (let x = c .before .before .before .before .before .before .before .args in
-    c .lesser2 .result ≡ length (fitting (x .line .now) (x .have) (x .input .now) (x .from) (x .to)))
+    c .smaller2 .result ≡ length (fitting (x .line .now) (x .have) (x .input .now) (x .from) (x .to)))
 counted c =
     let x = c .before .before .before .before .before .before .before .args in
     cc (length-fitting (x .line .now) (x .have) (x .input .now) (x .from) (x .to))
@@ -24,7 +24,7 @@ record Fits (from have n size room : ℕ) : Type 0 where
 
 fits : (c : tie.Else1)
     → (let x = c .before .before .before .before .before .before .before .before .args in
-    Fits (x .from) (x .have) (c .before .lesser2 .result) (length (x .input .now)) (length (x .line .now)))
+    Fits (x .from) (x .have) (c .before .smaller2 .result) (length (x .input .now)) (length (x .line .now)))
 fits c = record { source = omega arith; target = omega arith; word = omega arith }
 
 returns : tie.Need-returns
@@ -53,7 +53,7 @@ returns-2 c =
     let k = c .before .before in
     let e = k .before .before .before in
     let x = e .before .before .before .before .before .before .before .before .args in
-    let n = e .before .lesser2 .result in
+    let n = e .before .smaller2 .result in
     let m = counted (e .before) in
     let f = fits e in (
       keeps-copy (x .line .now) (x .have) (x .input .now) (x .from) (x .to) n (k .copy .last .1 .0) m (f .source) (f .target) (k .copy .ensures .1),

@@ -5,6 +5,7 @@ use mathlib.Core.Path.{_≡_, refl, sym, ap, _∙_}
 use borrow.Author.Tests.{lt-ltb, le-ltb}
 use borrow.Author.Needs.{needs}
 use Rattle.bounded.specs.Rows.{Row}
+use Rattle.bounded.proofs.Rows.{rows-first, rows-then}
 use Rattle.bounded.proofs.Tests.{row-yes, row-no}
 use Rattle.meters.specs.Meters.{moduliOk, eventKnown}
 use Rattle.state.specs.declared.State.{State}
@@ -12,7 +13,6 @@ use Rattle.state.specs.Parts.{stateOf}
 use Rattle.state.specs.Wide.{wideOf, someWide}
 use Rattle.refinement.specs.Calls.{quietRows}
 use Rattle.refinement.proofs.Quiet.{Quiet, quiet}
-use Rattle.answers.proofs.Answered.{rows-first, rows-then}
 use Rattle.events.proofs.start_row.Statement.{statement}
 use Rattle.events.proofs.start_row.Tie as tie
 

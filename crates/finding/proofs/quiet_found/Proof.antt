@@ -11,7 +11,7 @@ use Rattle.finding.proofs.quiet_found.Tie as tie
 abbrev st : tie.Start → State
 st c =
     let a = c .args in
-    stateOf (a .z) (a .head) (a .tail) (a .next) (a .page .now) (a .original .now) (a .spare .now) (a .bitmap .now) (a .last .now) (a .opened .now) (a .held .now) (a .prepared) (wideOf (a .wide) (a .count) (a .keys .now)) noPending
+    stateOf (a .z) (a .at .head) (a .at .tail) (a .at .next) (a .page .now) (a .original .now) (a .spare .now) (a .bitmap .now) (a .last .now) (a .opened .now) (a .held .now) (a .at .prepared) (wideOf (a .at .wide) (a .at .count) (a .keys .now)) noPending
 
 found-after-requires : tie.Need-found-after-requires
 found-after-requires c κs = let s = c .before .before .before in first-known (st s) (s .args .image .now) _ (c .quiet-row .ensures)

@@ -1,8 +1,8 @@
 use borrow.Author.Tests.{not-true, not-false}
 use Rattle.state.specs.declared.State.{State}
+use Rattle.refinement.proofs.Going.{entries-of}
 use Rattle.state.specs.Parts.{stateOf}
 use Rattle.state.specs.Wide.{wideOf}
-use Rattle.wide_stores.proofs.WideGoing.{entries-of}
 use Rattle.stores.proofs.LeftMade.{put-together}
 use Rattle.going.proofs.Running.{row-low, taken-busy, taken-going, went-part, whole-taken, went-whole}
 use borrow.Author.Needs.{needs}

@@ -3,11 +3,11 @@ use Rattle.state.specs.declared.State.{State}
 use Rattle.operations.specs.Operations.{commitRows}
 use Rattle.refinement.specs.Calls.{quietRows}
 use Rattle.refinement.proofs.Quiet.{quiet}
-use Rattle.answers.proofs.Answered.{rows-first, rows-then}
-use Rattle.asking.proofs.Rows.{first-ranges}
+use Rattle.asked.proofs.Rows.{first-ranges}
 use Rattle.in_place.specs.Through.{quietAt}
 use Rattle.operations_in_place.proofs.commit_row.Statement.{statement}
 use Rattle.operations_in_place.proofs.commit_row.Tie as tie
+use Rattle.bounded.proofs.Rows.{rows-first, rows-then}
 
 abbrev st : tie.Start → State
 st c =

@@ -9,8 +9,8 @@ use Rattle.powerhit.proofs.perform_kept.Statement.{statement}
 use Rattle.powerhit.proofs.perform_kept.Tie as tie
 
 -- the newline has a place
-inside : (c : tie.After-lesser) → c .lesser .result < length (c .before .before .before .args .line .now)
-inside c = omega (arith, c .lesser .ensures, c .before .before .before .pre)
+inside : (c : tie.After-smaller) → c .smaller .result < length (c .before .before .before .args .line .now)
+inside c = omega (arith, c .smaller .ensures, c .before .before .before .pre)
 
 slice-reshare-prefix-perform-lines : tie.Need-slice-reshare-prefix-perform-lines
 slice-reshare-prefix-perform-lines c = simp length-set (omega (arith, inside (c .before)))
@@ -21,13 +21,13 @@ slice-aggregate-perform-lines c = sym (length-take-le _ _ (simp length-set (omeg
 perform-lines-requires : tie.Need-perform-lines-requires
 perform-lines-requires c κs =
     let place = c .before .before .before in
-    (omega arith, closed-end (place .before .before .before .args .line .now) (place .lesser .result) (inside place))
+    (omega arith, closed-end (place .before .before .before .args .line .now) (place .smaller .result) (inside place))
 
 returns : tie.Need-returns
 returns c =
     let lines = c .before .before .perform-lines .ensures in
     let place = c .before .before .before .before .before .before in
-    goes-newline (place .lesser .result) (place .before .before .before .pre) (place .lesser .ensures) lines
+    goes-newline (place .smaller .result) (place .before .before .before .pre) (place .smaller .ensures) lines
 
 pub perform-kept-spec : {M : Type 1} → statement M
 perform-kept-spec =

@@ -4,7 +4,7 @@ use Rattle.state.specs.declared.Op.the-variants.{Confirm}
 use Rattle.refinement.proofs.Begun.{unprepared}
 use Rattle.refinement.specs.Calls.{confirmCallRows, withdrawOf}
 use Rattle.answers.proofs.Answered.{refused-by, taken-by}
-use Rattle.asking.proofs.Taking.{ask-known}
+use Rattle.answers.proofs.AskKnown.{ask-known}
 use Rattle.preparing.proofs.withdraw.Statement.{statement}
 use Rattle.preparing.proofs.withdraw.Tie as tie
 

@@ -7,7 +7,7 @@ use Rattle.state.specs.declared.Op.{Op}
 use Rattle.state.specs.declared.Op.the-variants.{Commit}
 use Rattle.operations.specs.Operations.{opRows}
 use Rattle.refinement.specs.Calls.{commitOf, quietRows, asked}
-use Rattle.finding.proofs.FoundLine.{commit-rows}
+use Rattle.asked.proofs.Asked.{commit-rows}
 use Rattle.transactions.proofs.commit.Statement.{statement}
 use Rattle.transactions.proofs.commit.Tie as tie
 

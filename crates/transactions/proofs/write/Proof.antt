@@ -1,5 +1,6 @@
 use borrow.Author.Needs.{needs}
-use Rattle.transactions.proofs.Writing.{write-known, write-merge, write-refused, write-nothing, write-asked}
+use Rattle.finding.proofs.Writing.{write-known, write-merge}
+use Rattle.transactions.proofs.WriteAsked.{write-refused, write-nothing, write-asked}
 use Rattle.transactions.proofs.write.Statement.{statement}
 use Rattle.transactions.proofs.write.Tie as tie
 

@@ -4,9 +4,9 @@ use borrow.Author.Needs.{needs}
 use Rattle.state.specs.declared.State.{State}
 use Rattle.refinement.specs.Calls.{changesNothing}
 use Rattle.answers.proofs.Answered.{refused-known}
-use Rattle.transactions.proofs.Writing.{write-known, write-merge, idle-is}
+use Rattle.finding.proofs.Writing.{write-known, write-merge, idle-is}
 use Rattle.in_place.specs.Through.{quietAt}
-use Rattle.write_in_place.proofs.Writing.{write-refused, write-nothing, write-pends, write-through, write-makes, write-completes, write-direct}
+use Rattle.write_in_place.proofs.Writing.{write-refused, write-nothing, entry-puts, entry-through, line-puts, line-through}
 use Rattle.write_in_place.proofs.write.Statement.{statement}
 use Rattle.write_in_place.proofs.write.Tie as tie
 
@@ -43,39 +43,32 @@ returns-2 c =
     let a = s .args in
     write-nothing (st s) (a .image .now) (a .writer) (a .p) (a .line) (a .offset) (a .length) (a .«data» .now) _ (c .before .before .before .before .before .before .before .quiet-found .ensures) (c .before .before .before .before .before .if1 .left) (sym (nothing (c .before .before .before)) ∙ c .if2 .taken) _ refl
 
-make-all-requires : tie.Need-make-all-requires
-make-all-requires c κs =
-    let s = c .before .before .before .before .before .before .before .before .before .before .before .before .before .before .before .before .before .before .before .before .before .before .before .before .before .before .before .before .before .before .before in
+put-entry-requires : tie.Need-put-entry-requires
+put-entry-requires c κs =
+    let s = c .before .before .before .before .before .before .before .before .before .before .before .before .before .before .before .before .before .before .before .before .before .before .before .before in
     let a = s .args in
-    write-pends (st s) (a .image .now) (a .writer) (a .p) (a .line) (a .offset) (a .length) (a .«data» .now) _ (c .before .before .before .before .before .before .before .before .before .before .before .before .before .before .before .before .before .before .before .quiet-found .ensures) (c .before .before .before .before .before .before .before .before .before .before .before .before .before .before .before .before .before .if1 .left) _ _ _ _ (c .before .before .before .before .before .before .before .before .before .before .before .before .before .before .before .merged .ensures .0) (rw (c .before .before .before .before .before .before .before .before .before .before .if3 .taken)) (c .before .before .before .before .before .before .before .before .before .pending-from .ensures) (rw (c .before .before .before .before .before .before .before .before .before .before .if3 .taken))
+    entry-puts (st s) (a .image .now) (a .writer) (a .p) (a .line) (a .offset) (a .length) (a .«data» .now) _ (c .before .before .before .before .before .before .before .before .before .before .before .before .quiet-found .ensures) (c .before .before .before .before .before .before .before .before .before .before .if1 .left) (c .before .before .before .if3 .taken)
 
 returns-3 : tie.Need-returns-3
 returns-3 c =
-    let s = c .before .before .before .before .before .before .before .before .before .before .before .before .before .before .before .before .before .before .before .before .before .before .before .before .before .before .before .before .before .before .before .before .before .before in
-    let a = s .args in
-    let e = c .before .before .make-all .ensures in
-    write-through (st s) (a .image .now) (a .writer) (a .p) (a .line) (a .offset) (a .length) (a .«data» .now) _ (c .before .before .before .before .before .before .before .before .before .before .before .before .before .before .before .before .before .before .before .before .before .before .quiet-found .ensures) (c .before .before .before .before .before .before .before .before .before .before .before .before .before .before .before .before .before .before .before .before .if1 .left) _ _ _ _ (c .before .before .before .before .before .before .before .before .before .before .before .before .before .before .before .before .before .before .merged .ensures .0) (rw (c .before .before .before .before .before .before .before .before .before .before .before .before .before .if3 .taken)) (c .before .before .before .before .before .before .before .before .before .before .before .before .pending-from .ensures) (rw (c .before .before .before .before .before .before .before .before .before .before .before .before .before .if3 .taken))
-    (sym (nothing (c .before .before .before .before .before .before .before .before .before .before .before .before .before .before .before .before .before .before)) ∙ c .before .before .before .before .before .before .before .before .before .before .before .before .before .before .before .if2 .left) _ _ _ (e .0) (e .1) refl
-
-make-write-stores-requires : tie.Need-make-write-stores-requires
-make-write-stores-requires c κs =
     let s = c .before .before .before .before .before .before .before .before .before .before .before .before .before .before .before .before .before .before .before .before .before .before .before .before .before .before .before in
     let a = s .args in
-    write-makes (st s) (a .image .now) (a .writer) (a .p) (a .line) (a .offset) (a .length) (a .«data» .now) _ (c .before .before .before .before .before .before .before .before .before .before .before .before .before .before .before .quiet-found .ensures) (c .before .before .before .before .before .before .before .before .before .before .before .before .before .if1 .left)
+    let e = c .before .before .put-entry .ensures in
+    entry-through (st s) (a .image .now) (a .writer) (a .p) (a .line) (a .offset) (a .length) (a .«data» .now) _ (c .before .before .before .before .before .before .before .before .before .before .before .before .before .before .before .quiet-found .ensures) (c .before .before .before .before .before .before .before .before .before .before .before .before .before .if1 .left) _ (c .before .before .before .before .before .before .before .before .before .before .before .merged .ensures .0) (sym (nothing (c .before .before .before .before .before .before .before .before .before .before .before)) ∙ c .before .before .before .before .before .before .before .before .if2 .left) _ _ (c .before .before .before .before .before .before .if3 .taken) _ _ (e .0) (e .1 .0) (e .1 .1) refl
 
-complete-write-requires : tie.Need-complete-write-requires
-complete-write-requires c κs =
-    let s = c .before .before .before .before .before .before .before .before .before .before .before .before .before .before .before .before .before .before .before .before .before .before .before .before .before .before .before .before .before .before .before .before .before .before in
+put-line-requires : tie.Need-put-line-requires
+put-line-requires c κs =
+    let s = c .before .before .before .before .before .before .before .before .before .before .before .before .before .before .before .before .before .before .before .before .before .before .before .before .before .before .before .before in
     let a = s .args in
-    write-completes (st s) (a .image .now) (a .writer) (a .p) (a .line) (a .offset) (a .length) (a .«data» .now) _ (c .before .before .before .before .before .before .before .before .before .before .before .before .before .before .before .before .before .before .before .before .before .before .quiet-found .ensures) (c .before .before .before .before .before .before .before .before .before .before .before .before .before .before .before .before .before .before .before .before .if1 .left)
+    line-puts (st s) (a .image .now) (a .writer) (a .p) (a .line) (a .offset) (a .length) (a .«data» .now) _ (c .before .before .before .before .before .before .before .before .before .before .before .before .before .before .before .before .quiet-found .ensures) (c .before .before .before .before .before .before .before .before .before .before .before .before .before .before .if1 .left)
 
 returns-4 : tie.Need-returns-4
 returns-4 c =
-    let s = c .before .before .before .before .before .before .before .before .before .before .before .before .before .before .before .before .before .before .before .before .before .before .before .before .before .before .before .before .before .before .before .before .before .before .before in
+    let s = c .before .before .before .before .before .before .before .before .before .before .before .before .before .before .before .before .before .before .before .before .before .before .before .before .before .before .before .before .before .before .before in
     let a = s .args in
-    let e = c .complete-write .ensures in
-    write-direct (st s) (a .image .now) (a .writer) (a .p) (a .line) (a .offset) (a .length) (a .«data» .now) _ (c .before .before .before .before .before .before .before .before .before .before .before .before .before .before .before .before .before .before .before .before .before .before .before .quiet-found .ensures) (c .before .before .before .before .before .before .before .before .before .before .before .before .before .before .before .before .before .before .before .before .before .if1 .left) (c .before .before .before .before .before .before .before .before .before .before .before .before .before .before .if3 .left) _ (c .before .before .before .before .before .before .before .before .before .before .before .before .before .before .before .before .before .before .before .merged .ensures .0) _ _ _ _ _
-    (sym (nothing (c .before .before .before .before .before .before .before .before .before .before .before .before .before .before .before .before .before .before .before)) ∙ c .before .before .before .before .before .before .before .before .before .before .before .before .before .before .before .before .if2 .left) (e .0) (e .1 .0) (e .1 .1 .0) (e .1 .1 .1 .0) (e .1 .1 .1 .1) _ (c .before .before .before .before .before .before .before .make-write-stores .ensures) _ refl
+    let e = c .before .before .put-line .ensures in
+    line-through (st s) (a .image .now) (a .writer) (a .p) (a .line) (a .offset) (a .length) (a .«data» .now) _ (c .before .before .before .before .before .before .before .before .before .before .before .before .before .before .before .before .before .before .before .quiet-found .ensures) (c .before .before .before .before .before .before .before .before .before .before .before .before .before .before .before .before .before .if1 .left) _ (c .before .before .before .before .before .before .before .before .before .before .before .before .before .before .before .merged .ensures .0) (sym (nothing (c .before .before .before .before .before .before .before .before .before .before .before .before .before .before .before)) ∙ c .before .before .before .before .before .before .before .before .before .before .before .before .if2 .left) _ _ (c .before .before .before .before .before .before .before .before .before .before .if3 .left) _ _ _ _ _
+    (e .0) (e .1 .0) (e .1 .1 .0) (e .1 .1 .1 .0) (e .1 .1 .1 .1 .0) (e .1 .1 .1 .1 .1) refl
 
 pub write-spec : {M : Type 1} → statement M
 write-spec =
@@ -88,11 +81,9 @@ write-spec =
     merged-requires
     (λ c. search needs)
     returns-2
-    (λ c κs. search needs)
-    make-all-requires
+    put-entry-requires
     (λ c. search needs)
     returns-3
-    make-write-stores-requires
-    complete-write-requires
+    put-line-requires
     (λ c. search needs)
     returns-4)

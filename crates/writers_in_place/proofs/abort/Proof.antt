@@ -10,7 +10,7 @@ use Rattle.state.specs.declared.State.{State}
 use Rattle.state.specs.Held.{noWriter}
 use Rattle.state.specs.Wide.{wideOf, dropped}
 use Rattle.entries.specs.Entries.{noKeys}
-use Rattle.stores.specs.declared.Places.{Places}
+use Rattle.state.specs.declared.Places.{Places}
 use Rattle.validity.proofs.Quiet.{idle-quiet}
 use Rattle.refinement.specs.Settled.{noPending}
 use Rattle.refinement.specs.Commit.{closedWriter}

@@ -16,7 +16,7 @@ returns : tie.Need-returns
 returns c f h =
     let p = c .before .perform in
     let count = c .before .before .before .before .before in
-    let k = count .before .lesser in
+    let k = count .before .smaller in
     let room = count .before .before in
     let a = room .before .before .before .before .args in
     let m = room .make-room .result in

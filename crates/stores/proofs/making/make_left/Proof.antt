@@ -7,9 +7,8 @@ use Rattle.state.specs.Parts.{stateOf}
 use Rattle.state.specs.Wide.{wideOf}
 use Rattle.operations.specs.Operations.{needs as storesNeeded}
 use Rattle.operations.proofs.Taken.{op-asked}
-use Rattle.refinement.proofs.Going.{Going, going}
+use Rattle.refinement.proofs.Going.{Going, going, entries-of}
 use Rattle.refinement.proofs.Quiet.{Busy, busy}
-use Rattle.wide_stores.proofs.WideGoing.{entries-of}
 use Rattle.stores.proofs.LeftMade.{left-refused, left-made}
 use borrow.Author.Needs.{needs}
 use Rattle.stores.proofs.making.make_left.Statement.{statement}

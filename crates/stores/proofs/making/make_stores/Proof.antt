@@ -4,13 +4,13 @@ use Rattle.state.specs.declared.State.{State}
 use Rattle.state.specs.Parts.{stateOf}
 use Rattle.state.specs.Wide.{wideOf}
 use Rattle.operations.specs.Operations.{isIdle}
-use Rattle.refinement.proofs.Going.{going, write-of, commit-of, prepare-of, confirm-of, consolidate-of, write-left, commit-left, prepare-left, confirm-left, consolidate-left, checkpoint-left, event-left, stores-of}
+use Rattle.refinement.proofs.Going.{going, write-of, commit-of, prepare-of, confirm-of, consolidate-of, write-left, commit-left, prepare-left, confirm-left, consolidate-left, checkpoint-left, event-left, stores-of, entries-of}
 use Rattle.writes.proofs.WriteMade.{write-stores-of}
 use Rattle.commits.proofs.CommitMade.{commit-stores-of}
 use Rattle.consolidations.proofs.ConsolidateMade.{consolidate-stores-of}
 use Rattle.event_stores.specs.Lines.{eventStores}
 use Rattle.wide_stores.proofs.WideMade.{copy-stores-of}
-use Rattle.wide_stores.proofs.WideGoing.{entries-of, entry-room, log-of, log-left, copy-left}
+use Rattle.wide_stores.proofs.WideGoing.{entry-room, log-of, log-left, copy-left}
 use native.Mathlib.Omega.{arith}
 use borrow.Author.Needs.{needs}
 use Rattle.stores.proofs.making.make_stores.Statement.{statement}
