@@ -1,9 +1,8 @@
-// Game rounds on a store of 16 pages, 4 slots and 64 journal places, for the program rounds. The state's arrays are kept here and lent to each call.
-mod steps;
-
+// The rounds. The state's arrays are kept here and lent to each call.
 ghost use mathlib.Core.Path.{_≡_};
 ghost use Prim.Native.Nat.{_+_, _%_, _<_};
 ghost use lib.ListN.{getD};
+use crate::steps;
 use answers::Answer;
 use answers::number_of;
 use in_place::Went;
