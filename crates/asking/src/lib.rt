@@ -160,7 +160,7 @@ fn completed_at_once(st: State, op: Op) -> State
         Op::Commit { writer } => {
             state::held::set_open(&mut next.writers.opened, writer, false);
             state::held::let_go(z, &mut next.writers.held, writer);
-            next.writers.prepared = 4;
+            next.writers.prepared = state::NO_WRITER;
             next
         }
         Op::Consolidate { page: _ } => next,
@@ -181,7 +181,7 @@ fn completed_at_once(st: State, op: Op) -> State
         Op::Confirm { writer } => {
             state::held::set_open(&mut next.writers.opened, writer, false);
             state::held::let_go(z, &mut next.writers.held, writer);
-            next.writers.prepared = 4;
+            next.writers.prepared = state::NO_WRITER;
             next
         }
         Op::Log {
@@ -194,7 +194,7 @@ fn completed_at_once(st: State, op: Op) -> State
             let wide = next.wide.writer;
             wide_stores::close(&mut next.writers.opened, wide);
             wide_stores::let_go(z, &mut next.writers.held, wide);
-            let none = settled::begun_wide(4);
+            let none = settled::begun_wide(state::NO_WRITER);
             next.wide = none;
             next
         }

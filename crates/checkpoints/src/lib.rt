@@ -10,14 +10,14 @@ ghost use Rattle.refinement.specs.Checkpoint.{checkpointStores, slotCopies};
 use layout::Sizes;
 
 // The j-th slot that has a live record, rising, or 0 where there is none.
-fn recorded_slot(z: Sizes, last: &[usize; 16], j: usize) -> usize
+pub fn recorded_slot(z: Sizes, last: &[usize; 16], j: usize) -> usize
     requires { ⌜ Legal z ⌝ }
     ensures { λ r. ⌜ r ≡ getD (recordedSlots z (now (last .entry))) j 0 ⌝ }
 {
     let mut left = j;
     let mut s = 0;
     while s < z.slots {
-        if last[s] != 18446744073709551615 {
+        if last[s] != replay::NO_POSITION {
             if left == 0 {
                 return s;
             }
@@ -88,7 +88,7 @@ pub fn make_checkpoint_stores(
     let m = bounded::smaller(n, 3 * c - from);
     make_slot_stores(image, z, head, last, from, m);
     if m < n {
-        image_words::store_word(image, 5, head as u64);
+        image_words::store_word(image, layout::TAIL_WORD, head as u64);
     }
 }
 
@@ -99,7 +99,7 @@ pub fn complete_checkpoint(last: &mut [usize; 16], z: Sizes)
 {
     let mut s = 0;
     while s < z.slots {
-        last[s] = 18446744073709551615;
+        last[s] = replay::NO_POSITION;
         s += 1;
     }
 }

@@ -132,7 +132,7 @@ pub fn make_commit_stores<'a>(
     );
     if m < n {
         let h = journal::records::position(z, head, c);
-        image_words::store_word(image, 4, h as u64);
+        image_words::store_word(image, layout::HEAD_WORD, h as u64);
     }
 }
 
@@ -153,7 +153,7 @@ pub fn make_confirm_stores(
     }
     let c = state::held::held_count(z, held, w);
     let end = journal::records::position(z, head, c);
-    image_words::store_word(image, 4, end as u64);
+    image_words::store_word(image, layout::HEAD_WORD, end as u64);
 }
 
 // Puts the bitmaps of a commit of n slots where they lie.

@@ -17,7 +17,7 @@ use journal::Slot;
 use layout::Sizes;
 
 // The frame that lines go to: the original where at most 32 are in the spare, else the spare.
-fn copy_to(t: Slot) -> usize
+pub fn copy_to(t: Slot) -> usize
     ensures { λ r. ⌜ r ≡ copyTo t ⌝ }
 {
     if masks::count(t.bitmap) <= 32 {
@@ -37,7 +37,7 @@ fn copy_from(t: Slot) -> usize
 }
 
 // The j-th line that is copied.
-fn copied_line(t: Slot, j: usize) -> usize
+pub fn copied_line(t: Slot, j: usize) -> usize
     ensures { λ r. ⌜ r ≡ getD (copyLines t) j 64 ⌝ }
 {
     if masks::count(t.bitmap) <= 32 {
@@ -98,7 +98,7 @@ fn make_piece(
         return m;
     }
     let h = journal::records::position(z, head, 1);
-    image_words::store_word(image, 4, h as u64);
+    image_words::store_word(image, layout::HEAD_WORD, h as u64);
     1
 }
 

@@ -114,36 +114,44 @@ number-bytes v l d n e = e ∙ over-whole l (bytesOf 8 v) (length-bytes 8 v ∙ 
 
 -- ---- what comes of it
 
-module _ (st : State) (img ms : List ℕ) (k m a : ℕ) (d : Done) (found : Found) (f : EventFound st img ms k m a found) where
+module _ (st : State) (img ms : List ℕ) (k m a : ℕ) (found : Found) (f : EventFound st img ms k m a found) where
   abbrev after : State
   after = withLines st (Event k m a) (eventLine st img ms k m a) (eventSecond st img ms k m a) (pageFrame st img 0)
 
-  pub event-refused : (found .row ≡ 0 → ⊥) → outcomeOf d ≡ answered (found .row) st 0 st → outcomeOf d ≡ eventOf st img ms k m a
-  unfolding eventOf
-  event-refused n h = refused-by d (eventCallRows st img ms k m a) (found .row) (eventNeeds k) st after (f .0) n h
+  -- the event pending, by what the code found: v is the first meter's new number, l that meter
+  module _ (z : found .row ≡ 0) (v l : ℕ) (line second : List ℕ) (q : Pending) (ev : v ≡ firstNumber ms k m (found .stored) a) (el : l ≡ firstMeter k m)
+      (eline : line ≡ lineWords (merged (lineBytes img (st .sizes) (found .first) l) 0 8 (bytesOf 8 v))) (esecond : second ≡ secondOf img ms (st .sizes) (found .own) k m a)
+      (eq : q ≡ record { op = Event k m a; made = 0; line = line; second = second; frame = found .frame }) where
+    pub event-pending : q ≡ record { op = Event k m a; made = 0; line = eventLine st img ms k m a; second = eventSecond st img ms k m a; frame = pageFrame st img 0 }
+    event-pending =
+        let g = f .1 z in
+        let narrow : someWide (st .wide .writer) ≡ false = none-apply (eventCallRows st img ms k m a) (omega arith) (sym (f .0) ∙ z) .1 .1 .1 .0 in
+        let v₀ : ℕ = firstNumber ms k m (meterIn st img (firstMeter k m)) a in
+        let one : line ≡ eventLine st img ms k m a =
+        eline
+        ∙ ap₂ (λ (x y : ℕ). lineWords (merged (lineBytes img (st .sizes) (found .first) x) 0 8 (bytesOf 8 y))) el (ev ∙ ap (λ (s : ℕ). firstNumber ms k m s a) (g .3))
+        ∙ ap (λ (x : ℕ). lineWords (merged (lineBytes img (st .sizes) x (firstMeter k m)) 0 8 (bytesOf 8 v₀))) (g .1)
+        ∙ ap (λ (x : List ℕ). lineWords (merged x 0 8 (bytesOf 8 v₀))) (narrow-line st img (firstMeter k m) narrow) in
+        let two : second ≡ eventSecond st img ms k m a =
+        esecond
+        ∙ ap (λ (x : ℕ). secondOf img ms (st .sizes) x k m a) (g .2)
+        ∙ ap (λ (x : List ℕ). cond (movesCredit k) (lineWords (merged x 0 8 (bytesOf 8 (rolled ms (ownMeter k m) (wordAt x 0) a)))) (replicate 8 0)) (narrow-line st img (ownMeter k m) narrow) in
+        eq ∙ rw (one, two, g .0)
 
-  pub event-asked : (v l n : ℕ) (line second : List ℕ) (q : Pending) → found .row ≡ 0 → v ≡ firstNumber ms k m (found .stored) a → l ≡ firstMeter k m
-      → line ≡ lineWords (merged (lineBytes img (st .sizes) (found .first) l) 0 8 (bytesOf 8 v)) → second ≡ secondOf img ms (st .sizes) (found .own) k m a
-      → q ≡ record { op = Event k m a; made = 0; line = line; second = second; frame = found .frame } → n ≡ eventNeeds k
-      → outcomeOf d ≡ answered 0 (record { sizes = st .sizes; head = st .head; tail = st .tail; next = st .next; table = st .table; writers = st .writers; wide = st .wide; pending = q }) n (record { sizes = st .sizes; head = st .head; tail = st .tail; next = st .next; table = st .table; writers = st .writers; wide = st .wide; pending = q })
-      → outcomeOf d ≡ eventOf st img ms k m a
-  unfolding eventOf
-  event-asked v l n line second q z ev el eline esecond eq en h =
-      let g = f .1 z in
-      let narrow : someWide (st .wide .writer) ≡ false = none-apply (eventCallRows st img ms k m a) (omega arith) (sym (f .0) ∙ z) .1 .1 .1 .0 in
-      let v₀ : ℕ = firstNumber ms k m (meterIn st img (firstMeter k m)) a in
-      let one : line ≡ eventLine st img ms k m a =
-      eline
-      ∙ ap₂ (λ (x y : ℕ). lineWords (merged (lineBytes img (st .sizes) (found .first) x) 0 8 (bytesOf 8 y))) el (ev ∙ ap (λ (s : ℕ). firstNumber ms k m s a) (g .3))
-      ∙ ap (λ (x : ℕ). lineWords (merged (lineBytes img (st .sizes) x (firstMeter k m)) 0 8 (bytesOf 8 v₀))) (g .1)
-      ∙ ap (λ (x : List ℕ). lineWords (merged x 0 8 (bytesOf 8 v₀))) (narrow-line st img (firstMeter k m) narrow) in
-      let two : second ≡ eventSecond st img ms k m a =
-      esecond
-      ∙ ap (λ (x : ℕ). secondOf img ms (st .sizes) x k m a) (g .2)
-      ∙ ap (λ (x : List ℕ). cond (movesCredit k) (lineWords (merged x 0 8 (bytesOf 8 (rolled ms (ownMeter k m) (wordAt x 0) a)))) (replicate 8 0)) (narrow-line st img (ownMeter k m) narrow) in
-      let pending : q ≡ record { op = Event k m a; made = 0; line = eventLine st img ms k m a; second = eventSecond st img ms k m a; frame = pageFrame st img 0 } = eq ∙ rw (one, two, g .0) in
-      taken-by d (eventCallRows st img ms k m a) (found .row) (eventNeeds k) st after (f .0) z
-      (h ∙ ap₂ (λ (i : ℕ) (p : Pending). answered 0 (record { sizes = st .sizes; head = st .head; tail = st .tail; next = st .next; table = st .table; writers = st .writers; wide = st .wide; pending = p }) i (record { sizes = st .sizes; head = st .head; tail = st .tail; next = st .next; table = st .table; writers = st .writers; wide = st .wide; pending = p })) en pending)
+  module _ (d : Done) where
+    pub event-refused : (found .row ≡ 0 → ⊥) → outcomeOf d ≡ answered (found .row) st 0 st → outcomeOf d ≡ eventOf st img ms k m a
+    unfolding eventOf
+    event-refused n h = refused-by d (eventCallRows st img ms k m a) (found .row) (eventNeeds k) st after (f .0) n h
+
+    pub event-asked : (v l n : ℕ) (line second : List ℕ) (q : Pending) → found .row ≡ 0 → v ≡ firstNumber ms k m (found .stored) a → l ≡ firstMeter k m
+        → line ≡ lineWords (merged (lineBytes img (st .sizes) (found .first) l) 0 8 (bytesOf 8 v)) → second ≡ secondOf img ms (st .sizes) (found .own) k m a
+        → q ≡ record { op = Event k m a; made = 0; line = line; second = second; frame = found .frame } → n ≡ eventNeeds k
+        → outcomeOf d ≡ answered 0 (record { sizes = st .sizes; head = st .head; tail = st .tail; next = st .next; table = st .table; writers = st .writers; wide = st .wide; pending = q }) n (record { sizes = st .sizes; head = st .head; tail = st .tail; next = st .next; table = st .table; writers = st .writers; wide = st .wide; pending = q })
+        → outcomeOf d ≡ eventOf st img ms k m a
+    unfolding eventOf
+    event-asked v l n line second q z ev el eline esecond eq en h =
+        taken-by d (eventCallRows st img ms k m a) (found .row) (eventNeeds k) st after (f .0) z
+        (h ∙ ap₂ (λ (i : ℕ) (p : Pending). answered 0 (record { sizes = st .sizes; head = st .head; tail = st .tail; next = st .next; table = st .table; writers = st .writers; wide = st .wide; pending = p }) i (record { sizes = st .sizes; head = st .head; tail = st .tail; next = st .next; table = st .table; writers = st .writers; wide = st .wide; pending = p })) en (event-pending z v l line second q ev el eline esecond eq))
 
 -- what a taken one has made sure of
 pub asked-facts : (st : State) (img ms : List ℕ) (k m a : ℕ) → refusal (eventCallRows st img ms k m a) ≡ 0

@@ -194,7 +194,7 @@ fn event_found<'a>(
 }
 
 // The finished line of a meter, with number v: line l of frame f, its first eight bytes those of v.
-fn numbered_line(image: &[u8], z: Sizes, f: usize, l: usize, v: u64) -> [u64; 8]
+pub fn numbered_line(image: &[u8], z: Sizes, f: usize, l: usize, v: u64) -> [u64; 8]
     requires { ⌜ Legal z × (f < framesOf z) × (l < 64) × (imageLength z ≤ length (now image)) ⌝ }
     ensures { λ r. ⌜ r ≡ lineWords (merged (lineBytes (now (image .entry)) z f l) 0 8 (bytesOf 8 v)) ⌝ }
 {
@@ -205,7 +205,7 @@ fn numbered_line(image: &[u8], z: Sizes, f: usize, l: usize, v: u64) -> [u64; 8]
 }
 
 // The second finished line: of the event's own meter, where it moves credit.
-fn second_line(
+pub fn second_line(
     image: &[u8],
     z: Sizes,
     f: usize,

@@ -13,7 +13,7 @@ fn may_free<'a>(page: &'a [usize; 16], held: &'a [u64; 64], s: usize) -> bool
     requires { ⌜ s < 16 ⌝ }
     ensures { λ r. ⌜ r ≡ mayFree (now (page .entry)) (now (held .entry)) s ⌝ }
 {
-    (page[s] != 18446744073709551615) & !state::held::some_hold(held, s)
+    (page[s] != journal::NO_PAGE) & !state::held::some_hold(held, s)
 }
 
 // The better one of slot s and the best of those below it, which is s itself where none of them may be freed. Where s may not

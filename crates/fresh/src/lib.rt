@@ -14,12 +14,12 @@ fn put_header(image: &mut [u8], z: Sizes)
     requires { ⌜ Legal z × (imageLength z ≤ length (now image)) ⌝ }
     ensures { λ _. ⌜ now (image .exit) ≡ putWords (now (image .entry)) 0 (freshHeader z) ⌝ }
 {
-    image_words::store_word(image, 0, z.pages as u64);
-    image_words::store_word(image, 1, z.slots as u64);
-    image_words::store_word(image, 2, z.places as u64);
-    image_words::store_word(image, 3, layout::layout_of(z));
+    image_words::store_word(image, layout::PAGES_WORD, z.pages as u64);
+    image_words::store_word(image, layout::SLOTS_WORD, z.slots as u64);
+    image_words::store_word(image, layout::PLACES_WORD, z.places as u64);
+    image_words::store_word(image, layout::LAYOUT_WORD, layout::layout_of(z));
     runs::fill_words(image, 32, 3, 0);
-    image_words::store_word(image, 7, z.entries as u64);
+    image_words::store_word(image, layout::ENTRIES_WORD, z.entries as u64);
 }
 
 // Writes the page table: page i in frame i.

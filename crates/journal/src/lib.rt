@@ -2,7 +2,12 @@
 pub mod records;
 pub mod slots;
 
-// One slot. A free one has page 2^64 - 1 and original 2^32 - 1.
+// What stands for the page and the original frame of a free slot: 2^64 - 1 and 2^32 - 1.
+pub const NO_PAGE: usize = 18446744073709551615;
+
+pub const NO_FRAME: usize = 4294967295;
+
+// One slot. A free one has no page and no original frame.
 pub struct Slot {
     pub page: usize,
     pub original: usize,

@@ -5,6 +5,8 @@ ghost use lib.ListN.{length};
 ghost use Rattle.layout.specs.Layout.{Legal};
 ghost use Rattle.words.specs.Words.{word};
 ghost use Rattle.journal.specs.Slots.{slotFrom, wordOfSlot, freeSlot, shaped};
+use crate::NO_FRAME;
+use crate::NO_PAGE;
 use crate::Slot;
 use layout::Sizes;
 
@@ -43,8 +45,8 @@ pub fn free_slot(f: usize) -> Slot
     ensures { λ r. ⌜ r ≡ freeSlot f ⌝ }
 {
     Slot {
-        page: 18446744073709551615,
-        original: 4294967295,
+        page: NO_PAGE,
+        original: NO_FRAME,
         spare: f,
         bitmap: 0,
     }
@@ -57,8 +59,5 @@ pub fn is_shaped(z: Sizes, t: Slot) -> bool
 {
     let f = z.pages + z.slots;
     ((t.page < z.pages) & (t.original < f) & (t.spare < f) & (t.original != t.spare))
-        | ((t.page == 18446744073709551615)
-            & (t.original == 4294967295)
-            & (t.bitmap == 0)
-            & (t.spare < f))
+        | ((t.page == NO_PAGE) & (t.original == NO_FRAME) & (t.bitmap == 0) & (t.spare < f))
 }

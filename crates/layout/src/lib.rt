@@ -11,6 +11,23 @@ pub struct Sizes {
     pub entries: usize,
 }
 
+// The header's words: P, S, J, the layout, head and tail; then, of layout 2, how many entries are counted, and L.
+pub const PAGES_WORD: usize = 0;
+
+pub const SLOTS_WORD: usize = 1;
+
+pub const PLACES_WORD: usize = 2;
+
+pub const LAYOUT_WORD: usize = 3;
+
+pub const HEAD_WORD: usize = 4;
+
+pub const TAIL_WORD: usize = 5;
+
+pub const COUNT_WORD: usize = 6;
+
+pub const ENTRIES_WORD: usize = 7;
+
 // Whether the sizes are in their ranges (row 3).
 pub fn sizes_ok(z: Sizes) -> bool
     ensures { λ r. ⌜ r ≡ sizesOk z ⌝ }

@@ -42,10 +42,10 @@ pub record Found (v : View) (d : Wide) (p : Pending) : Type 0 where
   pub count : counted (foundState v d p) ≡ v .count
   pub keys : (e : ℕ) → e < v .count → getD (d .keys) e 0 ≡ getD (v .keys) e 0
 
-abbrev copies : View → Wide
+abbrev pub copies : View → Wide
 copies v = wideOf noWriter (v .count) (v .keys)
 
-quiet-found : (v : View) → v .count ≡ 0 → Found v noWide noPending
+pub quiet-found : (v : View) → v .count ≡ 0 → Found v noWide noPending
 quiet-found v e =
     record {
       is = ap (λ (x : Bool). cond x (foundState v noWide noPending) (foundState v (copies v) copying)) (eq-eqb (v .count) 0 e);
@@ -53,7 +53,7 @@ quiet-found v e =
       keys = λ i l. absurd (omega arith);
     }
 
-copying-found : (v : View) → (v .count ≡ 0 → ⊥) → Found v (copies v) copying
+pub copying-found : (v : View) → (v .count ≡ 0 → ⊥) → Found v (copies v) copying
 copying-found v n =
     record {
       is = ap (λ (x : Bool). cond x (foundState v noWide noPending) (foundState v (copies v) copying)) (ne-eqb (v .count) 0 n);

@@ -76,7 +76,7 @@ wide-stays past st img b s some t =
     let p = pends st (st .pending .op) (s .valid) refl some in
     let seen = s .viewed in
     beyond-stays img (storeAt st img (st .pending .op) made) _ (st .sizes) (ap (λ (v : View). v .sizes) (seen .shows) ∙ seen .sizes-same) (subst Legal (seen .sizes-same) (seen .mounts .legal))
-    (viewed-fits st img b seen) (store-in-range st (s .valid) (s .sixteen) (s .sixty-four) (s .four) some img made (p .made-low)) (beyond-at st img (st .pending .op) made t)
+    (viewed-fits st img b seen) (store-in-range st (s .valid) some img made (p .made-low)) (beyond-at st img (st .pending .op) made t)
 
 -- what goes on is narrow, or beside
 goes-beside : {past : List ℕ} (st : State) (img : List ℕ) (b : Reference) → Stage past st img b → isIdle (st .pending .op) ≡ false → ofWide (st .pending .op) ≡ false

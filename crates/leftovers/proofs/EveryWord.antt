@@ -44,7 +44,7 @@ module _ (v : World) (g : Legal (v .st .sizes)) where
   abbrev z : Sizes
   z = v .st .sizes
 
-  abbrev Told : ℕ → Type 0
+  abbrev pub Told : ℕ → Type 0
   Told a = Leftover v a ⊎ Needed v a
 
   page-told : (a : ℕ) → 8 ≤ a → a < 8 + z .pages → Told a
@@ -112,7 +112,7 @@ module _ (v : World) (g : Legal (v .st .sizes)) where
   split : (a n : ℕ) → (a < n → Told a) → (n ≤ a → Told a) → Told a
   split a n f h = caseOn (ltb a n) (λ t. f (ltb-true a n t)) (λ t. h (ltb-false a n t))
 
-  told : (a : ℕ) → a < imageWords z → Told a
+  pub told : (a : ℕ) → a < imageWords z → Told a
   told a h =
       split a 8 (λ l. inr (header l)) (λ b₁.
       split a (8 + z .pages) (page-told a b₁) (λ b₂.
@@ -135,7 +135,7 @@ module _ (v : World) (g : Legal (v .st .sizes)) where
     left-inside a (past-entries e k l m lk q) = omega arith
     left-inside a (under-entry e k l lk q) = omega (arith, q, lk, low e l)
 
-    scribbled : Bytes (v .image) → imageLength z ≤ length (v .image) → Scribbled v
+    pub scribbled : Bytes (v .image) → imageLength z ≤ length (v .image) → Scribbled v
     scribbled bytes whole =
         record {
           none = record { bytes = bytes; as-long = refl; kept = λ a l n. refl };

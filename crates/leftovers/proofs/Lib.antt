@@ -12,3 +12,4 @@ pub mod AfterMount
 pub mod Replaced
 pub mod Theorem
 pub mod EveryWord
+pub mod Witness

@@ -74,7 +74,7 @@ module _ (img : List ℕ) (view : View) (shows : Shows img view) (taken : Taken 
   abbrev key : ℕ → ℕ
   key e = getD (d .keys) e 0
 
-  key-page : (e : ℕ) → e < n → keyPage (key e) < z .pages
+  pub key-page : (e : ℕ) → e < n → keyPage (key e) < z .pages
   key-page e l = subst (λ (k : ℕ). keyPage k < z .pages) (sym (F .keys e l)) (right .page-low e l)
 
   -- its line lies in a frame of the image
@@ -136,7 +136,7 @@ module _ (img : List ℕ) (view : View) (shows : Shows img view) (taken : Taken 
     page-same : (p : ℕ) → p < z .pages → slotOf z t p ≡ z .slots → word image (pageWord p) ≡ word img (pageWord p)
     page-same p low n = read-kept (pageWord p) (page p low n refl)
 
-    frame-same : (p l : ℕ) → p < z .pages → frameOf (word image) z t p l ≡ copyOf p l
+    pub frame-same : (p l : ℕ) → p < z .pages → frameOf (word image) z t p l ≡ copyOf p l
     frame-same p l low = caseOn (ltb (slotOf z t p) (z .slots)) (λ e. rw e) (λ e. rw e (page-same p low (slot-none z t p e)))
 
     -- the line of an entry that is counted, and that of a committed copy without one

@@ -95,7 +95,7 @@ fn stored_row<'a>(
 }
 
 // A refusal by a row.
-fn refused(row: usize) -> Loaded
+pub fn refused(row: usize) -> Loaded
     requires { ⌜ row ≤ 30 ⌝ }
     ensures { λ r. ⌜ (loadedOf r ≡ record { number = row; moduli = replicate 24 0 }) × (storesOf (r .answer) ≡ 0) ⌝ }
 {

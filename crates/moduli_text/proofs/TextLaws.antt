@@ -18,7 +18,8 @@ use Rattle.bounded.proofs.Tab.{length-tab, getD-tab, filled-none, filled-turn, 
 use Rattle.bounded.proofs.Tests.{caseOn, contradicts, or-right, row-yes, row-no, row-keeps}
 use Rattle.meters.specs.Meters.{modulusBad, moduliOk}
 use Rattle.moduli_text.specs.declared.Entry.{Entry}
-use Rattle.moduli_text.specs.Text.{placeOf, valueOf, meterText, modulusText, modulusIn, entryRows, lineRows, firstLine, firstRows, lineStart, fromLine, linesRow, textRow, moduliIn}
+use Rattle.moduli_text.specs.declared.Moduli.{Moduli}
+use Rattle.moduli_text.specs.Text.{placeOf, valueOf, meterText, modulusText, modulusIn, entryRows, lineRows, firstLine, firstRows, lineStart, fromLine, linesRow, textRow, moduliIn, readOf}
 
 -- ---- a number that the code has capped: r is what it has of v
 
@@ -228,3 +229,23 @@ module _ (text moduli : List ℕ) (a m : ℕ) (g : Going text moduli a m) (h : 2
           (λ i b.
           let k : i < 24 = omega (arith, b, length-filled 24 (entry text) (replicate 24 0)) in
           getD-filled 24 (entry text) (replicate 24 0) i 0 k (omega arith) ∙ sym (getD-tab 24 (entry text) i 0 k))
+
+-- ---- what a reading gives
+
+module _ (text : List ℕ) (r : Moduli) where
+  pub read-refused : (row : ℕ) → row ≡ textRow text → (row ≡ 0 → ⊥) → r ≡ record { row = row; moduli = replicate 24 0 } → r ≡ readOf text
+  unfolding readOf
+  read-refused row e n h = h ∙ rw (← e, ne-eqb row 0 n)
+
+  -- its parts
+  pub read-row : r ≡ readOf text → r .row ≡ textRow text
+  unfolding readOf
+  read-row h = ap (λ (x : Moduli). x .row) h
+
+  pub read-taken : r ≡ readOf text → r .row ≡ 0 → r .moduli ≡ moduliIn text
+  unfolding readOf
+  read-taken h z = ap (λ (x : Moduli). x .moduli) h ∙ sym (row-yes (eqb (textRow text) 0) (moduliIn text) (replicate 24 0) (eq-eqb (textRow text) 0 (sym (read-row h) ∙ z)))
+
+pub read-all : (text ms : List ℕ) → 0 ≡ textRow text → ms ≡ moduliIn text → record { row = 0; moduli = ms } ≡ readOf text
+unfolding readOf
+read-all text ms e h = rw (← e, h)

@@ -3,11 +3,12 @@ use Prim.Native.Nat.{ℕ, zero, suc, _+_, _-_, _*_}
 use mathlib.Core.Bool.{Bool, _&&_, _||_, not, cond}
 use mathlib.Core.List.{List, [], _∷_}
 use lib.Dec.{ltb, leb, eqb}
-use lib.ListN.{length, getD, take, drop}
+use lib.ListN.{length, getD, take, drop, replicate}
 use Rattle.bounded.specs.Below.{allBelow, firstBelow, upTo}
 use Rattle.bounded.specs.Rows.{Row, refusal}
 use Rattle.bounded.specs.Tab.{tab}
 use Rattle.meters.specs.Meters.{modulusBad}
+use Rattle.moduli_text.specs.declared.Moduli.{Moduli}
 
 -- the place of the first byte b, the length where there is none
 unfoldable pub placeOf : ℕ → List ℕ → ℕ
@@ -79,3 +80,7 @@ textRow text = cond (eqb (linesRow text 24) 0) (cond (ltb (lineStart text 24) (l
 -- the moduli
 unfoldable pub moduliIn : List ℕ → List ℕ
 moduliIn text = tab 24 (λ m. modulusIn (firstLine (fromLine text m)))
+
+-- what a reading gives: the number that turns the text back and 24 zeros, or 0 and the moduli
+unfoldable pub readOf : List ℕ → Moduli
+readOf text = record { row = textRow text; moduli = cond (eqb (textRow text) 0) (moduliIn text) (replicate 24 0) }

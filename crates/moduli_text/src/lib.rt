@@ -2,9 +2,9 @@
 // number of digits: no sum wraps.
 ghost use mathlib.Core.Path.{_≡_};
 ghost use Prim.Native.Nat.{_+_, _-_, _*_, _<_, _≤_, min};
-ghost use lib.ListN.{length};
+ghost use lib.ListN.{length, replicate};
 ghost use Rattle.bounded.specs.Rows.{refusal};
-ghost use Rattle.moduli_text.specs.Text.{placeOf, isDigit, plainDecimal, valueOf, modulusIn, entryRows, lineRows, firstLine, firstRows, textRow, moduliIn};
+ghost use Rattle.moduli_text.specs.Text.{placeOf, isDigit, plainDecimal, valueOf, modulusIn, entryRows, lineRows, firstLine, firstRows, readOf};
 
 // One more than the largest modulus: a larger number is as good as this one.
 const BEYOND: u64 = 1000000000001;
@@ -16,7 +16,7 @@ pub struct Entry {
     pub modulus: u64,
 }
 
-// A text's row, 0 where none turns it back; then its moduli.
+// A text's row, 0 where none turns it back; then its moduli, zeros where one does.
 pub struct Moduli {
     pub row: usize,
     pub moduli: [u64; 24],
@@ -157,9 +157,17 @@ fn first_entry(text: &[u8], m: usize) -> Entry
     }
 }
 
+// A text that a row turns back.
+fn refused(row: usize) -> Moduli
+    ensures { λ r. ⌜ r ≡ record { row = row; moduli = replicate 24 0 } ⌝ }
+{
+    let moduli = [0; 24];
+    Moduli { row, moduli }
+}
+
 // The moduli of a text, or the number of the first line that is turned back.
 pub fn read_moduli(text: &[u8]) -> Moduli
-    ensures { λ r. ⌜ (r .row ≡ textRow (now (text .entry))) × (r .row ≡ 0 → r .moduli ≡ moduliIn (now (text .entry))) ⌝ }
+    ensures { λ r. ⌜ r ≡ readOf (now (text .entry)) ⌝ }
 {
     let mut moduli = [0; 24];
     let mut at = 0;
@@ -167,17 +175,14 @@ pub fn read_moduli(text: &[u8]) -> Moduli
     while m < 24 {
         let entry = first_entry(&text[at..], m);
         if entry.row != 0 {
-            return Moduli {
-                row: entry.row,
-                moduli,
-            };
+            return refused(entry.row);
         }
         moduli[m] = entry.modulus;
         at += entry.length + 1;
         m += 1;
     }
     if at < text.len() {
-        return Moduli { row: 25, moduli };
+        return refused(25);
     }
     Moduli { row: 0, moduli }
 }

@@ -24,7 +24,7 @@ fn wide_word(image: &[u8], i: usize) -> usize
     requires { ⌜ (64 ≤ length (now image)) × (i < 8) ⌝ }
     ensures { λ r. ⌜ r ≡ wideWord (word (now (image .entry))) i ⌝ }
 {
-    if image_words::read_word(image, 3) == 2 {
+    if image_words::read_word(image, layout::LAYOUT_WORD) == 2 {
         return image_words::read_word(image, i) as usize;
     }
     0
@@ -35,10 +35,10 @@ fn sizes_from(image: &[u8]) -> Sizes
     requires { ⌜ 64 ≤ length (now image) ⌝ }
     ensures { λ r. ⌜ r ≡ sizesFrom (word (now (image .entry))) ⌝ }
 {
-    let pages = image_words::read_word(image, 0);
-    let slots = image_words::read_word(image, 1);
-    let places = image_words::read_word(image, 2);
-    let entries = wide_word(image, 7);
+    let pages = image_words::read_word(image, layout::PAGES_WORD);
+    let slots = image_words::read_word(image, layout::SLOTS_WORD);
+    let places = image_words::read_word(image, layout::PLACES_WORD);
+    let entries = wide_word(image, layout::ENTRIES_WORD);
     Sizes {
         pages: pages as usize,
         slots: slots as usize,
@@ -74,7 +74,7 @@ pub fn judge(image: &[u8]) -> Mounted
     if image.len() < 64 {
         return turned_back(1);
     }
-    let form = image_words::read_word(image, 3);
+    let form = image_words::read_word(image, layout::LAYOUT_WORD);
     if !((form == 1) | (form == 2)) {
         return turned_back(2);
     }
@@ -85,13 +85,13 @@ pub fn judge(image: &[u8]) -> Mounted
     if image.len() < layout::image_length(z) {
         return turned_back(4);
     }
-    let head = image_words::read_word(image, 4) as usize;
-    let tail = image_words::read_word(image, 5) as usize;
+    let head = image_words::read_word(image, layout::HEAD_WORD) as usize;
+    let tail = image_words::read_word(image, layout::TAIL_WORD) as usize;
     if !journal::records::positions_ok(z, head, tail) {
         return turned_back(5);
     }
     let n = journal::records::live_count(z, head, tail);
-    let count = wide_word(image, 6);
+    let count = wide_word(image, layout::COUNT_WORD);
     let keys = entries::read_keys(image, z, count);
     if !(journal::records::records_ok(image, z, tail, n) & entries::entries_ok(z, &keys, count)) {
         return turned_back(6);

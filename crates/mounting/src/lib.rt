@@ -20,9 +20,9 @@ fn quiet_state(z: Sizes, head: usize, tail: usize, table: Table) -> State
     let writers = Writers {
         opened: [false; 4],
         held: [0; 64],
-        prepared: 4,
+        prepared: state::NO_WRITER,
     };
-    let wide = settled::begun_wide(4);
+    let wide = settled::begun_wide(state::NO_WRITER);
     let pending = settled::no_pending();
     State {
         sizes: z,
@@ -49,7 +49,7 @@ fn copying_state(
 {
     let mut st = quiet_state(z, head, tail, table);
     let wide = Wide {
-        writer: 4,
+        writer: state::NO_WRITER,
         count: n,
         keys,
     };

@@ -60,7 +60,7 @@ pub fn recorded_count(z: Sizes, last: &[usize; 16]) -> usize
     let mut n = 0;
     let mut s = 0;
     while s < z.slots {
-        n += state::held::one_if(last[s] != 18446744073709551615);
+        n += state::held::one_if(last[s] != replay::NO_POSITION);
         s += 1;
     }
     n

@@ -136,7 +136,7 @@ fn run_commit<'a>(
     );
     let mut to = at;
     to.head = commits::complete_commit(z, at.head, bitmap, last, opened, held, writer);
-    to.prepared = 4;
+    to.prepared = state::NO_WRITER;
     let answer = Answer::Taken(stores);
     Went { answer, to }
 }
@@ -166,7 +166,7 @@ fn run_copy<'a>(
     wide_stores::make_copy_stores(image, z, page, original, spare, bitmap, n, keys, 0, stores);
     wide_stores::complete_copy(z, opened, held, keys, at.wide);
     let mut to = at;
-    to.wide = 4;
+    to.wide = state::NO_WRITER;
     to.count = 0;
     let answer = Answer::Taken(stores);
     Went { answer, to }

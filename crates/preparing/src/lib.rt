@@ -51,6 +51,6 @@ pub fn withdraw(st: State, image: &[u8], writer: usize) -> Done
     if row != 0 {
         return answers::refused(row, next);
     }
-    next.writers.prepared = 4;
+    next.writers.prepared = state::NO_WRITER;
     answers::taken(0, next)
 }

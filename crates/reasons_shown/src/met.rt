@@ -87,10 +87,7 @@ fn make(st: State, image: &[u8], row: &[usize; 4]) -> Done {
 
 // What a call met that was turned back with a number.
 fn met(st: State, number: usize, row: &[usize; 4]) -> Reason {
-    match row[0] {
-        wording::EVENT => refusals::event_met(st, number, row[1], row[2]),
-        _ => refusals::reason_met(st, row[0], number, row[1], row[2], row[3]),
-    }
+    refusals::reason_met(st, row[0], number, row[1], row[2], row[3], row[1], row[2])
 }
 
 // Writes the sentence of a call that was refused.

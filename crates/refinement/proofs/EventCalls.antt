@@ -115,14 +115,14 @@ module _ {past : List ℕ} (v : World) (b : Reference) (M : Moving past (v .st) 
   step-goes : Sounds past step v b
   unfolding exec stepOf stepBytes
   step-goes =
-      let r = answered-next (Between past) step v b (stepRow st img) 1 (stepped v .st) (stepped v .image) (inr M) (λ e. record { sizes = stepped-sizes v; related = one-step }) in
+      let r = answered-next (Between past) step v b (stepRow st img) _ (stepped v .st) (stepped v .image) (inr M) (λ e. record { sizes = stepped-sizes v; related = one-step }) in
       record { right = tt; sizes = r .sizes; between = r .related }
 
   run-goes : (k : ℕ) → Sounds past (run k) v b
   unfolding exec runOf runBytes
   run-goes k =
       let n : ℕ = min k (left st) in
-      let r = answered-next (Between past) (run k) v b (stepRow st img) n (steppedBy n v .st) (steppedBy n v .image) (inr M) (λ e. record { sizes = steppedBy-sizes n v; related = run-stores k }) in
+      let r = answered-next (Between past) (run k) v b (stepRow st img) _ (steppedBy n v .st) (steppedBy n v .image) (inr M) (λ e. record { sizes = steppedBy-sizes n v; related = run-stores k }) in
       record { right = tt; sizes = r .sizes; between = r .related }
 
   -- ---- every call

@@ -122,7 +122,7 @@ module _ (s : State) (k m f l : ℕ) (words : List ℕ) (R : Ready s k m f) (low
       sym (row-none (writeRows s 1 0 l 0 8 f)
       (rw (lt-leb (z .pages) 0 (omega (arith, legal .pages-low)), le-ltb 63 l (omega arith)), (rw (R .opened), (ne-eqb (s .writers .prepared) 1 (λ e. omega (arith, e, ltb-false (s .writers .prepared) 4 (R .none-prepared))), (free, (R .some-free, (R .frame-good, tt)))))))
 
-  pub asked-ok : stateOk asked ≡ true
+  asked-ok : stateOk asked ≡ true
   unfolding needs
   asked-ok = lines-valid s words _ f (Write 1 0 l 0 8) (R .ok) (ap not (unwide s 1 (R .none-wide) (omega arith))) write-row (omega arith)
 
@@ -309,12 +309,6 @@ module _ (st : State) (k m a : ℕ) (e : stateOk st ≡ true) (full : Sixteen (s
 
   pub lines-wrote : Wrote (linesDone st k m) k m f
   lines-wrote = row-keeps (λ (s : State). Wrote s k m f) (movesCredit k) (secondDone st k m) (firstDone st k m) second-wrote first-wrote
-
-  pub first-asked-ok : stateOk (firstAsked st k m) ≡ true
-  first-asked-ok = asked-ok (withOpen st 1) k m f (firstMeter k m) (st .pending .line) event-begun first-line (event-begun .first-free)
-
-  pub second-asked-ok : stateOk (secondAsked st k m) ≡ true
-  second-asked-ok = asked-ok (firstDone st k m) k m f (ownMeter k m) (st .pending .second) (first-wrote .ready) own-line (first-wrote .ready .own-free)
 
   -- the second line goes to the frame that it would have gone to before the first
   own-slot : writeSlot (secondAsked st k m) 0 ≡ slotFor (firstDone st k m) 0

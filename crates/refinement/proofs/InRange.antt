@@ -2,12 +2,14 @@
 use Prim.Native.Nat.{ℕ, _+_, _-_, _*_, _/_, _%_, _<_, _≤_}
 use mathlib.Core.Bool.{Bool, true, false, not, _&&_, _||_}
 use mathlib.Core.List.{List}
-use mathlib.Core.Path.{_≡_, refl, subst}
+use mathlib.Core.Logic.{⊎-elim}
+use mathlib.Core.Path.{_≡_, refl, sym, subst}
 use native.Mathlib.Nat.{mod-lt}
 use native.Mathlib.Omega.{arith}
 use lib.Dec.{ltb, leb, eqb}
-use lib.ListN.{length, getD}
-use borrow.Author.Tests.{eqb-false, ltb-true, ltb-false, leb-false}
+use lib.ListN.{length, getD, set, length-set, List·getD-eq-default}
+use lib.Seq.{getD-set-same}
+use borrow.Author.Tests.{eqb-true, eqb-false, ltb-true, ltb-false, leb-false}
 use Rattle.bounded.specs.Rows.{refusal}
 use Rattle.bounded.proofs.Tests.{caseOn, row-keeps, and-right}
 use Rattle.bounded.proofs.Those.{chosen, length-those}
@@ -18,32 +20,36 @@ use Rattle.words.specs.Words.{word}
 use Rattle.entries.specs.Entries.{keyOf, keyPage, keyLine}
 use Rattle.entries.proofs.EntryLaws.{entry-le}
 use Rattle.journal.specs.Records.{position}
-use Rattle.replay.specs.Table.{noPosition, slotIn}
-use Rattle.replay.proofs.Tables.{Sixteen}
+use Rattle.journal.specs.declared.Slot.{Slot}
+use Rattle.journal.specs.Slots.{shaped}
+use Rattle.journal.proofs.SlotWords.{Owning, Free, shape}
+use Rattle.replay.specs.declared.Table.{Table}
+use Rattle.replay.specs.Table.{noPosition, slotIn, withSlot}
+use Rattle.replay.proofs.Tables.{slot-other}
+use Rattle.masks.proofs.Members.{in-none}
 use Rattle.state.specs.declared.State.{State}
 use Rattle.state.specs.declared.Op.{Op}
 use Rattle.state.specs.declared.Op.the-variants.{Idle, Write, Commit, Consolidate, Checkpoint, Event, Prepare, Confirm, Log, Copy}
 use Rattle.state.specs.Wide.{entryFor, hasEntry}
-use Rattle.operations.specs.Operations.{isIdle, opRows, needs, recordedSlots}
+use Rattle.state.specs.Slots.{freeAfter}
+use Rattle.operations.specs.Operations.{isIdle, slotFor, slotted, opRows, needs, recordedSlots}
 use Rattle.validity.specs.Validity.{stateOk}
-use Rattle.operations.proofs.Taken.{write-taken, consolidate-taken, log-taken, EventTaken, event-taken}
+use Rattle.validity.proofs.Ranged.{slots-good}
+use Rattle.operations.proofs.Taken.{write-taken, consolidate-taken, log-taken, event-taken}
 use Rattle.refinement.specs.Frames.{otherFrame, pageSlot, frameOf}
 use Rattle.refinement.specs.Wide.{logAt, copiedFrame, copyAt, copyAtOf}
 use Rattle.refinement.specs.Stores.{storeAt}
-use Rattle.refinement.specs.Write.{writeSlot, writeAt}
+use Rattle.refinement.specs.Write.{writeSlot, writeAt, writeTable}
 use Rattle.refinement.specs.Commit.{commitSlots, commitAt, commitAtOf}
 use Rattle.refinement.specs.Consolidate.{isFew, copyTo, copyLines, copyStoreCount, consolidateAt}
 use Rattle.refinement.specs.Checkpoint.{checkpointSlot, checkpointAt, checkpointAtOf}
-use Rattle.meters.specs.Meters.{movesCredit, firstMeter, ownMeter}
+use Rattle.meters.specs.Meters.{eventKnown, movesCredit, firstMeter, ownMeter}
 use Rattle.meters.proofs.MeterLaws.{first-low, own-range}
-use Rattle.refinement.specs.Settled.{withOpen}
-use Rattle.refinement.specs.Event.{firstAsked, firstDone, secondAsked, linesDone, lineStores, eventAt}
-use Rattle.refinement.proofs.EventReady.{write-row, event-begun, first-wrote, lines-wrote, first-asked-ok, second-asked-ok}
-use Rattle.refinement.proofs.EventRows.{first-sizes, lines-sizes}
-use Rattle.refinement.proofs.StateValid.{valid}
+use Rattle.refinement.specs.Event.{firstAsked, lineDone, secondAsked, linesDone, lineStores, eventAt}
+use Rattle.refinement.proofs.EventRows.{lines-sizes}
+use Rattle.refinement.proofs.SeenFrames.{page-slot-owning}
+use Rattle.refinement.proofs.StateValid.{parts, valid}
 use Rattle.refinement.proofs.Pending.{pends}
-use Rattle.refinement.proofs.WriteValid.{target}
-use Rattle.refinement.proofs.ConsolidateValid.{slot-owns}
 pub use Rattle.refinement.proofs.SeenFrames.{other-low}
 pub use Rattle.refinement.proofs.ConsolidatePlaces.{copy-line}
 
@@ -67,55 +73,91 @@ module _ (z : Sizes) (g : Legal z) where
 
 -- ---- the operations
 
+module _ (z : Sizes) (g : Legal z) where
+  -- in each slot the frame that is not the committed one is a frame
+  abbrev OthersLow : Table → Type 0
+  OthersLow t = (s l : ℕ) → s < z .slots → otherFrame (slotIn t s) l < frames z
+
+  -- an element replaced, inside the list or past it
+  at-set : (P : ℕ → Type 0) (l : List ℕ) (s x : ℕ) → P x → P 0 → P (getD (set l s x) s 0)
+  at-set P l s x h o =
+      caseOn (ltb s (length l))
+      (λ t. rw (getD-set-same l s x 0 (ltb-true s (length l) t)) h)
+      (λ t.
+      let q : getD (set l s x) s 0 ≡ 0 = List·getD-eq-default (set l s x) 0 (omega (arith, length-set l s x, ltb-false s (length l) t)) in
+      rw q o)
+
+  -- with a slot taken, in which no line is in the spare
+  others-taken : (t : Table) (s p f x : ℕ) → OthersLow t → x < frames z → OthersLow (withSlot t s (record { page = p; original = f; spare = x; bitmap = 0 }))
+  others-taken t s p f x low h u l m =
+      let v : Slot = record { page = p; original = f; spare = x; bitmap = 0 } in
+      caseOn (eqb u s)
+      (λ q.
+      let none : getD (set (t .bitmap) s 0) s 0 ≡ 0 = at-set (λ b. b ≡ 0) (t .bitmap) s 0 refl refl in
+      rw (eqb-true u s q, none, in-none l) (at-set (λ y. y < frames z) (t .spare) s x h (omega (arith, g .slots-low))))
+      (λ q. subst (λ (y : Slot). otherFrame y l < frames z) (sym (slot-other t s v u (eqb-false u s q))) (low u l m))
+
+  spare-in : (t : Slot) → shaped z t ≡ true → t .spare < frames z
+  spare-in t e = ⊎-elim (λ (o : Owning z t). o .spare-low) (λ (f : Free z t). f .spare-low) (shape z t e)
+
+-- a write goes to a slot, whatever the state
+write-slot-in : (st : State) (p : ℕ) → Legal (st .sizes) → writeSlot st p < st .sizes .slots
+unfolding writeSlot
+write-slot-in st p g =
+    let z = st .sizes in
+    caseOn (slotted st p)
+    (λ y. rw y (ltb-true (slotFor st p) (z .slots) y))
+    (λ y. rw y (mod-lt (st .next + freeAfter z (st .table .page) (st .next)) (omega (arith, g .slots-low))))
+
+write-in : (st : State) (g : Legal (st .sizes)) → OthersLow (st .sizes) g (st .table) → (p l i : ℕ) → l < 64 → i < 8 → writeAt st p l i < entryWord (st .sizes) 0
+write-in st g low p l i m k =
+    line-in (st .sizes) g (otherFrame (slotIn (st .table) (writeSlot st p)) l) l i (low (writeSlot st p) l (write-slot-in st p g)) m k
+
+commit-in : (st : State) → Legal (st .sizes) → (w i : ℕ) → commitAt st w i < entryWord (st .sizes) 0
+unfolding commitAtOf
+commit-in st g w i =
+    let z = st .sizes in
+    row-keeps (λ (x : ℕ). x < entryWord z 0) (ltb i (4 * length (commitSlots st w))) (recordWord z (position z (st .head) (i / 4)) + i % 4) headWord
+    (record-in z g (position z (st .head) (i / 4)) (i % 4) (omega arith)) (header-in z g headWord (omega arith))
+
 module _ (st : State) (e : stateOk st ≡ true) where
   abbrev z : Sizes
   z = st .sizes
 
-  write-in : Sixteen (st .table) → (w p l o n i : ℕ) → refusal (opRows st (Write w p l o n) (st .pending .frame)) ≡ 0 → i < 8 → writeAt st p l i < entryWord z 0
-  write-in full w p l o n i r m =
-      let v = valid st e in
-      let h = write-taken st w p l o n (st .pending .frame) r in
-      let low = target st w p l o n e full h .slot-low in
-      line-in z (v .legal) (otherFrame (slotIn (st .table) (writeSlot st p)) l) l i
-      (other-low z (slotIn (st .table) (writeSlot st p)) l (v .slots .shapes (writeSlot st p) low)) (h .args .line-low) m
+  legal : Legal z
+  legal = valid st e .legal
 
-  commit-in : (w i : ℕ) → commitAt st w i < entryWord z 0
-  unfolding commitAtOf
-  commit-in w i =
-      let v = valid st e in
-      row-keeps (λ (x : ℕ). x < entryWord z 0) (ltb i (4 * length (commitSlots st w))) (recordWord z (position z (st .head) (i / 4)) + i % 4) headWord
-      (record-in z (v .legal) (position z (st .head) (i / 4)) (i % 4) (omega arith)) (header-in z (v .legal) headWord (omega arith))
+  others-low : OthersLow z legal (st .table)
+  others-low s l m = other-low z (slotIn (st .table) s) l (valid st e .slots .shapes s m)
 
-  pub consolidate-in : Sixteen (st .table) → (p i : ℕ) → refusal (opRows st (Consolidate p) (st .pending .frame)) ≡ 0 → consolidateAt st p i < entryWord z 0
+  pub consolidate-in : (p i : ℕ) → refusal (opRows st (Consolidate p) (st .pending .frame)) ≡ 0 → consolidateAt st p i < entryWord z 0
   unfolding consolidateAt
-  consolidate-in full p i r =
-      let v = valid st e in
+  consolidate-in p i r =
       let h = consolidate-taken st p r in
       let t = pageSlot st p in
       let c = copyStoreCount t in
-      let o = slot-owns st p e full h in
+      let o = page-slot-owning st p legal (h .page-low) (h .has-slot) (slots-good z (st .head) (st .tail) (st .table) (parts st e .slots) .shapes) in
       caseOn (ltb i c)
       (λ a.
       let m : i < c = ltb-true i c a in
       rw a
-      (line-in z (v .legal) (copyTo t) (getD (copyLines t) (i / 8) 64) (i % 8)
+      (line-in z legal (copyTo t) (getD (copyLines t) (i / 8) 64) (i % 8)
       (row-keeps (λ (x : ℕ). x < frames z) (isFew t) (t .original) (t .spare) (o .original-low) (o .spare-low)) (copy-line t (i / 8) (omega arith)) (omega arith)))
       (λ a.
       let m : c ≤ i = ltb-false i c a in
       caseOn (eqb i c)
-      (λ b. rw (a, b) (page-in z (v .legal) p (h .page-low)))
+      (λ b. rw (a, b) (page-in z legal p (h .page-low)))
       (λ b.
       let n : i ≡ c → ⊥ = eqb-false i c b in
       caseOn (ltb i (c + 5))
       (λ d.
       let k : i < c + 5 = ltb-true i (c + 5) d in
-      rw (a, b, d) (record-in z (v .legal) (st .head) (i - (c + 1)) (omega arith)))
-      (λ d. rw (a, b, d) (header-in z (v .legal) headWord (omega arith)))))
+      rw (a, b, d) (record-in z legal (st .head) (i - (c + 1)) (omega arith)))
+      (λ d. rw (a, b, d) (header-in z legal headWord (omega arith)))))
 
   pub checkpoint-in : (i : ℕ) → checkpointAt st i < entryWord z 0
   unfolding checkpointAtOf recordedSlots
   checkpoint-in i =
-      let v = valid st e in
       let test : ℕ → Bool = λ s. not (eqb (getD (st .table .last) s 0) noPosition) in
       let n = length (recordedSlots z (st .table .last)) in
       caseOn (ltb i (3 * n))
@@ -123,43 +165,32 @@ module _ (st : State) (e : stateOk st ≡ true) where
       let m : i < 3 * n = ltb-true i (3 * n) a in
       let low : i / 3 < length (recordedSlots z (st .table .last)) = omega arith in
       let c = chosen test (z .slots) (i / 3) 0 (omega (arith, low, length-those test (z .slots))) in
-      rw a (slot-in z (v .legal) (checkpointSlot st i) (i % 3) (c .below) (omega arith)))
-      (λ a. rw a (header-in z (v .legal) tailWord (omega arith)))
+      rw a (slot-in z legal (checkpointSlot st i) (i % 3) (c .below) (omega arith)))
+      (λ a. rw a (header-in z legal tailWord (omega arith)))
 
--- an event's are those of its writes and its commit
-module _ (st : State) (k m a : ℕ) (e : stateOk st ≡ true) (full : Sixteen (st .table)) (lines : length (st .writers .held) ≡ 64)
-    (four : length (st .writers .opened) ≡ 4) (r : refusal (opRows st (Event k m a) (st .pending .frame)) ≡ 0) where
-  abbrev f : ℕ
-  f = st .pending .frame
-
-  E : EventTaken st k m f
-  E = event-taken st k m a f r
-
-  abbrev Inside : ℕ → Type 0
-  Inside x = x < entryWord (st .sizes) 0
-
-  event-in : (i : ℕ) → eventAt st k m i < entryWord (st .sizes) 0
-  unfolding eventAt
-  event-in i =
-      let R = event-begun st k m a e full lines four E in
-      let W = first-wrote st k m a e full lines four E in
-      let L = lines-wrote st k m a e full lines four E in
-      let one : ltb i 8 ≡ true → Inside (writeAt (firstAsked st k m) 0 (firstMeter k m) i) =
-      λ t.
-      write-in (firstAsked st k m) (first-asked-ok st k m a e full lines four E) full 1 0 (firstMeter k m) 0 8 i
-      (write-row (withOpen st 1) k m f (firstMeter k m) (st .pending .line) R (omega (arith, first-low k m (E .known))) (R .first-free)) (ltb-true i 8 t) in
-      let two : ltb i 8 ≡ false → movesCredit k && ltb i 16 ≡ true → Inside (writeAt (secondAsked st k m) 0 (ownMeter k m) (i - 8)) =
-      λ s t.
-      subst (λ (z : Sizes). writeAt (secondAsked st k m) 0 (ownMeter k m) (i - 8) < entryWord z 0) (first-sizes st k m)
-      (write-in (secondAsked st k m) (second-asked-ok st k m a e full lines four E) (W .ready .full) 1 0 (ownMeter k m) 0 8 (i - 8)
-      (write-row (firstDone st k m) k m f (ownMeter k m) (st .pending .second) (W .ready) (omega (arith, own-range k m (E .known) .1)) (W .ready .own-free))
-      (omega (arith, ltb-false i 8 s, ltb-true i 16 (and-right (movesCredit k) (ltb i 16) t)))) in
-      let three : Inside (commitAt (linesDone st k m) 1 (i - lineStores k)) =
-      subst (λ (z : Sizes). commitAt (linesDone st k m) 1 (i - lineStores k) < entryWord z 0) (lines-sizes st k m)
-      (commit-in (linesDone st k m) (L .ready .ok) 1 (i - lineStores k)) in
+  -- an event's are those of its writes and its commit
+  event-in : (k m i : ℕ) → eventKnown k m ≡ true → eventAt st k m i < entryWord z 0
+  unfolding eventAt lineDone
+  event-in k m i known =
+      let first : State = firstAsked st k m in
+      let s : ℕ = writeSlot first 0 in
+      let x : ℕ = slotIn (st .table) s .spare in
+      let spare : x < frames z = spare-in z legal (slotIn (st .table) s) (valid st e .slots .shapes s (write-slot-in first 0 legal)) in
+      let second : OthersLow z legal (writeTable first 0) =
+      row-keeps (OthersLow z legal) (slotted first 0) (st .table) (withSlot (st .table) s (record { page = 0; original = st .pending .frame; spare = x; bitmap = 0 })) others-low
+      (others-taken z legal (st .table) s 0 (st .pending .frame) x others-low spare) in
       caseOn (ltb i 8)
-      (λ t. rw t (one t))
-      (λ t. caseOn (movesCredit k && ltb i 16) (λ u. rw (t, u) (two t u)) (λ u. rw (t, u) three))
+      (λ t. rw t (write-in first legal others-low 0 (firstMeter k m) i (omega (arith, first-low k m known)) (ltb-true i 8 t)))
+      (λ t.
+      caseOn (movesCredit k && ltb i 16)
+      (λ u.
+      rw (t, u)
+      (write-in (secondAsked st k m) legal second 0 (ownMeter k m) (i - 8) (omega (arith, own-range k m known .1))
+      (omega (arith, ltb-false i 8 t, ltb-true i 16 (and-right (movesCredit k) (ltb i 16) u)))))
+      (λ u.
+      rw (t, u)
+      (subst (λ (y : Sizes). commitAt (linesDone st k m) 1 (i - lineStores k) < entryWord y 0) (lines-sizes st k m)
+      (commit-in (linesDone st k m) (subst Legal (sym (lines-sizes st k m)) legal) 1 (i - lineStores k)))))
 
 -- a wide write's lie in an entry, a wide commit's in the header and in frames
 module _ (st : State) (e : stateOk st ≡ true) where
@@ -193,21 +224,22 @@ in-image z a l = omega arith
 
 module _ (st : State) (e : stateOk st ≡ true) where
   -- store i of an operation that needs more than i
-  pub op-in-range : Sixteen (st .table) → length (st .writers .held) ≡ 64 → length (st .writers .opened) ≡ 4 → (op : Op) → refusal (opRows st op (st .pending .frame)) ≡ 0 → (img : List ℕ) (i : ℕ) → i < needs st op → storeAt st img op i < imageWords (st .sizes)
+  pub op-in-range : (op : Op) → refusal (opRows st op (st .pending .frame)) ≡ 0 → (img : List ℕ) (i : ℕ) → i < needs st op → storeAt st img op i < imageWords (st .sizes)
   unfolding needs
-  op-in-range full lines four Idle r img i l = absurd (omega arith)
-  op-in-range full lines four (Write w p l o n) r img i m = in-image (st .sizes) _ (write-in st e full w p l o n i r m)
-  op-in-range full lines four (Commit w) r img i l = in-image (st .sizes) _ (commit-in st e w i)
-  op-in-range full lines four (Consolidate p) r img i l = in-image (st .sizes) _ (consolidate-in st e full p i r)
-  op-in-range full lines four Checkpoint r img i l = in-image (st .sizes) _ (checkpoint-in st e i)
-  op-in-range full lines four (Event k m a) r img i l = in-image (st .sizes) _ (event-in st k m a e full lines four r i)
-  op-in-range full lines four (Prepare w) r img i l = in-image (st .sizes) _ (commit-in st e w i)
-  op-in-range full lines four (Confirm w) r img i l = in-image (st .sizes) _ (header-in (st .sizes) (valid st e .legal) headWord (omega arith))
-  op-in-range full lines four (Log p l o n) r img i m = log-in st e p l o n i r m
-  op-in-range full lines four Copy r img i l = in-image (st .sizes) _ (copy-in st e img i)
+  op-in-range Idle r img i l = absurd (omega arith)
+  op-in-range (Write w p l o n) r img i m =
+      in-image (st .sizes) _ (write-in st (legal st e) (others-low st e) p l i (write-taken st w p l o n (st .pending .frame) r .args .line-low) m)
+  op-in-range (Commit w) r img i l = in-image (st .sizes) _ (commit-in st (legal st e) w i)
+  op-in-range (Consolidate p) r img i l = in-image (st .sizes) _ (consolidate-in st e p i r)
+  op-in-range Checkpoint r img i l = in-image (st .sizes) _ (checkpoint-in st e i)
+  op-in-range (Event k m a) r img i l = in-image (st .sizes) _ (event-in st e k m i (event-taken st k m a (st .pending .frame) r .known))
+  op-in-range (Prepare w) r img i l = in-image (st .sizes) _ (commit-in st (legal st e) w i)
+  op-in-range (Confirm w) r img i l = in-image (st .sizes) _ (header-in (st .sizes) (legal st e) headWord (omega arith))
+  op-in-range (Log p l o n) r img i m = log-in st e p l o n i r m
+  op-in-range Copy r img i l = in-image (st .sizes) _ (copy-in st e img i)
 
   -- store i of the pending operation: its eight bytes, on a word, lie inside the image
-  pub store-in-range : Sixteen (st .table) → length (st .writers .held) ≡ 64 → length (st .writers .opened) ≡ 4 → isIdle (st .pending .op) ≡ false → (img : List ℕ) (i : ℕ) → i < needs st (st .pending .op) → 8 * storeAt st img (st .pending .op) i + 8 ≤ imageLength (st .sizes)
-  store-in-range full lines four d img i l =
-      let a : storeAt st img (st .pending .op) i < imageWords (st .sizes) = op-in-range full lines four (st .pending .op) (pends st (st .pending .op) e refl d .taken) img i l in
+  pub store-in-range : isIdle (st .pending .op) ≡ false → (img : List ℕ) (i : ℕ) → i < needs st (st .pending .op) → 8 * storeAt st img (st .pending .op) i + 8 ≤ imageLength (st .sizes)
+  store-in-range d img i l =
+      let a : storeAt st img (st .pending .op) i < imageWords (st .sizes) = op-in-range (st .pending .op) (pends st (st .pending .op) e refl d .taken) img i l in
       omega arith

@@ -143,6 +143,9 @@ pub mod FixedEvent
 pub mod CommitWhole
 pub mod CheckpointRoom
 pub mod Refused
+pub mod PastUntouched
+pub mod Reports
 pub mod Demand
+pub mod Witness
 pub mod FreedSlot
 pub mod AsBefore

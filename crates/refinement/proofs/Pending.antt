@@ -3,6 +3,7 @@
 use Prim.Native.Nat.{ℕ, _<_}
 use mathlib.Core.Bool.{Bool, true, false, _&&_, _||_}
 use mathlib.Core.Path.{_≡_, refl, sym, ap, _∙_}
+use native.Mathlib.Omega.{arith}
 use lib.Dec.{ltb, eqb}
 use borrow.Author.Tests.{eqb-true, ltb-true, lt-ltb, eq-eqb}
 use Rattle.bounded.specs.Rows.{refusal}
@@ -14,6 +15,20 @@ use Rattle.operations.specs.Operations.{isIdle, opRows, needs}
 use Rattle.validity.specs.Validity.{opFits, pendingOk, stateOk}
 use Rattle.refinement.specs.Stores.{withMade}
 use Rattle.refinement.proofs.StateValid.{valid, valid-ok}
+
+-- what needs a store is pending
+pub needing : (st : State) (op : Op) (i : ℕ) → i < needs st op → isIdle op ≡ false
+unfolding needs
+needing st Idle i l = absurd (omega arith)
+needing st (Write w p m o n) i l = refl
+needing st (Commit w) i l = refl
+needing st (Consolidate p) i l = refl
+needing st Checkpoint i l = refl
+needing st (Event k m a) i l = refl
+needing st (Prepare w) i l = refl
+needing st (Confirm w) i l = refl
+needing st (Log p m o n) i l = refl
+needing st Copy i l = refl
 
 -- nothing is pending
 pub idle-ok : (st : State) → isIdle (st .pending .op) ≡ true → pendingOk st ≡ true

@@ -75,7 +75,7 @@ module _ (st : State) where
 
   -- its stores go before the entries
   below : (op : Op) → Beside op → st .pending .op ≡ op → stateOk st ≡ true → Sixteen (st .table) → (img : List ℕ) (i : ℕ) → storeAt st img op i < entryWord (st .sizes) 0
-  below (Consolidate p) s e ok full img i = consolidate-in st ok full p i (pends st (Consolidate p) ok e refl .taken)
+  below (Consolidate p) s e ok full img i = consolidate-in st ok p i (pends st (Consolidate p) ok e refl .taken)
   below Checkpoint s e ok full img i = checkpoint-in st ok i
 
   -- what the reference machine has under way for it does nothing

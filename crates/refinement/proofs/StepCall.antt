@@ -143,7 +143,7 @@ step-sound {past = past} v b h =
     let st = v .st in
     let img = v .image in
     let a =
-    answered-next (Related _) step v b (stepRow st img) 1 (stepped (worldOf st img) .st) (stepped (worldOf st img) .image) h
+    answered-next (Related _) step v b (stepRow st img) _ (stepped (worldOf st img) .st) (stepped (worldOf st img) .image) h
     (λ e.
     let rows = none-apply (stepRows st img) (omega arith) e in
     record { sizes = stepped-sizes (worldOf st img); related = one-store past st img b (is-busy st img b h (rows .1 .1 .0)) }) in
@@ -167,7 +167,7 @@ run-sound {past = past} k v b h =
     let img = v .image in
     let n : ℕ = min k (left st) in
     let a =
-    answered-next (Related _) (run k) v b (stepRow st img) n (steppedBy n (worldOf st img) .st) (steppedBy n (worldOf st img) .image) h
+    answered-next (Related _) (run k) v b (stepRow st img) _ (steppedBy n (worldOf st img) .st) (steppedBy n (worldOf st img) .image) h
     (λ e.
     let rows = none-apply (stepRows st img) (omega arith) e in
     record { sizes = steppedBy-sizes n (worldOf st img); related = run-related k v b (is-busy st img b h (rows .1 .1 .0)) }) in

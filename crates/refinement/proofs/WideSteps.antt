@@ -28,7 +28,7 @@ module _ {past : List ℕ} (v : World) (b : Reference) (h : Wider past v b) wher
   unfolding exec stepOf stepBytes
   wide-step =
       let r =
-      answered-next (Invariant _) step v b (stepRow (v .st) (v .image)) 1 (stepped v .st) (stepped v .image) (wider-case h)
+      answered-next (Invariant _) step v b (stepRow (v .st) (v .image)) _ (stepped v .st) (stepped v .image) (wider-case h)
       (λ e. record { sizes = stepped-sizes v; related = wider-case (one-wider v b h (none-apply (stepRows (v .st) (v .image)) (omega arith) e .1 .1 .0)) }) in
       record { right = tt; sizes = r .sizes; related = r .related }
 
@@ -44,6 +44,6 @@ module _ {past : List ℕ} (v : World) (b : Reference) (h : Wider past v b) wher
   wide-run ok k =
       let n : ℕ = min k (left (v .st)) in
       let r =
-      answered-next (Invariant _) (run k) v b (stepRow (v .st) (v .image)) n (steppedBy n v .st) (steppedBy n v .image) (wider-case h)
+      answered-next (Invariant _) (run k) v b (stepRow (v .st) (v .image)) _ (steppedBy n v .st) (steppedBy n v .image) (wider-case h)
       (λ e. record { sizes = steppedBy-sizes n v; related = runs k ok (none-apply (stepRows (v .st) (v .image)) (omega arith) e .1 .1 .0) }) in
       record { right = tt; sizes = r .sizes; related = r .related }

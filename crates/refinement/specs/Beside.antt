@@ -18,7 +18,7 @@ use Rattle.operations.specs.Operations.{needs}
 use Rattle.refinement.specs.Stores.{World, storeAt, left}
 use Rattle.state.specs.Wide.{isWide}
 use Rattle.refinement.specs.Wide.{isCopy, shownLine}
-use Rattle.refinement.specs.Run.{Call, mount, checkpoint, step, commit, prepare, confirm, run, exec, formattedWorld, after}
+use Rattle.refinement.specs.Run.{Call, mount, checkpoint, step, commit, confirm, run, exec, formattedWorld, after}
 use Rattle.refinement.specs.Reference.{Reference, blank, turn, readLine, recallLine}
 use Rattle.refinement.specs.Statement.{AllLent}
 
@@ -113,11 +113,11 @@ CommitWhole = Always (λ z buffer v b. WholeOrAbsent z v b)
 
 -- ---- a checkpoint makes room
 
--- no commit and no prepare is answered 19
+-- the journal lacks space for no call: whatever call comes next, a commit, a prepare, an event, a consolidation or a freeing, it is not answered 19
 abbrev pub HasRoom : World → Type 0
-HasRoom v = (w : ℕ) → (exec (commit w) v .number ≡ 19 → ⊥) × (exec (prepare w) v .number ≡ 19 → ⊥)
+HasRoom v = (c : Call) → exec c v .number ≡ 19 → ⊥
 
--- none is, right after a checkpoint is completed: by the call that asks for one that needs no store, and, where one is under way, by the
+-- so it is right after a checkpoint is completed: by the call that asks for one that needs no store, and, where one is under way, by the
 -- step or the run that makes the last of its stores
 pub record MakesRoom (v : World) : Type 0 where
   pub at-once : exec checkpoint v .number ≡ 0 → exec checkpoint v .stores ≡ 0 → HasRoom (exec checkpoint v .world)

@@ -13,6 +13,7 @@ use Rattle.refinement.specs.Reference.{Reference, recallLine}
 use Rattle.refinement.specs.Statement.{Right, Lent}
 use Rattle.refinement.specs.Beside.{Always, Finds, ReadsBack, WholeOrAbsent, MakesRoom, broken}
 use Rattle.refinement.specs.Refused.{Unchanged, targetOf}
+use Rattle.refinement.specs.Reports.{Reports}
 
 pub record Demand (z : Sizes) (buffer : List ℕ) (v : World) (b : Reference) : Type 0 where
   -- whatever call comes next: a taken read or recall gives the reference machine's 64 bytes, a mount is taken, a recall is refused by row 11 alone
@@ -21,9 +22,11 @@ pub record Demand (z : Sizes) (buffer : List ℕ) (v : World) (b : Reference) : 
   pub sound : (c : Call) → broken (exec c v .number) ≡ false
   -- a refused one changes no state and no byte
   pub refused : (c : Call) → (exec c v .number ≡ 0 → ⊥) → Unchanged (exec c v) v (targetOf c)
+  -- a taken one reports its stores: step and run those that they made, a call that asks for an operation those that it needs
+  pub reports : (c : Call) → exec c v .number ≡ 0 → Reports c (exec c v) v
   -- a commit and a confirm are whole or absent, wherever in them power fails
   pub whole : WholeOrAbsent z v b
-  -- right after a checkpoint no commit and no prepare lacks journal space
+  -- right after a checkpoint no call lacks journal space
   pub room : MakesRoom v
   -- a mount finds the reference machine's pages, and reads back the state's committed pages, committed slots and journal
   pub finds : Finds z v (recallLine b)

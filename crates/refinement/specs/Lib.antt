@@ -17,8 +17,10 @@ pub mod Reference
 pub mod Statement
 pub mod Beside
 pub mod Refused
+pub mod Reports
 pub mod Demand
 pub mod Freed
 pub mod Before
 pub mod Totals
 pub mod FixedEvent
+pub mod Witness

@@ -1,8 +1,11 @@
--- A refused call changes no state and no byte: on any state and any bytes, whatever the number (demand 1).
+-- On any state and any bytes: a refused call changes no state and no byte, whatever the number (demand 1), and no call touches a byte past the image.
 use Prim.Native.Nat.{ℕ}
 use mathlib.Core.List.{List, []}
 use mathlib.Core.Path.{_≡_}
-use lib.ListN.{replicate}
+use lib.ListN.{length, drop, replicate}
+use Rattle.layout.specs.declared.Sizes.{Sizes}
+use Rattle.layout.specs.Layout.{imageLength}
+use Rattle.fresh.specs.Fresh.{formatBytes}
 use Rattle.refinement.specs.Stores.{World}
 use Rattle.refinement.specs.Run.{Call, Result, mount, checkpoint, free, step, begin, beginWide, abort, commit, prepare, confirm, withdraw, consolidate, run, write, read, recall, event, load, exec}
 
@@ -35,3 +38,14 @@ pub record Unchanged (d : Result) (v : World) (target : List ℕ) : Type 0 where
 
 abbrev pub RefusedUnchanged : Type 0
 RefusedUnchanged = (c : Call) (v : World) → (exec c v .number ≡ 0 → ⊥) → Unchanged (exec c v) v (targetOf c)
+
+-- ---- no call touches a byte past the image (document 01, below the table), and the buffer stays as long as it was
+
+-- n being where the image ends
+pub record SamePast (n : ℕ) (img after : List ℕ) : Type 0 where
+  pub past : drop n after ≡ drop n img
+  pub as-long : length after ≡ length img
+
+pub record PastUntouched : Type 0 where
+  pub format : (z : Sizes) (buffer : List ℕ) → SamePast (imageLength z) buffer (formatBytes z buffer)
+  pub call : (c : Call) (v : World) → SamePast (imageLength (v .st .sizes)) (v .image) (exec c v .world .image)

@@ -1,5 +1,5 @@
 -- What a refused call met can be composed, and so reads back as it is (`reads-back` of reason_reading).
-use mathlib.Core.Path.{_≡_, refl}
+use mathlib.Core.Path.{_≡_}
 use mathlib.Core.Bool.{Bool, true, false, cond, _&&_}
 use Prim.Native.Nat.{ℕ, _^_, _<_, _≤_}
 use native.Mathlib.Omega.{arith}
@@ -10,7 +10,7 @@ use Rattle.state.specs.declared.State.{State}
 use Rattle.meters.specs.Meters.{firstMeter, ownMeter}
 use Rattle.wording.specs.Calls.{event, canReturn, takesWriter, takesPage, takesLine, meetsWriter, oneOf, oneMore}
 use Rattle.reason_reading.specs.Reading.{Composable}
-use Rattle.refusals.specs.Met.{holdsLine, holdsSlot, slotMet, lineHolder, pageHolder, eventHolder, holderMet, reasonMet, eventMet}
+use Rattle.refusals.specs.Met.{holdsLine, holdsSlot, slotMet, lineHolder, pageHolder, eventHolder, holderMet, reasonMet}
 
 none : (has : Bool) (v : ℕ) → has ≡ false → cond has v 0 ≡ 0
 none has v e = rw e
@@ -29,52 +29,34 @@ line-le st w p l =
     let s = slotMet (st .sizes) (st .table .page) p in
     at-most (ltb s 16 && leb l 63) _ (first-le (holdsLine (st .writers .held) w s l) 4)
 
-holder-le : (st : State) (n w p l : ℕ) → holderMet st n w p l ≤ 4
-unfolding holderMet pageHolder
-holder-le st n w p l =
-    let s = slotMet (st .sizes) (st .table .page) p in
-    row-keeps (λ (v : ℕ). v ≤ 4) (eqb n 14) _ _
-    (line-le st w p l)
-    (row-keeps (λ (v : ℕ). v ≤ 4) (eqb n 18) _ 0 (at-most (ltb s 16) _ (first-le (holdsSlot (st .writers .held) s) 4)) (omega arith))
-
-no-holder : (st : State) (n w p l : ℕ) → meetsWriter n ≡ false → holderMet st n w p l ≡ 0
-unfolding holderMet meetsWriter oneOf oneMore
-no-holder st n w p l e = rw (or-left (eqb n 14) (eqb n 18) e, or-right (eqb n 14) (eqb n 18) e)
-
-pub met-composable : (st : State) (c n w p l : ℕ) → canReturn c n ≡ true → w < 2 ^ 64 → p < 2 ^ 64 → l < 2 ^ 64 → Composable (reasonMet st c n w p l)
-unfolding reasonMet
-met-composable st c n w p l e a b d =
-    record {
-      returns = e;
-      no-writer = none (takesWriter c) w;
-      no-page = none (takesPage c) p;
-      no-line = none (takesLine c) l;
-      no-holder = no-holder st n w p l;
-      writer-fits = fits (takesWriter c) w a;
-      page-fits = fits (takesPage c) p b;
-      line-fits = fits (takesLine c) l d;
-      holder-fits = omega (arith, holder-le st n w p l);
-    }
-
-event-holder-le : (st : State) (k m : ℕ) → eventHolder st k m ≤ 4
+event-le : (st : State) (k m : ℕ) → eventHolder st k m ≤ 4
 unfolding eventHolder
-event-holder-le st k m = omega (arith, line-le st 1 0 (firstMeter k m), line-le st 1 0 (ownMeter k m))
+event-le st k m = omega (arith, line-le st 1 0 (firstMeter k m), line-le st 1 0 (ownMeter k m))
 
-no-event-holder : (st : State) (n k m : ℕ) → meetsWriter n ≡ false → cond (eqb n 14) (eventHolder st k m) 0 ≡ 0
-unfolding meetsWriter oneOf oneMore
-no-event-holder st n k m e = none (eqb n 14) (eventHolder st k m) (or-left (eqb n 14) (eqb n 18) e)
+module _ (st : State) (c n w p l k m : ℕ) where
+  holder-le : holderMet st c n w p l k m ≤ 4
+  unfolding holderMet pageHolder
+  holder-le =
+      let s = slotMet (st .sizes) (st .table .page) p in
+      row-keeps (λ (v : ℕ). v ≤ 4) (eqb n 14) _ _
+      (row-keeps (λ (v : ℕ). v ≤ 4) (eqb c event) _ _ (event-le st k m) (line-le st w p l))
+      (row-keeps (λ (v : ℕ). v ≤ 4) (eqb n 18) _ 0 (at-most (ltb s 16) _ (first-le (holdsSlot (st .writers .held) s) 4)) (omega arith))
 
-pub event-composable : (st : State) (n k m : ℕ) → canReturn event n ≡ true → Composable (eventMet st n k m)
-unfolding eventMet
-event-composable st n k m e =
-    record {
-      returns = e;
-      no-writer = λ t. refl;
-      no-page = λ t. refl;
-      no-line = λ t. refl;
-      no-holder = no-event-holder st n k m;
-      writer-fits = omega arith;
-      page-fits = omega arith;
-      line-fits = omega arith;
-      holder-fits = fits (eqb n 14) (eventHolder st k m) (omega (arith, event-holder-le st k m));
-    }
+  no-holder : meetsWriter n ≡ false → holderMet st c n w p l k m ≡ 0
+  unfolding holderMet meetsWriter oneOf oneMore
+  no-holder e = rw (or-left (eqb n 14) (eqb n 18) e, or-right (eqb n 14) (eqb n 18) e)
+
+  pub met-composable : canReturn c n ≡ true → w < 2 ^ 64 → p < 2 ^ 64 → l < 2 ^ 64 → Composable (reasonMet st c n w p l k m)
+  unfolding reasonMet
+  met-composable e a b d =
+      record {
+        returns = e;
+        no-writer = none (takesWriter c) w;
+        no-page = none (takesPage c) p;
+        no-line = none (takesLine c) l;
+        no-holder = no-holder;
+        writer-fits = fits (takesWriter c) w a;
+        page-fits = fits (takesPage c) p b;
+        line-fits = fits (takesLine c) l d;
+        holder-fits = omega (arith, holder-le);
+      }

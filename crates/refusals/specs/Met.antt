@@ -41,25 +41,22 @@ pageHolder st p =
 unfoldable pub eventHolder : State → ℕ → ℕ → ℕ
 eventHolder st k m = min (lineHolder st 1 0 (firstMeter k m)) (lineHolder st 1 0 (ownMeter k m))
 
-unfoldable pub holderMet : State → ℕ → ℕ → ℕ → ℕ → ℕ
-holderMet st n w p l = cond (eqb n 14) (lineHolder st w p l) (cond (eqb n 18) (pageHolder st p) 0)
+-- of call c turned back with n, given writer w, page p and line l, or as an event kind k and meter m
+unfoldable pub holderMet : State → ℕ → ℕ → ℕ → ℕ → ℕ → ℕ → ℕ → ℕ
+holderMet st c n w p l k m =
+    cond (eqb n 14) (cond (eqb c event) (eventHolder st k m) (lineHolder st w p l)) (cond (eqb n 18) (pageHolder st p) 0)
 
--- the reason of call c turned back with n, given writer w, page p and line l; what it is not given is 0
-unfoldable pub reasonMet : State → ℕ → ℕ → ℕ → ℕ → ℕ → Reason
-reasonMet st c n w p l =
+-- its reason; a writer, page or line that it is not given is 0
+unfoldable pub reasonMet : State → ℕ → ℕ → ℕ → ℕ → ℕ → ℕ → ℕ → Reason
+reasonMet st c n w p l k m =
     record {
       call = c;
       number = n;
       writer = cond (takesWriter c) w 0;
       page = cond (takesPage c) p 0;
       line = cond (takesLine c) l 0;
-      holder = holderMet st n w p l;
+      holder = holderMet st c n w p l k m;
     }
-
--- the reason of event k, of meter m, turned back with n: it is given no writer, page or line
-unfoldable pub eventMet : State → ℕ → ℕ → ℕ → Reason
-eventMet st n k m =
-    record { call = event; number = n; writer = 0; page = 0; line = 0; holder = cond (eqb n 14) (eventHolder st k m) 0 }
 
 -- v is the lowest of the four writers that stand in the way
 pub record Lowest (inTheWay : ℕ → Bool) (v : ℕ) : Type 0 where

@@ -4,7 +4,7 @@ ghost use mathlib.Core.Path.{_≡_};
 ghost use mathlib.Core.Bool.{cond};
 ghost use Prim.Native.Nat.{_<_};
 ghost use Rattle.bounded.specs.Below.{firstBelow};
-ghost use Rattle.refusals.specs.Met.{holdsLine, holdsSlot, slotMet, lineHolder, pageHolder, eventHolder, holderMet, reasonMet, eventMet};
+ghost use Rattle.refusals.specs.Met.{holdsLine, holdsSlot, slotMet, lineHolder, pageHolder, eventHolder, holderMet, reasonMet};
 use layout::Sizes;
 use reasons::Reason;
 use state::State;
@@ -88,10 +88,22 @@ pub fn event_holder(st: State, kind: usize, meter: usize) -> usize
 }
 
 // The writer in the way of a call that a number turns back.
-fn holder_met(st: State, number: usize, writer: usize, page: usize, line: usize) -> usize
-    ensures { λ r. ⌜ r ≡ holderMet st number writer page line ⌝ }
+fn holder_met(
+    st: State,
+    call: usize,
+    number: usize,
+    writer: usize,
+    page: usize,
+    line: usize,
+    kind: usize,
+    meter: usize,
+) -> usize
+    ensures { λ r. ⌜ r ≡ holderMet st call number writer page line kind meter ⌝ }
 {
     if number == 14 {
+        if call == wording::EVENT {
+            return event_holder(st, kind, meter);
+        }
         return line_holder(st, writer, page, line);
     }
     if number == 18 {
@@ -106,8 +118,8 @@ fn where_taken(has: bool, v: usize) -> usize
     if has { v } else { 0 }
 }
 
-// The reason of a call other than an event that a number turned back, from the state and what the call was given. What the call does not take may be
-// anything.
+// The reason of a call that a number turned back, from the state and what the call was given: a writer, a page, a line, or as an event a kind and a
+// meter. What the call does not take may be anything.
 pub fn reason_met(
     st: State,
     call: usize,
@@ -115,8 +127,10 @@ pub fn reason_met(
     writer: usize,
     page: usize,
     line: usize,
+    kind: usize,
+    meter: usize,
 ) -> Reason
-    ensures { λ r. ⌜ r ≡ reasonMet st call number writer page line ⌝ }
+    ensures { λ r. ⌜ r ≡ reasonMet st call number writer page line kind meter ⌝ }
 {
     Reason {
         call,
@@ -124,20 +138,6 @@ pub fn reason_met(
         writer: where_taken(wording::takes_writer(call), writer),
         page: where_taken(wording::takes_page(call), page),
         line: where_taken(wording::takes_line(call), line),
-        holder: holder_met(st, number, writer, page, line),
-    }
-}
-
-// The reason of an event that a number turned back.
-pub fn event_met(st: State, number: usize, kind: usize, meter: usize) -> Reason
-    ensures { λ r. ⌜ r ≡ eventMet st number kind meter ⌝ }
-{
-    Reason {
-        call: wording::EVENT,
-        number,
-        writer: 0,
-        page: 0,
-        line: 0,
-        holder: where_taken(number == 14, event_holder(st, kind, meter)),
+        holder: holder_met(st, call, number, writer, page, line, kind, meter),
     }
 }

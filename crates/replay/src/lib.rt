@@ -10,7 +10,10 @@ ghost use Rattle.replay.specs.Table.{slotIn, withSlot, emptyTable, table
 use journal::Slot;
 use layout::Sizes;
 
-// Up to 16 slots, and for each the position of its last live record, or 2^64 - 1.
+// What stands for the position of a slot without a live record: 2^64 - 1.
+pub const NO_POSITION: usize = 18446744073709551615;
+
+// Up to 16 slots, and for each the position of its last live record, or none.
 pub struct Table {
     pub page: [usize; 16],
     pub original: [usize; 16],
@@ -73,7 +76,7 @@ pub fn empty_table() -> Table
         original: [0; 16],
         spare: [0; 16],
         bitmap: [0; 16],
-        last: [18446744073709551615; 16],
+        last: [NO_POSITION; 16],
     }
 }
 
@@ -150,7 +153,7 @@ fn page_apart(page: &[usize; 16], s: usize) -> bool
     ensures { λ r. ⌜ r ≡ pageApart (now (page .entry)) s ⌝ }
 {
     let p = page[s];
-    if p == 18446744073709551615 {
+    if p == journal::NO_PAGE {
         return true;
     }
     let mut k = 0;

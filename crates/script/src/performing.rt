@@ -24,10 +24,10 @@ pub fn start() -> Machine
     let writers = Writers {
         opened: [false; 4],
         held: [0; 64],
-        prepared: 4,
+        prepared: state::NO_WRITER,
     };
     let table = replay::empty_table();
-    let wide = settled::begun_wide(4);
+    let wide = settled::begun_wide(state::NO_WRITER);
     let pending = settled::no_pending();
     let st = State {
         sizes,

@@ -3,12 +3,13 @@ use Prim.Native.Nat.{ℕ, _+_, _^_, _<_, _≤_}
 use Prim.Native.Char.{code}
 use mathlib.Core.Bool.{Bool}
 use mathlib.Core.List.{List, [], _∷_, _++_, append-assoc, append-nil}
-use mathlib.Core.Path.{_≡_, refl, subst}
+use mathlib.Core.Path.{_≡_, refl, ap, subst, _∙_}
 use native.Mathlib.Numerals.{add-one}
 use native.Mathlib.Omega.{arith}
 use lib.Dec.{leb}
 use lib.ListN.{length, set}
 use borrow.Author.Tests.{le-leb, lt-leb, leb-true}
+use Rattle.bounded.specs.Below.{upTo}
 use Rattle.bounded.proofs.Tests.{caseOn}
 use Rattle.cutting.specs.Buffers.{Ends}
 use Rattle.cutting.proofs.Buffers.{ends-none, ends-more}
@@ -18,7 +19,7 @@ use Rattle.sequence_lines.specs.declared.Line.{Line}
 use Rattle.sequence_lines.specs.Listing.{neededBy, lineOf, linesOf, listing}
 use Rattle.sequence_lines.specs.Parts.{PutLine}
 use Rattle.short_runs.specs.declared.Output.{Output}
-use Rattle.short_runs.specs.Program.{roomed, wantedOf, mark, Prints, PutCut, Responds}
+use Rattle.short_runs.specs.Program.{roomed, wantedOf, mark, withLine, withLines, withListing, Prints, PutCut, Responds}
 
 -- ---- room for a line
 
@@ -38,7 +39,8 @@ cut-put s out room calls k out′ r ok made size same put =
     let n = rw (p .laid) at same in
     record {
       line = record {
-        ends = λ printed e.
+        waiting = p .place ∙ ap (λ (at : ℕ). at + length (lineOf calls k)) made;
+        unwritten = λ printed e.
             let h : Ends out room printed = rw made (ends-room e) in
             rw (p .laid, p .place) (ends-more (lineOf calls k) h (omega arith) n);
       };
@@ -48,35 +50,40 @@ cut-put s out room calls k out′ r ok made size same put =
 -- ---- one text after the other
 
 module _ {s : Output} {out : List ℕ} where
-  pub prints-none : (f : ℕ → List ℕ) → Prints s out (each 0 f) s out
-  unfolding each
-  prints-none f = record { ends = λ printed e. rw append-nil e }
+  pub prints-none : (f : ℕ → List ℕ) (g : ℕ → ℕ → ℕ) → Prints s out (each 0 f) (upTo 0 g) s out
+  unfolding each upTo
+  prints-none f g = record { waiting = refl; unwritten = λ printed e. rw append-nil e }
 
-  pub prints-more : {q r : Output} {out′ out″ : List ℕ} (f : ℕ → List ℕ) (k : ℕ) → Prints s out (each k f) q out′ → Prints q out′ (f k) r out″ → Prints s out (each (k + 1) f) r out″
-  unfolding each
-  prints-more f k g h =
-      rw add-one (record { ends = λ printed e. rw (← append-assoc) (h .ends (printed ++ each k f) (g .ends printed e)) })
+  pub prints-more : {q r : Output} {out′ out″ : List ℕ} (f : ℕ → List ℕ) (g : ℕ → ℕ → ℕ) (k : ℕ) → Prints s out (each k f) (upTo k g) q out′ → Prints q out′ (f k) (g k) r out″
+      → Prints s out (each (k + 1) f) (upTo (k + 1) g) r out″
+  unfolding each upTo
+  prints-more f g k p h =
+      rw add-one
+      (record {
+        waiting = h .waiting ∙ ap (g k) (p .waiting);
+        unwritten = λ printed e. rw (← append-assoc) (h .unwritten (printed ++ each k f) (p .unwritten printed e));
+      })
 
   pub prints-lines : {r : Output} {out′ : List ℕ} (calls : List ℕ) (k : ℕ) → k ≤ neededBy calls → neededBy calls ≤ k
-      → Prints s out (each (k + 1) (lineOf calls)) r out′ → Prints s out (linesOf calls) r out′
-  unfolding linesOf
+      → Prints s out (each (k + 1) (lineOf calls)) (upTo (k + 1) (λ j. withLine (lineOf calls j))) r out′ → Prints s out (linesOf calls) (withLines calls) r out′
+  unfolding linesOf withLines
   prints-lines {r} {out′} calls k h l p =
       let e : k ≡ neededBy calls = omega arith in
-      subst (λ (j : ℕ). Prints s out (each (j + 1) (lineOf calls)) r out′) e p
+      subst (λ (j : ℕ). Prints s out (each (j + 1) (lineOf calls)) (upTo (j + 1) (λ j. withLine (lineOf calls j))) r out′) e p
 
   pub prints-all : {r : Output} {out′ : List ℕ} (n i : ℕ) → i ≤ 12 ^ n → 12 ^ n ≤ i
-      → Prints s out (each i (λ j. linesOf (sequence n j))) r out′ → Prints s out (listing n) r out′
-  unfolding listing
+      → Prints s out (each i (λ j. linesOf (sequence n j))) (upTo i (λ j. withLines (sequence n j))) r out′ → Prints s out (listing n) (withListing n) r out′
+  unfolding listing withListing
   prints-all {r} {out′} n i h l p =
       let e : i ≡ 12 ^ n = omega arith in
-      subst (λ (j : ℕ). Prints s out (each j (λ j. linesOf (sequence n j))) r out′) e p
+      subst (λ (j : ℕ). Prints s out (each j (λ j. linesOf (sequence n j))) (upTo j (λ j. withLines (sequence n j))) r out′) e p
 
 -- ---- the response
 
-pub responds-list : (input : List ℕ) (n : ℕ) (s r : Output) (out out′ : List ℕ) → n ≡ wantedOf input → n ≤ 3 → s .at ≡ 0 → Prints s out (listing n) r out′ → Responds input r out′
+pub responds-list : (input : List ℕ) (n : ℕ) (s r : Output) (out out′ : List ℕ) → n ≡ wantedOf input → n ≤ 3 → s .at ≡ 0 → Prints s out (listing n) (withListing n) r out′ → Responds input r out′
 responds-list input n s r out out′ e h z p =
     let t = le-leb n 3 h in
-    record { ends = rw (← e, t) (p .ends [] (rw z (ends-none out []))) }
+    record { waiting = rw (← e, t) (p .waiting ∙ ap (withListing n) z); unwritten = rw (← e, t) (p .unwritten [] (rw z (ends-none out []))) }
 
 pub mark-ends : (out : List ℕ) → 2 ≤ length out → Ends (set (set out 0 (code "?")) 1 (code "\n")) 2 mark
 mark-ends [] h = absurd (omega arith)
@@ -84,4 +91,4 @@ mark-ends (a ∷ []) h = absurd (omega arith)
 mark-ends (a ∷ b ∷ l) h = record { within = omega arith; bytes = refl }
 
 pub responds-mark : (input : List ℕ) (n : ℕ) (ok : Bool) (out : List ℕ) → n ≡ wantedOf input → 3 < n → Ends out 2 mark → Responds input (record { at = 2; ok = ok }) out
-responds-mark input n ok out e h p = let t = lt-leb n 3 h in record { ends = rw (← e, t) p }
+responds-mark input n ok out e h p = let t = lt-leb n 3 h in record { waiting = rw (← e, t); unwritten = rw (← e, t) p }

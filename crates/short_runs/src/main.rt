@@ -6,7 +6,7 @@ ghost use lib.ListN.{length};
 ghost use Rattle.cutting.specs.Buffers.{Ends};
 ghost use Rattle.sequences.specs.Sequences.{sequence};
 ghost use Rattle.sequence_lines.specs.Listing.{linesOf, listing};
-ghost use Rattle.short_runs.specs.Program.{roomed, digitOf, wantedOf, mark, Prints, PutCut, Responds};
+ghost use Rattle.short_runs.specs.Program.{roomed, digitOf, wantedOf, mark, withLines, withListing, Prints, PutCut, Responds};
 use libc::STDIN_FILENO;
 use libc::STDOUT_FILENO;
 
@@ -61,7 +61,7 @@ fn put_cut(s: Output, out: &mut [u8; 65536], n: usize, i: u64, k: usize) -> Cut
 // The lines of sequence i of n calls.
 fn put_cuts(s: Output, out: &mut [u8; 65536], n: usize, i: u64) -> Output
     requires { ⌜ n ≤ 3 ⌝ }
-    ensures { λ r. ⌜ Prints s (now (out .entry)) (linesOf (sequence n i)) r (now (out .exit)) ⌝ }
+    ensures { λ r. ⌜ Prints s (now (out .entry)) (linesOf (sequence n i)) (withLines (sequence n i)) r (now (out .exit)) ⌝ }
 {
     let mut output = s;
     let mut k = 0;
@@ -91,7 +91,7 @@ fn total(n: usize) -> u64
 // The lines of all sequences of n calls.
 fn put_all(s: Output, out: &mut [u8; 65536], n: usize) -> Output
     requires { ⌜ n ≤ 3 ⌝ }
-    ensures { λ r. ⌜ Prints s (now (out .entry)) (listing n) r (now (out .exit)) ⌝ }
+    ensures { λ r. ⌜ Prints s (now (out .entry)) (listing n) (withListing n) r (now (out .exit)) ⌝ }
 {
     let mut output = s;
     let all = total(n);

@@ -64,8 +64,8 @@ fn slot_fine<'a>(
     let o = original[s];
     let e = spare[s];
     let f = z.pages + z.slots;
-    if p == 18446744073709551615 {
-        if !((o == 4294967295) & (bitmap[s] == 0) & (e < f)) {
+    if p == journal::NO_PAGE {
+        if !((o == journal::NO_FRAME) & (bitmap[s] == 0) & (e < f)) {
             return false;
         }
         return free_apart(original, spare, s);

@@ -72,7 +72,7 @@ pub fn held_ok<'a>(
 {
     let mut s = 0;
     while s < z.slots {
-        let free = page[s] == 18446744073709551615;
+        let free = page[s] == journal::NO_PAGE;
         if !slot_held_ok(opened, held, free, s) {
             return false;
         }

@@ -43,7 +43,10 @@ pub enum Op {
     Copy,
 }
 
-// Four writers: open or not, the lines that each holds of each slot, at 16 × writer + slot, and the one that is prepared: 4, or any number above 3, is none.
+// What stands for no writer where one is prepared or wide; so does any other number above 3.
+pub const NO_WRITER: usize = 4;
+
+// Four writers: open or not, the lines that each holds of each slot, at 16 × writer + slot, and the one that is prepared, or none.
 pub struct Writers {
     pub opened: [bool; 4],
     pub held: [u64; 64],

@@ -36,7 +36,7 @@ pub fn free_after(z: Sizes, page: &[usize; 16], next: usize) -> usize
     let mut k = 0;
     while k < z.slots {
         let s = round_slot(z, next, k);
-        if page[s] == 18446744073709551615 {
+        if page[s] == journal::NO_PAGE {
             return k;
         }
         k += 1;
@@ -57,7 +57,7 @@ pub fn frame_of_slot<'a>(
 {
     let mut s = 0;
     while s < z.slots {
-        if (spare[s] == f) | ((page[s] != 18446744073709551615) & (original[s] == f)) {
+        if (spare[s] == f) | ((page[s] != journal::NO_PAGE) & (original[s] == f)) {
             return true;
         }
         s += 1;

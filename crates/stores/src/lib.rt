@@ -72,7 +72,7 @@ pub fn complete(
         }
         Op::Commit { writer } => {
             to.head = commits::complete_commit(z, head, bitmap, last, opened, held, writer);
-            to.prepared = 4;
+            to.prepared = state::NO_WRITER;
             to
         }
         Op::Consolidate { page: p } => {
@@ -117,7 +117,7 @@ pub fn complete(
             );
             to.head = moved.head;
             to.next = moved.next;
-            to.prepared = 4;
+            to.prepared = state::NO_WRITER;
             to
         }
         Op::Prepare { writer } => {
@@ -126,7 +126,7 @@ pub fn complete(
         }
         Op::Confirm { writer } => {
             to.head = commits::complete_commit(z, head, bitmap, last, opened, held, writer);
-            to.prepared = 4;
+            to.prepared = state::NO_WRITER;
             to
         }
         Op::Log {
@@ -140,7 +140,7 @@ pub fn complete(
         }
         Op::Copy => {
             wide_stores::complete_copy(z, opened, held, keys, wide);
-            to.wide = 4;
+            to.wide = state::NO_WRITER;
             to.count = 0;
             to
         }

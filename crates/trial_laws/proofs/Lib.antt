@@ -1,3 +1,6 @@
+pub mod Alone
+pub mod Complete
+pub mod Ended
 pub mod Standing
 pub mod Round
 pub mod Theorem
@@ -5,3 +8,6 @@ pub mod Needed
 pub mod Low
 pub mod Placing
 pub mod Counted
+pub mod Sums
+pub mod Read
+pub mod Witness

@@ -31,7 +31,7 @@ use Rattle.trials.specs.declared.Spent.{Spent}
 use Rattle.trials.specs.Trials.{callOf, nothing, storesFor, plus, Tried, formatted, made, withRoom, put, putAll, committed, asDone, asAbandoned, played}
 use Rattle.trial_lines.specs.Lines.{Work, first, numbersOf, sizesOf, withSetting, isRound, withRound, acted, act}
 use Rattle.trial_laws.specs.Pages.{after}
-use Rattle.trial_laws.specs.Counts.{Within, CountsLow, CountsExact}
+use Rattle.trial_laws.specs.Counts.{Within, exactly, ofCall}
 use Rattle.trial_laws.proofs.Needed.{answered-low, taken-valid, consolidate-low, commit-low, wide-low, checkpoint-low}
 
 -- ---- a call
@@ -67,7 +67,7 @@ stores-low a v e = stores-within a v 262 (omega arith) (λ ok. omega (arith, e))
 none-low : (b : ℕ) → Within b nothing
 none-low b = record { written = omega arith; journal = omega arith; copies = omega arith; tables = omega arith }
 
-within-more : {b c : ℕ} {s : Spent} → Within b s → b ≤ c → Within c s
+pub within-more : {b c : ℕ} {s : Spent} → Within b s → b ≤ c → Within c s
 within-more {b} {c} {s} h l =
     record {
       written = omega (arith, h .written);
@@ -103,7 +103,8 @@ plus-low {b} {c} {s} {t} h k =
       tables = sum-low (s .tables) (t .tables) b c (h .tables) (k .tables);
     }
 
-pub counts-exact : CountsExact
+-- and there a call's stores are added exactly
+pub counts-exact : (a : Ask) (t : Tried) → Within (2 ^ 63) (t .spent) → made a t .spent ≡ exactly (t .spent) (ofCall a t)
 unfolding made plus
 counts-exact a t h =
     let s = t .spent in
@@ -119,14 +120,14 @@ asks-same st op row e =
     let same : State → Type 0 = λ s. s .sizes ≡ st .sizes in
     row-keeps same (eqb row 0) _ st (row-keeps same (eqb (needs st op) 0) (completed st op) _ e refl) refl
 
-record Few (b : ℕ) (s : Spent) (v : World) : Type 0 where
-  counts : Within b s
-  no-entries : v .st .sizes .entries ≡ 0
+pub record Few (b : ℕ) (s : Spent) (v : World) : Type 0 where
+  pub counts : Within b s
+  pub no-entries : v .st .sizes .entries ≡ 0
 
-abbrev Low : ℕ → Tried → Type 0
+abbrev pub Low : ℕ → Tried → Type 0
 Low b t = Few b (t .spent) (t .world)
 
-low-more : {b c : ℕ} {s : Spent} {v : World} → Few b s v → b ≤ c → Few c s v
+pub low-more : {b c : ℕ} {s : Spent} {v : World} → Few b s v → b ≤ c → Few c s v
 low-more h l = record { counts = within-more (h .counts) l; no-entries = h .no-entries }
 
 -- a call and all its stores keep the sizes
@@ -149,7 +150,7 @@ unfolding exec runOf
 run-sizes k v =
     row-keeps (λ (s : State). s .sizes ≡ v .st .sizes) (eqb (refusal (stepRows (v .st) (v .image))) 0) _ (v .st) (steppedBy-sizes (min k (left (v .st))) v) refl
 
-made-low : {b : ℕ} (a : Ask) (t : Tried) → Low b t → Low (b + 262) (made a t)
+pub made-low : {b : ℕ} (a : Ask) (t : Tried) → Low b t → Low (b + 262) (made a t)
 unfolding made
 made-low a t h =
     let v = t .world in
@@ -166,7 +167,7 @@ formatted-low b z img e =
 
 -- ---- a round
 
-room-low : (b : ℕ) (a : Ask) (t : Tried) → Low b t → Low (b + 786) (withRoom a t)
+pub room-low : (b : ℕ) (a : Ask) (t : Tried) → Low b t → Low (b + 786) (withRoom a t)
 unfolding withRoom
 room-low b a t h =
     let u = made a t in
@@ -174,7 +175,7 @@ room-low b a t h =
     row-keeps (Low (b + 786)) (eqb (u .number) 19) (made a (made Checkpoint u)) u
     (low-more (made-low a (made Checkpoint u) (made-low Checkpoint u e)) (omega arith)) (low-more e (omega arith))
 
-put-low : (b x p : ℕ) (t : Tried) → Low b t → Low (b + 1310) (put x p t)
+pub put-low : (b x p : ℕ) (t : Tried) → Low b t → Low (b + 1310) (put x p t)
 unfolding put
 put-low b x p t h =
     let u = made (Write p x) t in
@@ -185,7 +186,7 @@ put-low b x p t h =
     (row-keeps (Low (b + 1310)) (eqb (f .number) 0) (made (Write p x) f) f (low-more (made-low (Write p x) f g) (omega arith)) (low-more g (omega arith)))
     (low-more e (omega arith))
 
-all-low : (b x : ℕ) (ps : List ℕ) (t : Tried) → Low b t → Low (b + 1310 * length ps) (putAll x ps t)
+pub all-low : (b x : ℕ) (ps : List ℕ) (t : Tried) → Low b t → Low (b + 1310 * length ps) (putAll x ps t)
 unfolding putAll
 all-low b x [] t h = low-more h (omega arith)
 all-low b x (p ∷ ps) t h =
@@ -194,11 +195,11 @@ all-low b x (p ∷ ps) t h =
     row-keeps (Low (b + 1310 * length (p ∷ ps))) (eqb (u .number) 0) (putAll x ps u) u
     (low-more (all-low (b + 1310) x ps u e) (omega arith)) (low-more e (omega arith))
 
-committed-low : (b : ℕ) (t : Tried) → Low b t → Low (b + 786) (committed t)
+pub committed-low : (b : ℕ) (t : Tried) → Low b t → Low (b + 786) (committed t)
 unfolding committed
 committed-low b t h = row-keeps (Low (b + 786)) (eqb (t .number) 0) (withRoom Commit t) t (room-low b Commit t h) (low-more h (omega arith))
 
-played-low : (b x : ℕ) (ps : List ℕ) → length ps ≤ 64 → (t : Tried) → Low b t → Low (b + 85150) (played ps x t)
+pub played-low : (b x : ℕ) (ps : List ℕ) → length ps ≤ 64 → (t : Tried) → Low b t → Low (b + 85150) (played ps x t)
 unfolding played asDone asAbandoned
 played-low b x ps few t h =
     let begun = made-low Begin t h in
@@ -210,7 +211,7 @@ played-low b x ps few t h =
 
 -- ---- lines
 
-abbrev LowIn : ℕ → Work → Type 0
+abbrev pub LowIn : ℕ → Work → Type 0
 LowIn b w = Low b (w .tried)
 
 setting-low : (b : ℕ) (q : Line) (w : Work) → LowIn b w → LowIn b (withSetting q w)
@@ -220,7 +221,7 @@ setting-low b q w h =
     (record { tried = formatted (sizesOf q) (w .tried .world .image); lines = 1; set = eqb (formatted (sizesOf q) (w .tried .world .image) .number) 0 })
     (record { tried = w .tried; lines = 1; set = false }) (formatted-low b (sizesOf q) (w .tried .world .image) refl) h
 
-round-low : (b : ℕ) (q : Line) (w : Work) → LowIn b w → LowIn (b + 85150) (withRound q w)
+pub round-low : (b : ℕ) (q : Line) (w : Work) → LowIn b w → LowIn (b + 85150) (withRound q w)
 unfolding withRound asAbandoned
 round-low b q w h =
     caseOn (isRound q)
@@ -229,7 +230,7 @@ round-low b q w h =
     rw e (played-low b (w .lines % 256) (take (q .count) (q .numbers)) (omega (arith, length-take (q .count) (q .numbers))) (w .tried) h))
     (λ e. rw e (low-more h (omega arith)))
 
-act-low : (b : ℕ) (w : Work) (line : List ℕ) → LowIn b w → LowIn (b + 85150) (act w line)
+pub act-low : (b : ℕ) (w : Work) (line : List ℕ) → LowIn b w → LowIn (b + 85150) (act w line)
 unfolding acted
 act-low b w line h =
     let q = numbersOf line in
@@ -242,10 +243,10 @@ unfolding after
 after-low b [] w h = low-more h (omega arith)
 after-low b (line ∷ lines) w h = low-more (after-low (b + 85150) lines (act w line) (act-low b w line h)) (omega arith)
 
-first-low : (img setting : List ℕ) → LowIn 0 (act (first img) setting)
+pub first-low : (img setting : List ℕ) → LowIn 0 (act (first img) setting)
 unfolding acted first
 first-low img setting =
     setting-low 0 (numbersOf setting) (first img) (formatted-low 0 (record { pages = 0; slots = 0; places = 0; entries = 0 }) img refl)
 
-pub counts-low : CountsLow
+pub counts-low : (buffer setting : List ℕ) (rounds : List (List ℕ)) → length rounds ≤ 1000 → Within 85150000 (after rounds (act (first buffer) setting) .tried .spent)
 counts-low buffer setting rounds few = within-more (after-low 0 rounds (act (first buffer) setting) (first-low buffer setting) .counts) (omega arith)

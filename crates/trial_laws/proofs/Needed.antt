@@ -11,6 +11,7 @@ use Rattle.bounded.specs.Rows.{Row, refusal}
 use Rattle.bounded.proofs.Below.{count-le}
 use Rattle.bounded.proofs.Those.{length-those}
 use Rattle.bounded.proofs.Tests.{caseOn}
+use Rattle.layout.specs.declared.Sizes.{Sizes}
 use Rattle.masks.specs.Lines.{countLines}
 use Rattle.replay.specs.Table.{noPosition}
 use Rattle.state.specs.declared.State.{State}
@@ -42,12 +43,16 @@ pub consolidate-low : (st : State) (p : ℕ) → needs st (Consolidate p) ≤ 26
 unfolding needs
 consolidate-low st p = omega (arith, copy-low (getD (st .table .bitmap) (slotOfPage (st .sizes) (st .table .page) p) 0))
 
+-- a writer holds lines of at most S slots
+pub held-few : (z : Sizes) (held : List ℕ) (w : ℕ) → length (heldSlots z held w) ≤ z .slots
+unfolding heldSlots
+held-few z held w =
+    let f : ℕ → Bool = λ s. not (eqb (heldAt held w s) 0) in
+    omega (arith, length-those f (z .slots), count-le f (z .slots))
+
 module _ (st : State) (ok : stateOk st ≡ true) where
   held-low : (w : ℕ) → length (heldSlots (st .sizes) (st .writers .held) w) ≤ 16
-  unfolding heldSlots
-  held-low w =
-      let f : ℕ → Bool = λ s. not (eqb (heldAt (st .writers .held) w s) 0) in
-      omega (arith, length-those f (st .sizes .slots), count-le f (st .sizes .slots), legal-sizes st ok .slots-high)
+  held-low w = omega (arith, held-few (st .sizes) (st .writers .held) w, legal-sizes st ok .slots-high)
 
   pub commit-low : (w : ℕ) → needs st (Commit w) ≤ 262
   unfolding needs

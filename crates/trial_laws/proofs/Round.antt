@@ -18,7 +18,7 @@ use Rattle.trial_laws.specs.Pages.{isListed, marked}
 use Rattle.trial_laws.proofs.Standing.{Stands, wrote, noWrites, stands-refused, stands-begin, stands-free, stands-checkpoint, stands-write, stands-commit, stands-as}
 
 -- what holds of both answers of a test, each where it is the one
-row-splits : (P : Tried → Type 0) (b : Bool) (x y : Tried) → (b ≡ true → P x) → (b ≡ false → P y) → P (cond b x y)
+pub row-splits : (P : Tried → Type 0) (b : Bool) (x y : Tried) → (b ≡ true → P x) → (b ≡ false → P y) → P (cond b x y)
 row-splits P true x y p q = p refl
 row-splits P false x y p q = q refl
 
@@ -51,19 +51,19 @@ module _ (g : Tried → ℕ) (kept : (a : Ask) (t : Tried) → g (made a t) ≡ 
   unfolding committed
   committed-same t = row-keeps (λ (w : Tried). g w ≡ g t) (eqb (t .number) 0) (withRoom Commit t) t (room-same Commit t) refl
 
-  round-same : (ps : List ℕ) (b : ℕ) (t : Tried) → g (committed (putAll b ps (made Begin t))) ≡ g t
+  pub round-same : (ps : List ℕ) (b : ℕ) (t : Tried) → g (committed (putAll b ps (made Begin t))) ≡ g t
   round-same ps b t = committed-same (putAll b ps (made Begin t)) ∙ (all-same b ps (made Begin t) ∙ kept Begin t)
 
-made-done : (a : Ask) (t : Tried) → made a t .done ≡ t .done
+pub made-done : (a : Ask) (t : Tried) → made a t .done ≡ t .done
 unfolding made
 made-done a t = refl
 
-made-abandoned : (a : Ask) (t : Tried) → made a t .abandoned ≡ t .abandoned
+pub made-abandoned : (a : Ask) (t : Tried) → made a t .abandoned ≡ t .abandoned
 unfolding made
 made-abandoned a t = refl
 
 -- a round more is counted, as long as there are fewer than 1,000
-counted-more : (n : ℕ) → n < 1000 → counted n ≡ n + 1
+pub counted-more : (n : ℕ) → n < 1000 → counted n ≡ n + 1
 counted-more n h = rw (lt-ltb n 1000 h)
 
 pub abandoned-more : (t : Tried) → t .done + t .abandoned < 1000 → asAbandoned t .done + asAbandoned t .abandoned ≡ t .done + t .abandoned + 1
@@ -121,7 +121,7 @@ unfoldable wroteAll : ℕ → List ℕ → (ℕ → ℕ → ℕ → Cell) → �
 wroteAll x [] s = s
 wroteAll x (p ∷ ps) s = wroteAll x ps (wrote p x s)
 
-byte-lent : (x : ℕ) → x < 256 → Bytes (x ∷ [])
+pub byte-lent : (x : ℕ) → x < 256 → Bytes (x ∷ [])
 byte-lent x h zero = h
 byte-lent x h (suc i) = omega arith
 

@@ -50,7 +50,7 @@ fn last_ok(z: Sizes, tail: usize, live: usize, last: &[usize; 16], s: usize) -> 
     ensures { λ r. ⌜ r ≡ lastOkOf z tail live (now (last .entry)) s ⌝ }
 {
     let q = last[s];
-    if q == 18446744073709551615 {
+    if q == replay::NO_POSITION {
         return true;
     }
     if !is_live(z, tail, live, q) {

@@ -74,7 +74,7 @@ pub fn complete_log(keys: &mut [u64; 64], count: usize, p: usize, l: usize) -> u
 }
 
 // The frame that the line with this key is copied to.
-fn copied_frame<'a>(
+pub fn copied_frame<'a>(
     image: &[u8],
     z: Sizes,
     page: &'a [usize; 16],
@@ -113,11 +113,11 @@ fn make_copy_store<'a>(
     ensures { λ _. ⌜ now (image .exit) ≡ store (now (image .entry)) (copyAtOf z (slotsOfArrays (now (page .entry)) (now (original .entry)) (now (spare .entry)) (now (bitmap .entry))) count (now (keys .entry)) (now (image .entry)) i) (copyValueOf z count (now (image .entry)) i) ⌝ }
 {
     if i == 0 {
-        image_words::store_word(image, 6, count as u64);
+        image_words::store_word(image, layout::COUNT_WORD, count as u64);
         return;
     }
     if 8 * count < i {
-        image_words::store_word(image, 6, 0);
+        image_words::store_word(image, layout::COUNT_WORD, 0);
         return;
     }
     let e = (i - 1) / 8;

@@ -27,9 +27,9 @@ pub fn first_bench() -> Bench
     let writers = Writers {
         opened: [false; 4],
         held: [0; 64],
-        prepared: 4,
+        prepared: state::NO_WRITER,
     };
-    let wide = settled::begun_wide(4);
+    let wide = settled::begun_wide(state::NO_WRITER);
     let pending = settled::no_pending();
     let st = State {
         sizes,

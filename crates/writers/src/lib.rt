@@ -100,7 +100,7 @@ pub fn abort(st: State, writer: usize) -> Done
     if next.wide.writer != writer {
         return answers::taken(0, next);
     }
-    let none = settled::begun_wide(4);
+    let none = settled::begun_wide(state::NO_WRITER);
     next.wide = none;
     answers::taken(0, next)
 }

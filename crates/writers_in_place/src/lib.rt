@@ -94,7 +94,7 @@ pub fn abort<'a>(
     }
     *keys = [0u64; 64];
     let mut to = at;
-    to.wide = 4;
+    to.wide = state::NO_WRITER;
     to.count = 0;
     Went { answer, to }
 }

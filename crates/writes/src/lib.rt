@@ -26,7 +26,7 @@ fn write_slot(z: Sizes, page: &[usize; 16], next: usize, p: usize) -> usize
 }
 
 // The frame that line l of page p goes to.
-fn write_frame<'a>(
+pub fn write_frame<'a>(
     z: Sizes,
     page: &'a [usize; 16],
     original: &'a [usize; 16],

@@ -21,7 +21,7 @@ refused-requires c κs =
 returns : tie.Need-returns
 returns c =
     let a = c .before .before .before .before .before .before .before .before .before .before .before .before .before .before .before .before .before .args in
-    event-refused (a .st) (a .image .now) (a .moduli .now) (a .kind) (a .meter) (a .amount) (c .refused .result) _ (c .before .before .before .event-found .ensures) (c .before .if1 .taken) (c .refused .ensures)
+    event-refused (a .st) (a .image .now) (a .moduli .now) (a .kind) (a .meter) (a .amount) _ (c .before .before .before .event-found .ensures) (c .refused .result) (c .before .if1 .taken) (c .refused .ensures)
 
 first-number-requires : tie.Need-first-number-requires
 first-number-requires c κs =
@@ -50,7 +50,7 @@ second-line-requires c κs =
 returns-2 : tie.Need-returns-2
 returns-2 c =
     let a = c .before .before .before .before .before .before .before .before .before .before .before .before .before .before .before .before .before .before .before .before .before .before .before .before .args in
-    event-asked (a .st) (a .image .now) (a .moduli .now) (a .kind) (a .meter) (a .amount) (c .taken .result) _ (c .before .before .before .before .before .before .before .before .before .before .event-found .ensures) _ _ _ _ _ _ (c .before .before .before .before .before .before .before .before .if1 .left) (c .before .before .before .before .before .before .first-number .ensures) (c .before .before .before .before .before .first-meter .ensures) (c .before .before .before .before .numbered-line .ensures) (c .before .before .before .second-line .ensures) (c .before .before .pending-from .ensures) (c .before .event-needs .ensures) (c .taken .ensures)
+    event-asked (a .st) (a .image .now) (a .moduli .now) (a .kind) (a .meter) (a .amount) _ (c .before .before .before .before .before .before .before .before .before .before .event-found .ensures) (c .taken .result) _ _ _ _ _ _ (c .before .before .before .before .before .before .before .before .if1 .left) (c .before .before .before .before .before .before .first-number .ensures) (c .before .before .before .before .before .first-meter .ensures) (c .before .before .before .before .numbered-line .ensures) (c .before .before .before .second-line .ensures) (c .before .before .pending-from .ensures) (c .before .event-needs .ensures) (c .taken .ensures)
 
 pub event-spec : {M : Type 1} → statement M
 event-spec =

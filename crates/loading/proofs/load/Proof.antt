@@ -5,6 +5,7 @@ use lib.ListN.{length}
 use borrow.Author.Needs.{needs}
 use Rattle.answers.proofs.Answered.{row-known}
 use Rattle.bounded.specs.Rows.{refusal}
+use Rattle.moduli_text.proofs.TextLaws.{read-row, read-taken}
 use Rattle.refinement.specs.Calls.{quietRows, loadRows}
 use Rattle.refinement.proofs.Going.{ranges-of}
 use Rattle.refinement.proofs.Quiet.{Quiet, quiet}
@@ -25,13 +26,13 @@ returns c =
     (load-refused (a .t1) (a .image .now) (a .text .now) (c .refused .result) _ (row-quiet (a .t1) (a .image .now) (a .text .now) _ (c .before .before .first-row .ensures) n) n (c .refused .ensures .0), c .refused .ensures .1)
 
 refused-requires-2 : tie.Need-refused-requires-2
-refused-requires-2 c κs = let a = c .before .before .before .before .before .before .before .before .before .before .before .before .before .before .before .before .before .args in rw (c .before .read-moduli .ensures .0) (text-low (a .text .now))
+refused-requires-2 c κs = let a = c .before .before .before .before .before .before .before .before .before .before .before .before .before .before .before .before .before .args in rw (read-row (a .text .now) _ (c .before .read-moduli .ensures)) (text-low (a .text .now))
 
 returns-2 : tie.Need-returns-2
 returns-2 c =
     let a = c .before .before .before .before .before .before .before .before .before .before .before .before .before .before .before .before .before .before .args in
     let n = c .before .if2 .taken in
-    let row = row-text (a .t1) (a .image .now) (a .text .now) (quiet1 (c .before .before .before)) _ (c .before .before .read-moduli .ensures .0) n in
+    let row = row-text (a .t1) (a .image .now) (a .text .now) (quiet1 (c .before .before .before)) _ (read-row (a .text .now) _ (c .before .before .read-moduli .ensures)) n in
     (load-refused (a .t1) (a .image .now) (a .text .now) (c .refused2 .result) _ row n (c .refused2 .ensures .0), c .refused2 .ensures .1)
 
 stored-row-requires : tie.Need-stored-row-requires
@@ -46,7 +47,7 @@ page-row c =
     let a = c .before .before .before .before .before .before .before .before .before .before .before .before .before .before .before .before .before .before .before .before .before .before .before .before .before .before .args in
     let e = c .before .before .before .before .before .before .before .before .before .if2 .left in
     let f = c .before .before .before .before .before .before .before .before .before .before .read-moduli .ensures in
-    row-page (a .t1) (a .image .now) (a .text .now) (quiet1 (c .before .before .before .before .before .before .before .before .before .before .before)) _ (sym e ∙ f .0) _ (f .1 e) (c .stored-row .ensures)
+    row-page (a .t1) (a .image .now) (a .text .now) (quiet1 (c .before .before .before .before .before .before .before .before .before .before .before)) _ (sym e ∙ read-row (a .text .now) _ f) _ (read-taken (a .text .now) _ f e) (c .stored-row .ensures)
 
 refused-requires-3 : tie.Need-refused-requires-3
 refused-requires-3 c κs = let a = c .before .before .before .before .before .before .before .before .before .before .before .before .before .before .before .before .before .before .before .before .before .before .before .before .before .before .before .args in rw (page-row (c .before)) (row-known (loadRows (a .t1) (a .image .now) (a .text .now)) (omega arith))
@@ -60,7 +61,7 @@ returns-3 c =
 returns-4 : tie.Need-returns-4
 returns-4 c =
     let a = c .before .before .before .before .before .before .before .before .before .before .before .before .before .before .before .before .before .before .before .before .before .before .before .before .before .before .before .before .args in
-    (load-taken (a .t1) (a .image .now) (a .text .now) _ (sym (c .before .if3 .left) ∙ page-row (c .before .before)) (c .before .before .before .before .before .before .before .before .before .before .before .before .read-moduli .ensures .1 (c .before .before .before .before .before .before .before .before .before .before .before .if2 .left)), refl)
+    (load-taken (a .t1) (a .image .now) (a .text .now) _ (sym (c .before .if3 .left) ∙ page-row (c .before .before)) (read-taken (a .text .now) _ (c .before .before .before .before .before .before .before .before .before .before .before .before .read-moduli .ensures) (c .before .before .before .before .before .before .before .before .before .before .before .if2 .left)), refl)
 
 pub load-spec : {M : Type 1} → statement M
 load-spec =

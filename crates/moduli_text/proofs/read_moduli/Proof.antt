@@ -3,7 +3,7 @@ use mathlib.Core.Path.{sym, _∙_}
 use native.Mathlib.Omega.{arith}
 use lib.ListN.{set}
 use borrow.Author.Needs.{needs}
-use Rattle.moduli_text.proofs.TextLaws.{Going, going-first, going-stops, going-on, more-left, nothing-left}
+use Rattle.moduli_text.proofs.TextLaws.{Going, going-first, going-stops, going-on, more-left, nothing-left, read-refused, read-all}
 use Rattle.moduli_text.proofs.read_moduli.Statement.{statement}
 use Rattle.moduli_text.proofs.read_moduli.Tie as tie
 
@@ -30,8 +30,11 @@ first-entry-requires c κs = search needs
 
 returns : tie.Need-returns Inv-loop μ-loop
 returns c =
-    let r = going-stops (c .before .before .before .before .before .before .before .args .text .now) _ _ _ (c .before .before .before .before .before .loop .inv) (c .before .before .before .before .loop-test .taken) (c .before .before .first-entry .result) (c .before .before .first-entry .ensures) (c .if1 .taken) in
-    (r, λ z. absurd (c .if1 .taken z))
+    let f = c .before .before .before in
+    let text = f .before .before .before .before .before .args .text .now in
+    let n = c .before .if1 .taken in
+    let e = going-stops text _ _ _ (f .before .before .before .loop .inv) (f .before .before .loop-test .taken) (f .first-entry .result) (f .first-entry .ensures) n in
+    read-refused text (c .refused .result) _ e n (c .refused .ensures)
 
 on : (c : tie.After-struct-known2 Inv-loop μ-loop)
     → let l = c .before .before .before .before .before .before .loop in
@@ -60,10 +63,16 @@ loop-again : tie.Need-loop-again Inv-loop μ-loop
 loop-again c = on c
 
 returns-2 : tie.Need-returns-2 Inv-loop μ-loop
-returns-2 c = (more-left (c .before .before .before .before .args .text .now) _ _ _ (c .before .before .loop .inv) (c .before .loop-test .left) (c .if2 .taken), λ z. absurd (omega (arith, z)))
+returns-2 c =
+    let text = c .before .before .before .before .before .args .text .now in
+    let e = more-left text _ _ _ (c .before .before .before .loop .inv) (c .before .before .loop-test .left) (c .before .if2 .taken) in
+    read-refused text (c .refused2 .result) _ e (λ z. absurd (omega (arith, z))) (c .refused2 .ensures)
 
 returns-3 : tie.Need-returns-3 Inv-loop μ-loop
-returns-3 c = let r = nothing-left (c .before .before .before .before .args .text .now) _ _ _ (c .before .before .loop .inv) (c .before .loop-test .left) (c .if2 .left) in (r .0, λ z. r .1)
+returns-3 c =
+    let text = c .before .before .before .before .args .text .now in
+    let r = nothing-left text _ _ _ (c .before .before .loop .inv) (c .before .loop-test .left) (c .if2 .left) in
+    read-all text _ (r .0) (r .1)
 
 pub read-moduli-spec : {M : Type 1} → statement M
 read-moduli-spec =
@@ -76,6 +85,7 @@ read-moduli-spec =
     part-first-entry-start
     part-first-entry-end
     first-entry-requires
+    (λ c κs. search needs)
     returns
     mul-moduli
     array-write-moduli
@@ -84,5 +94,6 @@ read-moduli-spec =
     add-m
     loop-less
     loop-again
+    (λ c κs. search needs)
     returns-2
     returns-3)

@@ -1,0 +1,9 @@
+pub mod Harmless
+pub mod Next
+pub mod NextWide
+pub mod Mixable
+pub mod Mixed
+pub mod Since
+pub mod Cut
+pub mod Theorem
+pub mod Carried

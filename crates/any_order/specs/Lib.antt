@@ -1,0 +1,2 @@
+pub mod AnyOrder
+pub mod Carried

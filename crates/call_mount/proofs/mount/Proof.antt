@@ -1,0 +1,69 @@
+use borrow.Author.Needs.{needs}
+use mathlib.Core.List.{List}
+use mathlib.Core.Path.{_≡_, refl, sym, ap, _∙_}
+use Rattle.mount.specs.declared.Mounted.{Mounted}
+use Rattle.mount.specs.Mount.{mountOf}
+use Rattle.refinement.specs.Mount.{mountCall, mountedState}
+use Rattle.mounting.proofs.Found.{mount-known, mounted-quiet}
+use Rattle.state_words.specs.Decoded.{decoded}
+use Rattle.call_mount.proofs.Replaced.{replace-refused, replace-taken, copying-may, copying-left}
+use Rattle.call_mount.proofs.mount.Statement.{statement}
+use Rattle.call_mount.proofs.mount.Tie as tie
+
+-- the row that was found
+row : (j : tie.After-judge) → j .judge .result .row ≡ mountOf (j .before .before .args .image .now) .row
+row j = ap (λ (m : Mounted). m .row) (j .judge .ensures)
+
+returns : tie.Need-returns
+unfolding mountCall
+returns c =
+    let j = c .before .before .before in
+    let s = j .before .before in
+    let m = mountOf (s .args .image .now) in
+    (replace-refused (decoded (s .args .words .now)) (mountedState m) (m .row) _ (c .answer-of .ensures ∙ rw (row j)) (rw (← row j) (mount-known (s .args .image .now) _ (j .judge .ensures))) (λ q. c .before .if1 .taken (row j ∙ q)), λ n. refl)
+
+returns-2 : tie.Need-returns-2
+unfolding mountCall
+returns-2 c =
+    let q = c .before .before in
+    let e = q .before .before .before .before in
+    let j = e .before .before in
+    let s = j .before .before in
+    let m = mountOf (s .args .image .now) in (
+      replace-taken (decoded (s .args .words .now)) (mountedState m) (m .row) _ (sym (row j) ∙ e .if1 .left)
+          (q .put-quiet .ensures ∙ mounted-quiet (j .judge .result) (c .if2 .taken) ∙ ap mountedState (j .judge .ensures)),
+      λ n. absurd (n refl),
+    )
+
+put-copying-requires : tie.Need-put-copying-requires
+put-copying-requires c κs =
+    let q = c .before .before .before .before in
+    let e = q .before .before .before .before in
+    let j = e .before .before in
+    copying-may (j .before .before .args .image .now) (j .judge .result) _ (j .judge .ensures) (e .if1 .left) (c .before .before .if2 .left) (q .put-quiet .ensures)
+
+returns-3 : tie.Need-returns-3
+unfolding mountCall
+returns-3 c =
+    let i = c .before .before .before in
+    let q = i .before .before in
+    let e = q .before .before .before .before in
+    let j = e .before .before in
+    let s = j .before .before in
+    let m = mountOf (s .args .image .now) in (
+      replace-taken (decoded (s .args .words .now)) (mountedState m) (m .row) _ (sym (row j) ∙ e .if1 .left)
+          (copying-left (j .judge .result) _ _ (i .if2 .left) (q .put-quiet .ensures) (c .put-copying .ensures) ∙ ap mountedState (j .judge .ensures)),
+      λ n. absurd (n refl),
+    )
+
+pub mount-spec : {M : Type 1} → statement M
+mount-spec =
+    tie.close
+    (tie.spec
+    (λ c κs. search needs)
+    (λ c κs. search needs)
+    returns
+    (λ c κs. search needs)
+    returns-2
+    put-copying-requires
+    returns-3)

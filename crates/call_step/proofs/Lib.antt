@@ -1,0 +1,2 @@
+mod OneStep
+mod Running

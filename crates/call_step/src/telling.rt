@@ -1,0 +1,39 @@
+// The next store of what is pending, told before it is made.
+ghost use mathlib.Core.Path.{_≡_};
+ghost use Rattle.state_words.specs.Decoded.{decoded};
+ghost use Rattle.call_step.specs.NextStore.{nextStoreOf};
+use answers::Answer;
+
+// Taken, with the word that the next store goes to, whether it decides, and how many stores come before the next one that decides; or a refusal, and zeros.
+pub struct NextStore {
+    pub answer: Answer,
+    pub at: usize,
+    pub decides: bool,
+    pub before: usize,
+}
+
+// Tells of the next store. A host whose memory keeps no order fences before and after each one that decides.
+pub fn next_store(image: &[u8], words: &[u64; 256]) -> NextStore
+    ensures { λ r. ⌜ r ≡ nextStoreOf (decoded (now (words .entry))) (now (image .entry)) ⌝ }
+{
+    let z = state_words::sizes_in(words);
+    let at = state_words::places_in(words);
+    let row = call_rows::busy_row(z, at, words, image.len());
+    if row != 0 {
+        let answer = answers::answer_of(row, 0);
+        return NextStore {
+            answer,
+            at: 0,
+            decides: false,
+            before: 0,
+        };
+    }
+    let place = op_stores::next_place(image, z, at, words);
+    let before = op_stores::stores_before_fence(z, at, words);
+    NextStore {
+        answer: Answer::Taken(0),
+        at: place,
+        decides: before == 0,
+        before,
+    }
+}

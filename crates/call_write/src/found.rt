@@ -1,0 +1,138 @@
+// What a write finds before it is taken: the row that turns it back, or the frames of its page and its line and whether the writer holds the line.
+ghost use mathlib.Core.Path.{_≡_};
+ghost use mathlib.Core.Bool.{false, _&&_};
+ghost use Prim.Native.Nat.{_<_, _≤_};
+ghost use lib.Dec.{ltb};
+ghost use lib.ListN.{length};
+ghost use Rattle.layout.specs.Layout.{Legal, imageLength};
+ghost use Rattle.masks.specs.Lines.{inMask};
+ghost use Rattle.state.specs.Held.{heldAt};
+ghost use Rattle.finding.specs.Finding.{WriteFound};
+ghost use Rattle.state_words.specs.Decoded.{decoded, placesOf};
+ghost use Rattle.call_write.specs.Finding.{FramesIn, EntryIn};
+use crate::Span;
+use finding::Found;
+use layout::Sizes;
+use state::Places;
+use state_held::slots::slot_of;
+
+// A refusal.
+fn turned_back(row: usize) -> Found
+    ensures { λ r. ⌜ r ≡ record { row = row; frame = 0; seen = 0; held = false; wide = false } ⌝ }
+{
+    Found {
+        row,
+        frame: 0,
+        seen: 0,
+        held: false,
+        wide: false,
+    }
+}
+
+// Whether the writer holds line l, s being its page's slot, S where it has none.
+fn holds_line(z: Sizes, words: &[u64; 256], writer: usize, s: usize, l: usize) -> bool
+    requires { ⌜ Legal z × (writer < 4) × (l < 64) ⌝ }
+    ensures { λ r. ⌜ r ≡ ltb s (z .slots) && inMask (heldAt (decoded (now (words .entry)) .writers .held) writer s) l ⌝ }
+{
+    if z.slots <= s {
+        return false;
+    }
+    masks::has(state_words::held_at(words, writer, s), l)
+}
+
+// The rows from 11 on, of a page below P.
+fn frames_found(
+    image: &[u8],
+    z: Sizes,
+    at: Places,
+    words: &[u64; 256],
+    writer: usize,
+    a: Span,
+) -> Found
+    requires { ⌜ Legal z × (at .next < z .slots) × (a .page < z .pages) × (imageLength z ≤ length (now image)) ⌝ }
+    ensures { λ r. ⌜ FramesIn z at (decoded (now (words .entry))) (now (image .entry)) writer a r ⌝ }
+{
+    let s = slot_of(z, words, a.page);
+    let frame = state_lines::page_frame(image, z, words, a.page, s);
+    let row = op_rows::write_row(
+        z,
+        at,
+        words,
+        writer,
+        a.page,
+        s,
+        a.line,
+        a.offset,
+        a.length,
+        frame,
+    );
+    if row != 0 {
+        return turned_back(row);
+    }
+    let seen = state_lines::seen_frame(z, words, writer, s, a.line, frame);
+    let held = holds_line(z, words, writer, s, a.line);
+    Found {
+        row,
+        frame,
+        seen,
+        held,
+        wide: false,
+    }
+}
+
+// The same of a wide write.
+fn entry_found(image: &[u8], z: Sizes, at: Places, words: &[u64; 256], a: Span) -> Found
+    requires { ⌜ Legal z × (at .count ≤ 64) × (a .page < z .pages) × (imageLength z ≤ length (now image)) ⌝ }
+    ensures { λ r. ⌜ EntryIn z at (decoded (now (words .entry))) (now (image .entry)) a r ⌝ }
+{
+    let s = slot_of(z, words, a.page);
+    let frame = state_lines::page_frame(image, z, words, a.page, s);
+    let row = op_rows::log_row(z, at, words, a.page, s, a.line, a.offset, a.length, frame);
+    if row != 0 {
+        return turned_back(row);
+    }
+    let e = state_held::held::find_entry(words, at.count, (64 * a.page + a.line) as u64);
+    if e < at.count {
+        return Found {
+            row,
+            frame,
+            seen: e,
+            held: true,
+            wide: true,
+        };
+    }
+    let seen = state_lines::seen_frame(z, words, at.wide, s, a.line, frame);
+    Found {
+        row,
+        frame,
+        seen,
+        held: false,
+        wide: true,
+    }
+}
+
+// All rows of a write, and what it then finds.
+pub fn write_found(
+    image: &[u8],
+    z: Sizes,
+    at: Places,
+    words: &[u64; 256],
+    writer: usize,
+    a: Span,
+    data: &[u8],
+) -> Found
+    requires { ⌜ (z ≡ decoded (now words) .sizes) × (at ≡ placesOf (decoded (now words))) ⌝ }
+    ensures { λ r. ⌜ WriteFound (decoded (now (words .entry))) (now (image .entry)) writer (a .page) (a .line) (a .offset) (a .length) (now («data» .entry)) r ⌝ }
+{
+    let row = call_rows::quiet_row(z, at, words, image.len());
+    if row != 0 {
+        return turned_back(row);
+    }
+    if (data.len() < a.length) | (a.page >= z.pages) {
+        return turned_back(11);
+    }
+    if at.wide == writer {
+        return entry_found(image, z, at, words, a);
+    }
+    frames_found(image, z, at, words, writer, a)
+}

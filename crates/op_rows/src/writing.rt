@@ -1,0 +1,144 @@
+// The rows from 11 on of a write, and of a wide write.
+ghost use mathlib.Core.Path.{_≡_};
+ghost use Prim.Native.Nat.{_<_, _≤_};
+ghost use Rattle.bounded.specs.Rows.{refusal};
+ghost use Rattle.layout.specs.Layout.{Legal};
+ghost use Rattle.state.specs.Wide.{wideOf, noEntryLeft};
+ghost use Rattle.operations.specs.Operations.{writeArgsBad, lineTaken, noneFree};
+ghost use Rattle.state_words.specs.Decoded.{decoded};
+ghost use Rattle.op_rows.specs.Seen.{frameBadIn, writeRowsIn, logRowsIn};
+use layout::Sizes;
+use state::Places;
+
+// Row 11 of a write, without the data. No sum wraps.
+fn write_args_bad(
+    z: Sizes,
+    writer: usize,
+    page: usize,
+    line: usize,
+    offset: usize,
+    length: usize,
+) -> bool
+    ensures { λ r. ⌜ r ≡ writeArgsBad z writer page line offset length ⌝ }
+{
+    if offset > 64 {
+        return true;
+    }
+    if length > 64 {
+        return true;
+    }
+    (writer > 3) | (page >= z.pages) | (line > 63) | (length == 0) | (offset + length > 64)
+}
+
+// Row 14: the page has slot s, and a writer other than w holds line l.
+pub(crate) fn line_taken(z: Sizes, words: &[u64; 256], w: usize, s: usize, l: usize) -> bool
+    requires { ⌜ Legal z × (l < 64) ⌝ }
+    ensures { λ r. ⌜ r ≡ lineTaken z (decoded (now (words .entry)) .writers .held) w s l ⌝ }
+{
+    if z.slots <= s {
+        return false;
+    }
+    state_held::held::others_hold(words, w, s, l)
+}
+
+// Row 15: the page has no slot and none is free.
+pub(crate) fn none_free(z: Sizes, next: usize, words: &[u64; 256], s: usize) -> bool
+    requires { ⌜ Legal z × (next < z .slots) ⌝ }
+    ensures { λ r. ⌜ r ≡ noneFree z (decoded (now (words .entry)) .table .page) next s ⌝ }
+{
+    if s < z.slots {
+        return false;
+    }
+    z.slots <= state_held::slots::free_after(z, words, next)
+}
+
+// Row 16, of the frame f of a page that has slot s, or none.
+pub fn frame_bad(z: Sizes, words: &[u64; 256], s: usize, f: usize) -> bool
+    requires { ⌜ Legal z ⌝ }
+    ensures { λ r. ⌜ r ≡ frameBadIn z (decoded (now (words .entry))) s f ⌝ }
+{
+    if s < z.slots {
+        let a = state_words::slot_at(words, s);
+        return a.original != f;
+    }
+    if z.pages + z.slots <= f {
+        return true;
+    }
+    state_held::slots::frame_of_slot(z, words, f)
+}
+
+// The first row from 11 on that turns a write to page p back, with the page's slot s, S where it has none, and its frame.
+pub fn write_row(
+    z: Sizes,
+    at: Places,
+    words: &[u64; 256],
+    writer: usize,
+    p: usize,
+    s: usize,
+    line: usize,
+    offset: usize,
+    length: usize,
+    frame: usize,
+) -> usize
+    requires { ⌜ Legal z × (at .next < z .slots) ⌝ }
+    ensures { λ r. ⌜ r ≡ refusal (writeRowsIn z at (decoded (now (words .entry))) writer p s line offset length frame) ⌝ }
+{
+    if write_args_bad(z, writer, p, line, offset, length) {
+        return 11;
+    }
+    if !state_words::open_at(words, writer) {
+        return 13;
+    }
+    if at.prepared == writer {
+        return 23;
+    }
+    if line_taken(z, words, writer, s, line) {
+        return 14;
+    }
+    if none_free(z, at.next, words, s) {
+        return 15;
+    }
+    if frame_bad(z, words, s, frame) {
+        return 16;
+    }
+    0
+}
+
+// Row 30: line l of page p has no entry, and all are used.
+fn no_entry_left(z: Sizes, count: usize, words: &[u64; 256], p: usize, l: usize) -> bool
+    requires { ⌜ (count ≤ 64) × (p < 1024) × (l < 64) ⌝ }
+    ensures { λ r. ⌜ r ≡ noEntryLeft z (wideOf 0 count (decoded (now (words .entry)) .wide .keys)) p l ⌝ }
+{
+    let e = state_held::held::find_entry(words, count, (64 * p + l) as u64);
+    !(e < count) & (z.entries <= count)
+}
+
+// The first row from 11 on that turns a wide write to page p back, with the page's slot s, S where it has none, and its frame.
+pub fn log_row(
+    z: Sizes,
+    at: Places,
+    words: &[u64; 256],
+    p: usize,
+    s: usize,
+    line: usize,
+    offset: usize,
+    length: usize,
+    frame: usize,
+) -> usize
+    requires { ⌜ Legal z × (at .count ≤ 64) ⌝ }
+    ensures { λ r. ⌜ r ≡ refusal (logRowsIn z at (decoded (now (words .entry))) p s line offset length frame) ⌝ }
+{
+    if write_args_bad(z, at.wide, p, line, offset, length) {
+        return 11;
+    }
+    if !state_words::open_at(words, at.wide) {
+        return 13;
+    }
+    if no_entry_left(z, at.count, words, p, line) {
+        return 30;
+    }
+    if frame_bad(z, words, s, frame) {
+        return 16;
+    }
+    0
+}

@@ -1,0 +1,5 @@
+pub mod Leaning
+pub mod Starting
+pub mod Asking
+pub mod Allowing
+pub mod Calls
