@@ -3,6 +3,7 @@
 //! A call that asks for an operation gives the number of stores needed; run gives the number made.
 
 use crate::image::{line as line_at, put_word, word};
+use crate::layout::{COUNT_AT, HEAD_AT, TAIL_AT};
 use crate::meters::{moduli_fit, read_moduli, Asked};
 use crate::plan::{complete, plan};
 use crate::refusal::{row, Answer, Refusal::*};
@@ -196,6 +197,16 @@ pub fn run(state: &mut State, image: &mut [u8], k: u64) -> Answer<u64> {
         made += 1;
     }
     Ok(made)
+}
+
+/// Tells of the next store: the number of the word that it goes to, and whether it decides, that is, whether a mount goes by
+/// what it changes. Of all words that operations store to these are head, tail and the count of entries.
+pub fn next_store(state: &State, image: &[u8]) -> Answer<(u64, bool)> {
+    buffer_rows(state, image)?;
+    row(NothingPending, state.pending.is_none())?;
+    let Pending { operation, made } = state.pending.as_ref().expect("row 10: an operation is pending");
+    let at = plan(state, operation)[*made as usize].at.address(image);
+    Ok((at as u64 / 8, [HEAD_AT, TAIL_AT, COUNT_AT].contains(&at)))
 }
 
 /// Rows 8 and 4.

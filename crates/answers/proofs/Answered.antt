@@ -10,11 +10,11 @@ use Rattle.bounded.specs.Rows.{Row, refusal}
 use Rattle.bounded.specs.Below.{allBelow}
 use Rattle.bounded.proofs.Below.{all-at}
 use Rattle.bounded.proofs.Tests.{caseOn, and-left, and-right, row-keeps}
-use Rattle.state.specs.declared.State.{State}
+use Rattle.state.specs.State.{State}
 use Rattle.refinement.specs.Outcome.{answered}
-use Rattle.answers.specs.Answers.{numberOf, storesOf, asAnswer, outcomeOf}
+use Rattle.answers.specs.Answers.{numberOf, storesOf, asAnswer, answeredAt}
 use Rattle.answers.specs.declared.Answer.{Answer}
-use Rattle.answers.specs.declared.Done.{Done}
+use Rattle.answers.specs.declared.Answer.the-variants.{Taken}
 
 -- ---- rows
 
@@ -29,20 +29,20 @@ row-known (r ∷ rs) k = row-keeps (λ (x : ℕ). x ≤ 30) (r .0) (r .1) (refus
 
 -- ---- calls
 
-module _ (d : Done) (row stores : ℕ) (st after : State) where
-  pub call-refused : (row ≡ 0 → ⊥) → outcomeOf d ≡ answered row st 0 st → outcomeOf d ≡ answered row st stores after
+module _ (a : Answer) (to : State) (row stores : ℕ) (st after : State) where
+  pub call-refused : (row ≡ 0 → ⊥) → answeredAt a to ≡ answered row st 0 st → answeredAt a to ≡ answered row st stores after
   call-refused n e = rw (ne-eqb row 0 n) (rw (ne-eqb row 0 n) at e)
 
-  pub call-taken : row ≡ 0 → outcomeOf d ≡ answered 0 after stores after → outcomeOf d ≡ answered row st stores after
+  pub call-taken : row ≡ 0 → answeredAt a to ≡ answered 0 after stores after → answeredAt a to ≡ answered row st stores after
   call-taken z e = rw z e
 
 -- the same of a table of rows
-module _ (d : Done) (rs : List Row) (row stores : ℕ) (st after : State) (e : row ≡ refusal rs) where
-  pub refused-by : (row ≡ 0 → ⊥) → outcomeOf d ≡ answered row st 0 st → outcomeOf d ≡ answered (refusal rs) st stores after
-  refused-by n h = call-refused d (refusal rs) stores st after (λ q. n (e ∙ q)) (rw e at h)
+module _ (a : Answer) (to : State) (rs : List Row) (row stores : ℕ) (st after : State) (e : row ≡ refusal rs) where
+  pub refused-by : (row ≡ 0 → ⊥) → answeredAt a to ≡ answered row st 0 st → answeredAt a to ≡ answered (refusal rs) st stores after
+  refused-by n h = call-refused a to (refusal rs) stores st after (λ q. n (e ∙ q)) (rw e at h)
 
-  pub taken-by : row ≡ 0 → outcomeOf d ≡ answered 0 after stores after → outcomeOf d ≡ answered (refusal rs) st stores after
-  taken-by z h = call-taken d (refusal rs) stores st after (sym e ∙ z) h
+  pub taken-by : row ≡ 0 → answeredAt a to ≡ answered 0 after stores after → answeredAt a to ≡ answered (refusal rs) st stores after
+  taken-by z h = call-taken a to (refusal rs) stores st after (sym e ∙ z) h
 
 -- ---- the answers
 
@@ -56,7 +56,7 @@ as-known row l =
     let b = eqb (storesOf (asAnswer row 0)) 0 in
     (eqb-true (numberOf (asAnswer row 0)) row (and-left a b t), eqb-true (storesOf (asAnswer row 0)) 0 (and-right a b t))
 
-pub refused-known : (a : Answer) (row : ℕ) (st : State) → row ≤ 30 → a ≡ asAnswer row 0 → outcomeOf (record { answer = a; state = st }) ≡ answered row st 0 st
+pub refused-known : (a : Answer) (row : ℕ) (st : State) → row ≤ 30 → a ≡ asAnswer row 0 → answeredAt a st ≡ answered row st 0 st
 refused-known a row st l e =
     let k = as-known row l in
     let n : numberOf a ≡ row = ap numberOf e ∙ k .0 in
@@ -64,10 +64,18 @@ refused-known a row st l e =
     caseOn (eqb row 0) (λ t. rw (t, n, s)) (λ t. rw (t, n, s))
 
 -- the answer with a row's number, or taken with n stores
-pub answer-known : (a : Answer) (row n : ℕ) (st : State) → row ≤ 30 → a ≡ asAnswer row n → outcomeOf (record { answer = a; state = st }) ≡ answered row st n st
+pub answer-known : (a : Answer) (row n : ℕ) (st : State) → row ≤ 30 → a ≡ asAnswer row n → answeredAt a st ≡ answered row st n st
 answer-known a row n st l e =
     caseOn (eqb row 0)
     (λ t. let z = eqb-true row 0 t in rw (z, rw z at e))
     (λ t.
     let f : a ≡ asAnswer row 0 = rw t (rw t at e) in
     rw t (rw t at (refused-known a row st l f)))
+
+-- a call turned back by a row of its table, or taken with the state that the code leaves
+module _ (st after : State) (rs : List Row) (row : ℕ) (e : row ≡ refusal rs) where
+  pub row-refused : (a : Answer) → (row ≡ 0 → ⊥) → refusal rs ≤ 30 → a ≡ asAnswer row 0 → answeredAt a st ≡ answered (refusal rs) st 0 after
+  row-refused a n l k = refused-by a st rs row 0 st after e n (refused-known a row st (rw e l) k)
+
+  pub row-taken : (left : State) → row ≡ 0 → left ≡ after → answeredAt (Taken 0) left ≡ answered (refusal rs) st 0 after
+  row-taken left z a = taken-by (Taken 0) left rs row 0 st after e z (rw a)

@@ -7,7 +7,7 @@ use lib.Dec.{ltb}
 use Rattle.bounded.specs.Rows.{refusal}
 use Rattle.bounded.proofs.Tests.{row-keeps}
 use Rattle.layout.specs.Layout.{imageLength}
-use Rattle.state.specs.declared.State.{State}
+use Rattle.state.specs.State.{State}
 use Rattle.state.specs.declared.Op.{Op}
 use Rattle.state.specs.declared.Op.the-variants.{Idle, Write, Commit, Consolidate, Checkpoint, Event, Prepare, Confirm, Log, Copy}
 use Rattle.operations.specs.Operations.{isIdle, writeRows, logRows, commitRows, prepareRows, confirmRows, consolidateRows, opRows}

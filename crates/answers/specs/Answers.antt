@@ -2,10 +2,14 @@
 use Prim.Native.Nat.{ℕ}
 use mathlib.Core.Bool.{Bool, cond}
 use lib.Dec.{eqb}
+use Rattle.state.specs.State.{State}
 use Rattle.refinement.specs.Outcome.{Outcome}
 use Rattle.answers.specs.declared.Answer.{Answer}
-use Rattle.answers.specs.declared.Answer.the-variants.{Taken, ImageTooShort, UnknownLayout, SizesOutOfRange, BufferTooShort, BadPositions, BadRecord, BadSlots, BadState, OperationPending, NothingPending, BadArgument, WriterOpen, WriterNotOpen, LineHeld, NoFreeSlot, BadFrame, PageWithoutSlot, PageHeld, JournalFull, UnknownEvent, AmountOutOfRange, NoSlotToFree, TransactionPrepared, WriterNotPrepared, BadTableLine, ModulusOutOfRange, MeterNotBelow, NoWideRounds, OtherOpen, EntriesUsed}
-use Rattle.answers.specs.declared.Done.{Done}
+use Rattle.answers.specs.declared.Answer.the-variants.{Taken, ImageTooShort, UnknownLayout, SizesOutOfRange, BufferTooShort, BadPositions, BadRecord}
+use Rattle.answers.specs.declared.Answer.the-variants.{BadSlots, BadState, OperationPending, NothingPending, BadArgument, WriterOpen, WriterNotOpen}
+use Rattle.answers.specs.declared.Answer.the-variants.{LineHeld, NoFreeSlot, BadFrame, PageWithoutSlot, PageHeld, JournalFull, UnknownEvent}
+use Rattle.answers.specs.declared.Answer.the-variants.{AmountOutOfRange, NoSlotToFree, TransactionPrepared, WriterNotPrepared, BadTableLine}
+use Rattle.answers.specs.declared.Answer.the-variants.{ModulusOutOfRange, MeterNotBelow, NoWideRounds, OtherOpen, EntriesUsed}
 
 -- 0 where the call is taken, else the number of the row that turns it back
 abbrev pub numberOf : Answer → ℕ
@@ -75,16 +79,19 @@ storesOf NoWideRounds = 0
 storesOf OtherOpen = 0
 storesOf EntriesUsed = 0
 
--- what comes of a call
-abbrev pub outcomeOf : Done → Outcome
-outcomeOf d = record { number = numberOf (d .answer); stores = storesOf (d .answer); state = d .state }
+-- an answer with the state after the call
+abbrev pub answeredAt : Answer → State → Outcome
+answeredAt a st = record { number = numberOf a; stores = storesOf a; state = st }
 
 -- the answer with a number
 abbrev pub asAnswer : ℕ → ℕ → Answer
 asAnswer row n =
-    cond (eqb row 0) (Taken n) (cond (eqb row 1) ImageTooShort (cond (eqb row 2) UnknownLayout (cond (eqb row 3) SizesOutOfRange (cond (eqb row 4) BufferTooShort (
+    cond (eqb row 0) (Taken n) (cond (eqb row 1) ImageTooShort (cond (eqb row 2) UnknownLayout
+    (cond (eqb row 3) SizesOutOfRange (cond (eqb row 4) BufferTooShort (
     cond (eqb row 5) BadPositions (cond (eqb row 6) BadRecord (cond (eqb row 7) BadSlots (cond (eqb row 8) BadState (cond (eqb row 9) OperationPending (
     cond (eqb row 10) NothingPending (cond (eqb row 11) BadArgument (cond (eqb row 12) WriterOpen (cond (eqb row 13) WriterNotOpen (cond (eqb row 14) LineHeld (
     cond (eqb row 15) NoFreeSlot (cond (eqb row 16) BadFrame (cond (eqb row 17) PageWithoutSlot (cond (eqb row 18) PageHeld (cond (eqb row 19) JournalFull (
-    cond (eqb row 20) UnknownEvent (cond (eqb row 21) AmountOutOfRange (cond (eqb row 22) NoSlotToFree (cond (eqb row 23) TransactionPrepared (cond (eqb row 24) WriterNotPrepared (
-    cond (eqb row 25) BadTableLine (cond (eqb row 26) ModulusOutOfRange (cond (eqb row 27) MeterNotBelow (cond (eqb row 28) NoWideRounds (cond (eqb row 29) OtherOpen EntriesUsed)))))))))))))))))))))))))))))
+    cond (eqb row 20) UnknownEvent (cond (eqb row 21) AmountOutOfRange
+    (cond (eqb row 22) NoSlotToFree (cond (eqb row 23) TransactionPrepared (cond (eqb row 24) WriterNotPrepared (
+    cond (eqb row 25) BadTableLine (cond (eqb row 26) ModulusOutOfRange
+    (cond (eqb row 27) MeterNotBelow (cond (eqb row 28) NoWideRounds (cond (eqb row 29) OtherOpen EntriesUsed)))))))))))))))))))))))))))))

@@ -1,9 +1,6 @@
 // Answers by the numbers of documents 01 and 02.
 ghost use mathlib.Core.Path.{_≡_};
-ghost use Prim.Native.Nat.{_≤_};
-ghost use Rattle.refinement.specs.Outcome.{answered};
-ghost use Rattle.answers.specs.Answers.{numberOf, outcomeOf, asAnswer};
-use state::State;
+ghost use Rattle.answers.specs.Answers.{numberOf, asAnswer};
 
 // A taken call says how many stores it needs or made; a refused one names the first rule that it breaks.
 pub enum Answer {
@@ -38,12 +35,6 @@ pub enum Answer {
     NoWideRounds,
     OtherOpen,
     EntriesUsed,
-}
-
-// A call's answer and the state after it.
-pub struct Done {
-    pub answer: Answer,
-    pub state: State,
 }
 
 // The answer with a row's number; 0 is taken, with its stores.
@@ -121,34 +112,5 @@ pub fn number_of(a: Answer) -> usize
         Answer::NoWideRounds => 28,
         Answer::OtherOpen => 29,
         Answer::EntriesUsed => 30,
-    }
-}
-
-// A refusal by a row, with the state as it was.
-pub fn refused(row: usize, st: State) -> Done
-    requires { ⌜ row ≤ 30 ⌝ }
-    ensures { λ r. ⌜ outcomeOf r ≡ answered row st 0 st ⌝ }
-{
-    let answer = answer_of(row, 0);
-    Done { answer, state: st }
-}
-
-// A refusal by row 22, with the state as it was.
-pub fn no_slot_to_free(st: State) -> Done
-    ensures { λ r. ⌜ outcomeOf r ≡ answered 22 st 0 st ⌝ }
-{
-    Done {
-        answer: Answer::NoSlotToFree,
-        state: st,
-    }
-}
-
-// A taken call, with the state after it.
-pub fn taken(stores: usize, st: State) -> Done
-    ensures { λ r. ⌜ outcomeOf r ≡ answered 0 st stores st ⌝ }
-{
-    Done {
-        answer: Answer::Taken(stores),
-        state: st,
     }
 }

@@ -6,7 +6,7 @@ use native.Mathlib.Omega.{arith}
 use Rattle.layout.specs.declared.Sizes.{Sizes}
 use Rattle.layout.proofs.LayoutLaws.{legal}
 use Rattle.words.specs.Words.{wordAt}
-use Rattle.state.specs.declared.State.{State}
+use Rattle.state.specs.State.{State}
 use Rattle.refinement.specs.Stores.{World}
 use Rattle.refinement.specs.Calls.{worldOf}
 use Rattle.refinement.specs.Run.{formattedWorld, after}

@@ -9,8 +9,7 @@ use Rattle.layout.specs.Layout.{imageLength}
 use Rattle.words.specs.Words.{word}
 use Rattle.mount.proofs.View.{View, viewOf, Shows}
 use Rattle.mount.proofs.Verdict.{Taken}
-use Rattle.state.specs.declared.State.{State}
-use Rattle.state.specs.declared.Wide.{Wide}
+use Rattle.state.specs.State.{State, Wide}
 use Rattle.state.specs.declared.Pending.{Pending}
 use Rattle.refinement.specs.Stores.{World}
 use Rattle.refinement.specs.Calls.{worldOf}

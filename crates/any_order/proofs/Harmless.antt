@@ -13,8 +13,7 @@ use Rattle.words.specs.Words.{word, store}
 use Rattle.mount.proofs.View.{View, journal, slot, page}
 use Rattle.mount.proofs.Verdict.{Taken}
 use Rattle.mount.proofs.Dead.{Dead}
-use Rattle.state.specs.declared.State.{State}
-use Rattle.state.specs.declared.Wide.{Wide}
+use Rattle.state.specs.State.{State, Wide}
 use Rattle.state.specs.declared.Pending.{Pending}
 use Rattle.state.specs.declared.Op.{Op}
 use Rattle.validity.specs.Validity.{stateOk}

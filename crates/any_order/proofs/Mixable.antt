@@ -14,7 +14,7 @@ use Rattle.words.specs.Words.{Bytes, store}
 use Rattle.entries.specs.Entries.{keyPage, keyLine}
 use Rattle.mount.proofs.View.{View, Shows}
 use Rattle.mount.proofs.Verdict.{Taken}
-use Rattle.state.specs.declared.Wide.{Wide}
+use Rattle.state.specs.State.{Wide}
 use Rattle.state.specs.declared.Pending.{Pending}
 use Rattle.state.specs.Wide.{noWide}
 use Rattle.refinement.specs.Mount.{copying}

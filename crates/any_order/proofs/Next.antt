@@ -13,7 +13,7 @@ use Rattle.words.specs.Words.{word}
 use Rattle.journal.specs.Records.{position}
 use Rattle.mount.proofs.View.{View, viewOf}
 use Rattle.meters.specs.Meters.{movesCredit, firstMeter, ownMeter}
-use Rattle.state.specs.declared.State.{State}
+use Rattle.state.specs.State.{State}
 use Rattle.state.specs.declared.Op.{Op}
 use Rattle.state.specs.declared.Op.the-variants.{Idle, Write, Commit, Consolidate, Checkpoint, Event, Prepare, Confirm, Log, Copy}
 use Rattle.operations.specs.Operations.{needs}

@@ -15,7 +15,7 @@ use Rattle.words.specs.Words.{word, store}
 use Rattle.entries.specs.Entries.{keyPage, keyLine}
 use Rattle.mount.proofs.View.{View, viewOf}
 use Rattle.mount.proofs.Dead.{Dead, dead-entry}
-use Rattle.state.specs.declared.State.{State}
+use Rattle.state.specs.State.{State}
 use Rattle.state.specs.declared.Pending.{Pending}
 use Rattle.state.specs.declared.Op.{Op}
 use Rattle.state.specs.declared.Op.the-variants.{Consolidate, Checkpoint, Log, Copy}

@@ -15,7 +15,7 @@ use Rattle.layout.specs.Layout.{imageLength}
 use Rattle.words.specs.Words.{Bytes, word}
 use Rattle.mount.proofs.View.{View, viewOf}
 use Rattle.mount.proofs.Verdict.{Taken}
-use Rattle.state.specs.declared.State.{State}
+use Rattle.state.specs.State.{State}
 use Rattle.operations.specs.Operations.{isIdle}
 use Rattle.refinement.specs.Stores.{World, stepped, steppedBy, left}
 use Rattle.refinement.specs.Calls.{stepRows, stepRow, stepOf, stepBytes, runOf, runBytes}

@@ -11,7 +11,7 @@ use Rattle.words.specs.Words.{word, store}
 use Rattle.mount.proofs.View.{View, viewOf}
 use Rattle.replay.specs.declared.Table.{Table}
 use Rattle.replay.specs.Table.{slotOf}
-use Rattle.state.specs.declared.State.{State}
+use Rattle.state.specs.State.{State}
 use Rattle.refinement.specs.Stores.{stepped}
 use Rattle.refinement.specs.Calls.{worldOf}
 use Rattle.refinement.specs.Run.{Call, Result, mount, exec, formattedWorld, after}

@@ -12,13 +12,14 @@ use lib.ListN.{length, drop, getD}
 use Rattle.layout.specs.declared.Sizes.{Sizes}
 use Rattle.layout.specs.Layout.{sizesOk, imageLength, layoutWord, countWord}
 use Rattle.words.specs.Words.{Bytes, store}
-use Rattle.state.specs.declared.State.{State}
+use Rattle.state.specs.State.{State}
 use Rattle.state.specs.declared.Op.{Op}
 use Rattle.state.specs.declared.Op.the-variants.{Idle, Write, Commit, Consolidate, Checkpoint, Event, Prepare, Confirm, Log, Copy}
 use Rattle.operations.specs.Operations.{isIdle, needs}
 use Rattle.refinement.specs.Stores.{World, storeAt, storeValue, stepped, steppedBy}
 use Rattle.refinement.specs.Calls.{worldOf}
-use Rattle.refinement.specs.Run.{Call, Result, mount, checkpoint, free, step, begin, beginWide, abort, commit, prepare, confirm, withdraw, consolidate, run, write, read, recall, exec, formattedWorld, after, event, load}
+use Rattle.refinement.specs.Run.{Call, Result, mount, checkpoint, free, step, begin, beginWide, abort, commit, prepare, confirm, withdraw, consolidate}
+use Rattle.refinement.specs.Run.{run, write, read, recall, exec, formattedWorld, after, event, load}
 use Rattle.refinement.specs.Reference.{Reference, blank, turn, recallLine}
 use Rattle.refinement.specs.Statement.{Lent}
 use Rattle.refinement.specs.Beside.{Always, Finds, follows}

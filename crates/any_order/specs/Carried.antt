@@ -8,7 +8,7 @@ use Rattle.layout.specs.declared.Sizes.{Sizes}
 use Rattle.layout.specs.Layout.{sizesOk, imageLength}
 use Rattle.words.specs.Words.{Bytes}
 use Rattle.meters.specs.Meters.{fixedModuli}
-use Rattle.state.specs.declared.State.{State}
+use Rattle.state.specs.State.{State}
 use Rattle.refinement.specs.Calls.{worldOf}
 use Rattle.refinement.specs.Run.{formattedWorld}
 use Rattle.refinement.specs.Reference.{Reference, blank}

@@ -11,7 +11,7 @@ use Rattle.bounded.proofs.Rows.{rows-first, rows-then}
 use Rattle.bounded.proofs.Tests.{caseOn}
 use Rattle.layout.specs.Layout.{Legal}
 use Rattle.journal.specs.Records.{liveCount}
-use Rattle.state.specs.declared.State.{State}
+use Rattle.state.specs.State.{State}
 use Rattle.state.specs.declared.Op.{Op}
 use Rattle.operations.specs.Operations.{opRows}
 use Rattle.refinement.specs.Calls.{quietRows}

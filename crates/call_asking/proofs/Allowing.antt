@@ -7,7 +7,7 @@ use lib.ListN.{length, replicate}
 use Rattle.bounded.specs.Rows.{Row, refusal}
 use Rattle.layout.specs.declared.Sizes.{Sizes}
 use Rattle.layout.specs.Layout.{imageLength}
-use Rattle.state.specs.declared.State.{State}
+use Rattle.state.specs.State.{State}
 use Rattle.state.specs.declared.Places.{Places}
 use Rattle.state.specs.declared.Op.{Op}
 use Rattle.operations.specs.Operations.{isIdle, opRows}
@@ -15,7 +15,7 @@ use Rattle.validity.specs.Validity.{opFits}
 use Rattle.refinement.specs.Outcome.{Outcome}
 use Rattle.refinement.specs.Calls.{quietRows, asked}
 use Rattle.answers.specs.declared.Answer.{Answer}
-use Rattle.in_place.specs.Through.{askedOf}
+use Rattle.call_asking.specs.Asking.{askedOf}
 use Rattle.op_stores.specs.declared.Until.{Until}
 use Rattle.op_stores.specs.Asks.{Allowed}
 use Rattle.op_stores.specs.Started.{Started}

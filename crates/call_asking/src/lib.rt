@@ -7,7 +7,7 @@ ghost use lib.ListN.{length};
 ghost use Rattle.operations.specs.Operations.{isIdle};
 ghost use Rattle.validity.specs.Validity.{opFits};
 ghost use Rattle.answers.specs.Answers.{numberOf};
-ghost use Rattle.in_place.specs.Through.{askedOf};
+ghost use Rattle.call_asking.specs.Asking.{askedOf};
 ghost use Rattle.op_stores.specs.Started.{Started};
 ghost use Rattle.state_words.specs.Decoded.{decoded};
 use answers::Answer;
@@ -17,7 +17,8 @@ use state::Op;
 // Asks for an operation that fits whichever writer is wide, and goes on with it as far as is said. A call that is turned back changes no word.
 pub fn ask_for(image: &mut [u8], words: &mut [u64; 256], op: Op, until: Until) -> Answer
     requires { ⌜ (isIdle op ≡ false) × ((wide : ℕ) → opFits wide op ≡ true) ⌝ }
-    ensures started { λ r. ⌜ Started r (decoded (now (words .exit))) (now (image .exit)) (askedOf (decoded (now (words .entry))) (length (now (image .entry))) op op) (now (image .entry)) until ⌝ }
+    ensures started { λ r. ⌜ Started r (decoded (now (words .exit))) (now (image .exit))
+        (askedOf (decoded (now (words .entry))) (length (now (image .entry))) op op) (now (image .entry)) until ⌝ }
     ensures words { λ r. ⌜ ((numberOf r ≡ 0 → ⊥) → now (words .exit) ≡ now (words .entry)) ⌝ }
 {
     let z = state_words::sizes_in(words);

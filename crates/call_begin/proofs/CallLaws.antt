@@ -10,7 +10,7 @@ use lib.ListN.{set}
 use Rattle.bounded.specs.Rows.{Row, refusal, Past}
 use Rattle.bounded.proofs.Rows.{none-apply}
 use Rattle.layout.specs.declared.Sizes.{Sizes}
-use Rattle.state.specs.declared.State.{State}
+use Rattle.state.specs.State.{State}
 use Rattle.state.specs.Held.{letGo}
 use Rattle.state.specs.Wide.{wideOf, noWide}
 use Rattle.refinement.specs.Commit.{closedWriter}
@@ -18,8 +18,7 @@ use Rattle.refinement.specs.Outcome.{Outcome, answered}
 use Rattle.refinement.specs.Settled.{withWriters, withWide}
 use Rattle.refinement.proofs.Begun.{beginningWide, aborting}
 use Rattle.answers.specs.declared.Answer.{Answer}
-use Rattle.answers.specs.Answers.{numberOf}
-use Rattle.in_place.specs.Through.{answeredAt}
+use Rattle.answers.specs.Answers.{numberOf, answeredAt}
 use Rattle.state_words.specs.Decoded.{withOpened, withHeld}
 use Rattle.call_begin.specs.First.{firstRows}
 

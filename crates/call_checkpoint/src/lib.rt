@@ -10,7 +10,8 @@ use state::Op;
 
 // Asks for a checkpoint, and goes on with it as far as is said. A call that is turned back changes no word.
 pub fn checkpoint(image: &mut [u8], words: &mut [u64; 256], until: Until) -> Answer
-    ensures started { λ r. ⌜ Started r (decoded (now (words .exit))) (now (image .exit)) (checkpointOf (decoded (now (words .entry))) (now (image .entry))) (now (image .entry)) until ⌝ }
+    ensures started { λ r. ⌜ Started r (decoded (now (words .exit))) (now (image .exit))
+        (checkpointOf (decoded (now (words .entry))) (now (image .entry))) (now (image .entry)) until ⌝ }
     ensures words { λ r. ⌜ ((numberOf r ≡ 0 → ⊥) → now (words .exit) ≡ now (words .entry)) ⌝ }
 {
     call_asking::ask_for(image, words, Op::Checkpoint, until)

@@ -76,7 +76,8 @@ fn commit_narrow(
 ) -> Answer
     requires { ⌜ Allowed z at (decoded (now words)) (Commit w) × (imageLength z ≤ length (now image)) ⌝ }
     ensures answer { λ r. ⌜ r ≡ Taken (needs (decoded (now (words .entry))) (Commit w)) ⌝ }
-    ensures started { λ r. ⌜ Started r (decoded (now (words .exit))) (now (image .exit)) (asked 0 (decoded (now (words .entry))) (Commit w) (replicate 8 0) 0) (now (image .entry)) until ⌝ }
+    ensures started { λ r. ⌜ Started r (decoded (now (words .exit))) (now (image .exit))
+        (asked 0 (decoded (now (words .entry))) (Commit w) (replicate 8 0) 0) (now (image .entry)) until ⌝ }
 {
     let c = state_held::held::held_count(z, words, w);
     let n = needs::commit_needs(c);
@@ -101,7 +102,8 @@ fn commit_narrow(
 
 // Commits, and goes on with it as far as is said. The wide writer's commit is a copying. A call that is turned back changes no word.
 pub fn commit(image: &mut [u8], words: &mut [u64; 256], writer: usize, until: Until) -> Answer
-    ensures started { λ r. ⌜ Started r (decoded (now (words .exit))) (now (image .exit)) (commitOf (decoded (now (words .entry))) (now (image .entry)) writer) (now (image .entry)) until ⌝ }
+    ensures started { λ r. ⌜ Started r (decoded (now (words .exit))) (now (image .exit))
+        (commitOf (decoded (now (words .entry))) (now (image .entry)) writer) (now (image .entry)) until ⌝ }
     ensures words { λ r. ⌜ ((numberOf r ≡ 0 → ⊥) → now (words .exit) ≡ now (words .entry)) ⌝ }
 {
     let z = state_words::sizes_in(words);

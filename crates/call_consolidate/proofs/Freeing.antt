@@ -9,7 +9,7 @@ use Rattle.bounded.specs.Rows.{refusal}
 use Rattle.bounded.proofs.Rows.{none-apply, rows-first, rows-then}
 use Rattle.layout.specs.declared.Sizes.{Sizes}
 use Rattle.layout.specs.Layout.{imageLength}
-use Rattle.state.specs.declared.State.{State}
+use Rattle.state.specs.State.{State}
 use Rattle.state.specs.declared.Places.{Places}
 use Rattle.state.specs.declared.Op.the-variants.{Consolidate}
 use Rattle.refinement.specs.Freeing.{freedSlot, freedPage, slotToFree}

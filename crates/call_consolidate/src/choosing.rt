@@ -20,7 +20,8 @@ fn may_free(words: &[u64; 256], s: usize) -> bool
 // either, the answer is s + 1.
 fn better(words: &[u64; 256], s: usize, best: usize) -> usize
     requires { ⌜ (s < 16) × (best ≤ s) ⌝ }
-    ensures { λ r. ⌜ r ≡ leastTurn (mayFree (decoded (now (words .entry)) .table .page) (decoded (now (words .entry)) .writers .held)) (linesToCopy (decoded (now (words .entry)) .table .bitmap)) s best ⌝ }
+    ensures { λ r. ⌜ r ≡ leastTurn (mayFree (decoded (now (words .entry)) .table .page) (decoded (now (words .entry)) .writers .held))
+        (linesToCopy (decoded (now (words .entry)) .table .bitmap)) s best ⌝ }
 {
     let may = may_free(words, s);
     if best == s {
@@ -40,7 +41,8 @@ fn better(words: &[u64; 256], s: usize, best: usize) -> usize
 // The slot to free, S where there is none.
 pub(crate) fn slot_to_free(z: Sizes, words: &[u64; 256]) -> usize
     requires { ⌜ Legal z ⌝ }
-    ensures { λ r. ⌜ r ≡ slotToFree z (decoded (now (words .entry)) .table .page) (decoded (now (words .entry)) .table .bitmap) (decoded (now (words .entry)) .writers .held) ⌝ }
+    ensures { λ r. ⌜ r ≡ slotToFree z (decoded (now (words .entry)) .table .page) (decoded (now (words .entry)) .table .bitmap)
+        (decoded (now (words .entry)) .writers .held) ⌝ }
 {
     let mut best = 0;
     let mut s = 0;

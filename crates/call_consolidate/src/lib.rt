@@ -12,7 +12,8 @@ use state::Op;
 
 // Asks for the consolidation of a page, and goes on with it as far as is said. A call that is turned back changes no word.
 pub fn consolidate(image: &mut [u8], words: &mut [u64; 256], page: usize, until: Until) -> Answer
-    ensures started { λ r. ⌜ Started r (decoded (now (words .exit))) (now (image .exit)) (consolidateOf (decoded (now (words .entry))) (now (image .entry)) page) (now (image .entry)) until ⌝ }
+    ensures started { λ r. ⌜ Started r (decoded (now (words .exit))) (now (image .exit))
+        (consolidateOf (decoded (now (words .entry))) (now (image .entry)) page) (now (image .entry)) until ⌝ }
     ensures words { λ r. ⌜ ((numberOf r ≡ 0 → ⊥) → now (words .exit) ≡ now (words .entry)) ⌝ }
 {
     let op = Op::Consolidate { page };
@@ -22,7 +23,8 @@ pub fn consolidate(image: &mut [u8], words: &mut [u64; 256], page: usize, until:
 // Asks for the consolidation of the taken slot with no held line that needs the fewest lines copied, and goes on with it as far as is said. A call that is
 // turned back changes no word.
 pub fn free_slot(image: &mut [u8], words: &mut [u64; 256], until: Until) -> Answer
-    ensures started { λ r. ⌜ Started r (decoded (now (words .exit))) (now (image .exit)) (freeOf (decoded (now (words .entry))) (now (image .entry))) (now (image .entry)) until ⌝ }
+    ensures started { λ r. ⌜ Started r (decoded (now (words .exit))) (now (image .exit))
+        (freeOf (decoded (now (words .entry))) (now (image .entry))) (now (image .entry)) until ⌝ }
     ensures words { λ r. ⌜ ((numberOf r ≡ 0 → ⊥) → now (words .exit) ≡ now (words .entry)) ⌝ }
 {
     let z = state_words::sizes_in(words);

@@ -8,7 +8,7 @@ use borrow.Author.Tests.{not-false}
 use Rattle.layout.specs.declared.Sizes.{Sizes}
 use Rattle.layout.specs.Layout.{Legal, frames, imageLength}
 use Rattle.meters.specs.Meters.{firstMeter, ownMeter}
-use Rattle.state.specs.declared.State.{State}
+use Rattle.state.specs.State.{State}
 use Rattle.state.specs.declared.Places.{Places}
 use Rattle.state.specs.declared.Pending.{Pending}
 use Rattle.state.specs.declared.Op.the-variants.{Event}
@@ -22,9 +22,9 @@ use Rattle.answers.specs.declared.Answer.{Answer}
 use Rattle.answers.specs.declared.Answer.the-variants.{Taken}
 use Rattle.answers.specs.Answers.{asAnswer}
 use Rattle.answers.proofs.Answered.{row-known}
-use Rattle.events.specs.declared.Found.{Found}
-use Rattle.events.specs.Found.{EventFound}
-use Rattle.events.proofs.Asked.{asked-facts, line-frame}
+use Rattle.call_event.specs.declared.found.Found.{Found}
+use Rattle.call_event.specs.Found.{EventFound}
+use Rattle.call_event.proofs.Asked.{asked-facts, line-frame}
 use Rattle.state_words.specs.Decoded.{placesOf}
 use Rattle.state_pending.specs.Put.{withPending as put}
 use Rattle.op_stores.specs.declared.Until.{Until}

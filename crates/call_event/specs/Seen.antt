@@ -6,10 +6,10 @@ use Rattle.words.specs.Words.{wordAt}
 use Rattle.image.specs.Lines.{lineBytes}
 use Rattle.meters.specs.Meters.{firstMeter, ownMeter}
 use Rattle.replay.specs.Table.{slotIn}
-use Rattle.state.specs.declared.State.{State}
+use Rattle.state.specs.State.{State}
 use Rattle.state.specs.Held.{heldAt}
 use Rattle.refinement.specs.Frames.{seenAt}
-use Rattle.events.specs.declared.Found.{Found}
+use Rattle.call_event.specs.declared.found.Found.{Found}
 
 -- the frame that line l is read from
 abbrev pub lineFrom : Sizes → State → ℕ → ℕ → ℕ → ℕ
@@ -18,4 +18,10 @@ lineFrom z st s f l = seenAt z (slotIn (st .table) s) (heldAt (st .writers .held
 -- no row, the frames, and the number that the first meter's line holds
 abbrev pub linesSeen : Sizes → State → List ℕ → ℕ → ℕ → ℕ → ℕ → Found
 linesSeen z st img s f k m =
-    record { row = 0; frame = f; first = lineFrom z st s f (firstMeter k m); own = lineFrom z st s f (ownMeter k m); stored = wordAt (lineBytes img z (lineFrom z st s f (firstMeter k m)) (firstMeter k m)) 0 }
+    record {
+      row = 0;
+      frame = f;
+      first = lineFrom z st s f (firstMeter k m);
+      own = lineFrom z st s f (ownMeter k m);
+      stored = wordAt (lineBytes img z (lineFrom z st s f (firstMeter k m)) (firstMeter k m)) 0;
+    }

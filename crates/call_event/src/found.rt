@@ -6,12 +6,21 @@ ghost use lib.ListN.{length};
 ghost use Rattle.bounded.specs.Rows.{refusal};
 ghost use Rattle.layout.specs.Layout.{Legal, frames as framesOf, imageLength};
 ghost use Rattle.meters.specs.Meters.{eventKnown};
-ghost use Rattle.events.specs.Found.{startRows, EventFound};
+ghost use Rattle.call_event.specs.Found.{startRows, EventFound};
 ghost use Rattle.state_words.specs.Decoded.{decoded, placesOf};
 ghost use Rattle.call_event.specs.Seen.{lineFrom, linesSeen};
-use events::Found;
 use layout::Sizes;
 use state::Places;
+
+// The row, 0 where none turns the event back; then the frame of page 0, those that its lines are read from, and the stored number of the meter
+// whose line goes first.
+pub struct Found {
+    pub row: usize,
+    pub frame: usize,
+    pub first: usize,
+    pub own: usize,
+    pub stored: u64,
+}
 
 // A refusal.
 fn turned_back(row: usize) -> Found
@@ -65,7 +74,8 @@ fn lines_seen(
     s: usize,
     frame: usize,
 ) -> Found
-    requires { ⌜ Legal z × (eventKnown kind meter ≡ true) × ((l : ℕ) → lineFrom z (decoded (now words)) s frame l < framesOf z) × (imageLength z ≤ length (now image)) ⌝ }
+    requires { ⌜ Legal z × (eventKnown kind meter ≡ true) × ((l : ℕ) → lineFrom z (decoded (now words)) s frame l < framesOf z)
+        × (imageLength z ≤ length (now image)) ⌝ }
     ensures { λ r. ⌜ r ≡ linesSeen z (decoded (now (words .entry))) (now (image .entry)) s frame kind meter ⌝ }
 {
     let l = meters::first_meter(kind, meter);
@@ -110,7 +120,7 @@ pub fn event_found(
     if meters::amount_bad(moduli, kind, meter, found.stored, amount) {
         return turned_back(21);
     }
-    if operations::no_room(z, at.head, at.tail) {
+    if op_rows::no_room(z, at.head, at.tail) {
         return turned_back(19);
     }
     found

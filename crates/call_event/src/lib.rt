@@ -1,4 +1,5 @@
 // Event, on a state in words.
+mod finished;
 pub mod found;
 
 ghost use mathlib.Core.Path.{_≡_};
@@ -11,7 +12,8 @@ use op_stores::Until;
 use state::Op;
 use state::Pending;
 
-// Asks for event `kind`: 1 cash in, 2 cash out, 3 bet, 4 won, 5 a count of the meter; and goes on with it as far as is said. It is lent the moduli, and does not
+// Asks for event `kind`: 1 cash in, 2 cash out, 3 bet, 4 won, 5 a count of the meter; and goes on with it as far as is said. It is lent the moduli,
+// and does not
 // rely on its caller having checked anything. A call that is turned back changes no word.
 pub fn event(
     image: &mut [u8],
@@ -22,7 +24,8 @@ pub fn event(
     moduli: &[u64],
     until: Until,
 ) -> Answer
-    ensures started { λ r. ⌜ Started r (decoded (now (words .exit))) (now (image .exit)) (eventOf (decoded (now (words .entry))) (now (image .entry)) (now (moduli .entry)) kind meter amount) (now (image .entry)) until ⌝ }
+    ensures started { λ r. ⌜ Started r (decoded (now (words .exit))) (now (image .exit))
+        (eventOf (decoded (now (words .entry))) (now (image .entry)) (now (moduli .entry)) kind meter amount) (now (image .entry)) until ⌝ }
     ensures words { λ r. ⌜ ((numberOf r ≡ 0 → ⊥) → now (words .exit) ≡ now (words .entry)) ⌝ }
 {
     let z = state_words::sizes_in(words);
@@ -33,8 +36,8 @@ pub fn event(
     }
     let v = meters::first_number(moduli, kind, meter, found.stored, amount);
     let l = meters::first_meter(kind, meter);
-    let line = events::numbered_line(image, z, found.first, l, v);
-    let second = events::second_line(image, z, found.own, kind, meter, amount, moduli);
+    let line = finished::numbered_line(image, z, found.first, l, v);
+    let second = finished::second_line(image, z, found.own, kind, meter, amount, moduli);
     let op = Op::Event {
         kind,
         meter,

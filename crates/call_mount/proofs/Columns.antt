@@ -10,7 +10,7 @@ use Rattle.bounded.proofs.Tab.{filled-none, filled-turn, length-filled, getD-fi
 use Rattle.journal.specs.declared.Slot.{Slot}
 use Rattle.replay.specs.declared.Table.{Table}
 use Rattle.replay.specs.Table.{slotIn, withSlot, withLast}
-use Rattle.state.specs.declared.State.{State}
+use Rattle.state.specs.State.{State}
 use Rattle.state.specs.Wide.{wideOf}
 use Rattle.state_words.specs.Decoded.{start, size, part, decoded, withTable, withWide}
 

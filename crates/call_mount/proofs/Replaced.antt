@@ -6,7 +6,7 @@ use mathlib.Core.Path.{_≡_, refl, sym, ap, _∙_}
 use borrow.Author.Tests.{ne-eqb}
 use Rattle.mount.specs.declared.Mounted.{Mounted}
 use Rattle.mount.specs.Mount.{mountOf}
-use Rattle.state.specs.declared.State.{State}
+use Rattle.state.specs.State.{State}
 use Rattle.state.specs.Wide.{wideOf}
 use Rattle.operations.specs.Operations.{isIdle}
 use Rattle.validity.specs.Validity.{stateOk}
@@ -15,10 +15,9 @@ use Rattle.refinement.specs.Mount.{quietState, copying, noState, mountedState}
 use Rattle.refinement.proofs.CallMounted.{mounted-valid}
 use Rattle.answers.specs.declared.Answer.{Answer}
 use Rattle.answers.specs.declared.Answer.the-variants.{Taken}
-use Rattle.answers.specs.Answers.{numberOf, storesOf, asAnswer}
+use Rattle.answers.specs.Answers.{numberOf, storesOf, asAnswer, answeredAt}
 use Rattle.answers.proofs.Answered.{as-known}
-use Rattle.in_place.specs.Through.{answeredAt}
-use Rattle.mounting.proofs.Found.{mounted-copying}
+use Rattle.call_mount.proofs.Found.{mounted-copying}
 use Rattle.state_words.specs.Decoded.{withWide}
 use Rattle.state_pending.specs.Put.{withPending}
 use Rattle.call_mount.specs.Replacing.{replacing}

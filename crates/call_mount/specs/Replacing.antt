@@ -1,5 +1,5 @@
 -- What comes of a call that returns a state, on the words of another: they are that state where the call is taken, and a refused one changes none.
-use Rattle.state.specs.declared.State.{State}
+use Rattle.state.specs.State.{State}
 use Rattle.refinement.specs.Outcome.{Outcome, answered}
 
 abbrev pub replacing : State → Outcome → Outcome

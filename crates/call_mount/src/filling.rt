@@ -12,6 +12,7 @@ use replay::Table;
 use state::Op;
 use state::Pending;
 use state_words::HEAD;
+use state_words::NO_WRITER;
 use state_words::PREPARED;
 use state_words::SIZES;
 use state_words::TAIL;
@@ -41,8 +42,8 @@ pub fn put_quiet(words: &mut [u64; 256], z: Sizes, head: usize, tail: usize, t: 
     words[SIZES + 3] = z.entries as u64;
     words[HEAD] = head as u64;
     words[TAIL] = tail as u64;
-    words[PREPARED] = 4;
-    words[WIDE] = 4;
+    words[PREPARED] = NO_WRITER;
+    words[WIDE] = NO_WRITER;
     put_table(words, t);
 }
 
@@ -61,7 +62,8 @@ fn put_entries(words: &mut [u64; 256], n: usize, keys: [u64; 64])
 
 // The copying of n entries is pending, the store of their count made.
 pub fn put_copying(words: &mut [u64; 256], n: usize, keys: [u64; 64])
-    requires { ⌜ (isIdle (decoded (now words) .pending .op) ≡ true) × (stateOk (withPending (withWide (decoded (now words)) (wideOf 4 n keys)) copying) ≡ true) ⌝ }
+    requires { ⌜ (isIdle (decoded (now words) .pending .op) ≡ true) × (stateOk
+        (withPending (withWide (decoded (now words)) (wideOf 4 n keys)) copying) ≡ true) ⌝ }
     ensures { λ _. ⌜ decoded (now (words .exit)) ≡ withPending (withWide (decoded (now (words .entry))) (wideOf 4 n keys)) copying ⌝ }
 {
     put_entries(words, n, keys);

@@ -1,8 +1,7 @@
 // Withdraw: the transaction goes on. No stores.
 ghost use mathlib.Core.Path.{_≡_};
-ghost use Rattle.answers.specs.Answers.{numberOf};
+ghost use Rattle.answers.specs.Answers.{numberOf, answeredAt};
 ghost use Rattle.refinement.specs.Calls.{withdrawOf};
-ghost use Rattle.in_place.specs.Through.{answeredAt};
 ghost use Rattle.state_words.specs.Decoded.{decoded};
 use answers::Answer;
 use state::Op;

@@ -14,7 +14,8 @@ pub fn read(
     line: usize,
     target: &mut [u8],
 ) -> Answer
-    ensures number { λ r. ⌜ (numberOf r ≡ readRow (decoded (now (words .entry))) (now (image .entry)) writer page line (now (target .entry))) × (storesOf r ≡ 0) ⌝ }
+    ensures number { λ r. ⌜ (numberOf r ≡ readRow (decoded (now (words .entry))) (now (image .entry)) writer page line (now (target .entry)))
+        × (storesOf r ≡ 0) ⌝ }
     ensures bytes { λ _. ⌜ now (target .exit) ≡ readBytes (decoded (now (words .entry))) (now (image .entry)) writer page line (now (target .entry)) ⌝ }
 {
     let z = state_words::sizes_in(words);

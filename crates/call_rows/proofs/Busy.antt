@@ -6,7 +6,7 @@ use lib.Dec.{ltb, eqb}
 use borrow.Author.Tests.{eq-eqb, ne-eqb}
 use Rattle.bounded.specs.Rows.{refusal}
 use Rattle.layout.specs.Layout.{imageLength}
-use Rattle.state.specs.declared.State.{State}
+use Rattle.state.specs.State.{State}
 use Rattle.operations.specs.Operations.{isIdle}
 use Rattle.validity.specs.Validity.{stateOk}
 use Rattle.refinement.specs.Calls.{quietRows, busyRows}

@@ -17,7 +17,7 @@ pub fn free_row(z: Sizes, at: Places, s: usize) -> usize
     if z.slots <= s {
         return 22;
     }
-    if operations::no_room(z, at.head, at.tail) {
+    if op_rows::no_room(z, at.head, at.tail) {
         return 19;
     }
     0

@@ -1,2 +1,3 @@
 mod OneStep
+pub mod Told
 mod Running

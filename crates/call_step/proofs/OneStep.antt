@@ -8,7 +8,7 @@ use lib.Dec.{eqb}
 use lib.ListN.{length}
 use borrow.Author.Tests.{eqb-true}
 use Rattle.bounded.proofs.Tests.{caseOn}
-use Rattle.state.specs.declared.State.{State}
+use Rattle.state.specs.State.{State}
 use Rattle.refinement.specs.Stores.{stepped, steppedBy, left}
 use Rattle.refinement.specs.Calls.{stepRow, worldOf, stepOf, stepBytes, runOf, runBytes}
 use Rattle.refinement.proofs.Steps.{step-run}

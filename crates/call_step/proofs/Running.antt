@@ -11,8 +11,9 @@ use Rattle.bounded.specs.Rows.{refusal}
 use Rattle.bounded.proofs.Tests.{row-no}
 use Rattle.layout.specs.declared.Sizes.{Sizes}
 use Rattle.layout.specs.Layout.{imageLength}
-use Rattle.state.specs.declared.State.{State}
+use Rattle.state.specs.State.{State}
 use Rattle.state.specs.declared.Places.{Places}
+use Rattle.operations.specs.Operations.{needs}
 use Rattle.refinement.specs.Stores.{storeAt, storesMade, stateAfter, left}
 use Rattle.refinement.specs.Calls.{busyRows, stepRows, stepRow, worldOf, runOf, runBytes}
 use Rattle.refinement.proofs.Going.{going}
@@ -20,14 +21,15 @@ use Rattle.refinement.proofs.Quiet.{Busy, busy}
 use Rattle.refinement.proofs.Steps.{run-image, run-after}
 use Rattle.answers.specs.declared.Answer.{Answer}
 use Rattle.answers.specs.declared.Answer.the-variants.{Taken}
-use Rattle.answers.specs.Answers.{asAnswer}
+use Rattle.answers.specs.Answers.{asAnswer, answeredAt}
 use Rattle.answers.proofs.Answered.{row-known, refused-known}
-use Rattle.in_place.specs.Through.{answeredAt}
 use Rattle.state_words.specs.Decoded.{placesOf}
 use Rattle.op_writer.specs.Served.{Served}
+use Rattle.any_order.specs.AnyOrder.{toFence}
 use Rattle.op_stores.specs.Started.{beforeFence}
 use Rattle.call_step.specs.declared.telling.NextStore.{NextStore}
-use Rattle.call_step.specs.NextStore.{nextStoreOf}
+use Rattle.call_step.specs.NextStore.{beforeDeciding, nextStoreOf}
+use Rattle.call_step.proofs.Told.{decides-now, stops-where-it-decides}
 
 module _ (st : State) (img : List ℕ) (row : ℕ) (e : row ≡ refusal (busyRows st (length img))) where
   pub run-refused : (row ≡ 0 → ⊥) → (k : ℕ) (a : Answer) → a ≡ asAnswer row 0 → (answeredAt a st ≡ runOf st img k) × (img ≡ runBytes st img k)
@@ -64,4 +66,8 @@ module _ (st : State) (img : List ℕ) (row : ℕ) (e : row ≡ refusal (busyRow
 
     pub next-told : (at before : ℕ) → at ≡ storeAt st img (st .pending .op) (st .pending .made) → before ≡ beforeFence st
         → _≡_ {A = NextStore} (record { answer = Taken 0; at = at; decides = eqb before 0; before = before }) (nextStoreOf st img)
-    next-told at before p q = rw (taken, p, q)
+    next-told at before p q =
+        let low = going st (pends .ok) (pends .pends) .made-low in
+        let same : before ≡ beforeDeciding st = q ∙ stops-where-it-decides st low in
+        let d : eqb before 0 ≡ toFence st (st .pending .op) = decides-now st (needs st (st .pending .op)) refl low before same in
+        rw (taken, p, ← d, ← same)

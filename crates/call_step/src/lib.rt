@@ -3,8 +3,7 @@ mod telling;
 
 ghost use mathlib.Core.Path.{_≡_};
 ghost use Rattle.refinement.specs.Calls.{stepOf, stepBytes, runOf, runBytes};
-ghost use Rattle.answers.specs.Answers.{numberOf};
-ghost use Rattle.in_place.specs.Through.{answeredAt};
+ghost use Rattle.answers.specs.Answers.{numberOf, answeredAt};
 ghost use Rattle.state_words.specs.Decoded.{decoded};
 use answers::Answer;
 pub use telling::NextStore;

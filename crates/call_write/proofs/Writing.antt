@@ -8,7 +8,7 @@ use borrow.Author.Tests.{not-false}
 use Rattle.bounded.proofs.Tests.{row-keeps}
 use Rattle.layout.specs.declared.Sizes.{Sizes}
 use Rattle.image.specs.Lines.{merged, lineWords}
-use Rattle.state.specs.declared.State.{State}
+use Rattle.state.specs.State.{State}
 use Rattle.state.specs.declared.Places.{Places}
 use Rattle.state.specs.declared.Pending.{Pending}
 use Rattle.state.specs.declared.Op.{Op}
@@ -22,9 +22,9 @@ use Rattle.answers.specs.declared.Answer.{Answer}
 use Rattle.answers.specs.declared.Answer.the-variants.{Taken}
 use Rattle.answers.specs.Answers.{asAnswer}
 use Rattle.asked.proofs.Asked.{pendingFrom}
-use Rattle.finding.specs.declared.Found.{Found}
-use Rattle.finding.specs.Finding.{WriteFound, foundLine}
-use Rattle.finding.proofs.Writing.{write-none, write-known, pending-is, op-rows, op-fits, op-busy, op-needs}
+use Rattle.call_write.specs.declared.found.Found.{Found}
+use Rattle.call_write.specs.Found.{WriteFound, foundLine}
+use Rattle.call_write.proofs.Asking.{write-none, write-known, pending-is, op-rows, op-fits, op-busy, op-needs}
 use Rattle.state_words.specs.Decoded.{placesOf}
 use Rattle.state_pending.specs.Put.{withPending as put}
 use Rattle.op_stores.specs.declared.Until.{Until}

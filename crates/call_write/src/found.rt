@@ -1,20 +1,31 @@
 // What a write finds before it is taken: the row that turns it back, or the frames of its page and its line and whether the writer holds the line.
 ghost use mathlib.Core.Path.{_≡_};
 ghost use mathlib.Core.Bool.{false, _&&_};
-ghost use Prim.Native.Nat.{_<_, _≤_};
+ghost use Prim.Native.Nat.{_+_, _<_, _≤_};
 ghost use lib.Dec.{ltb};
 ghost use lib.ListN.{length};
 ghost use Rattle.layout.specs.Layout.{Legal, imageLength};
 ghost use Rattle.masks.specs.Lines.{inMask};
+ghost use Rattle.image.specs.Lines.{merged, mergeChanges, lineWords};
 ghost use Rattle.state.specs.Held.{heldAt};
-ghost use Rattle.finding.specs.Finding.{WriteFound};
+ghost use Rattle.call_write.specs.Found.{WriteFound, SeenLow, foundLine};
 ghost use Rattle.state_words.specs.Decoded.{decoded, placesOf};
 ghost use Rattle.call_write.specs.Finding.{FramesIn, EntryIn};
 use crate::Span;
-use finding::Found;
 use layout::Sizes;
+use lines::Merged;
 use state::Places;
 use state_held::slots::slot_of;
+
+// The row, 0 where none turns the write back; then the page's frame, the one that the line is read from, whether the writer holds the line, and whether it
+// is the wide one. That one holds a line as an entry: it is then `seen`.
+pub struct Found {
+    pub row: usize,
+    pub frame: usize,
+    pub seen: usize,
+    pub held: bool,
+    pub wide: bool,
+}
 
 // A refusal.
 fn turned_back(row: usize) -> Found
@@ -54,18 +65,7 @@ fn frames_found(
 {
     let s = slot_of(z, words, a.page);
     let frame = state_lines::page_frame(image, z, words, a.page, s);
-    let row = op_rows::write_row(
-        z,
-        at,
-        words,
-        writer,
-        a.page,
-        s,
-        a.line,
-        a.offset,
-        a.length,
-        frame,
-    );
+    let row = op_rows::write_row(z, at, words, writer, a, s, frame);
     if row != 0 {
         return turned_back(row);
     }
@@ -87,7 +87,7 @@ fn entry_found(image: &[u8], z: Sizes, at: Places, words: &[u64; 256], a: Span) 
 {
     let s = slot_of(z, words, a.page);
     let frame = state_lines::page_frame(image, z, words, a.page, s);
-    let row = op_rows::log_row(z, at, words, a.page, s, a.line, a.offset, a.length, frame);
+    let row = op_rows::log_row(z, at, words, a, s, frame);
     if row != 0 {
         return turned_back(row);
     }
@@ -122,7 +122,8 @@ pub fn write_found(
     data: &[u8],
 ) -> Found
     requires { ⌜ (z ≡ decoded (now words) .sizes) × (at ≡ placesOf (decoded (now words))) ⌝ }
-    ensures { λ r. ⌜ WriteFound (decoded (now (words .entry))) (now (image .entry)) writer (a .page) (a .line) (a .offset) (a .length) (now («data» .entry)) r ⌝ }
+    ensures { λ r. ⌜ WriteFound (decoded (now (words .entry))) (now (image .entry)) writer (a .page) (a .line) (a .offset)
+        (a .length) (now («data» .entry)) r ⌝ }
 {
     let row = call_rows::quiet_row(z, at, words, image.len());
     if row != 0 {
@@ -135,4 +136,24 @@ pub fn write_found(
         return entry_found(image, z, at, words, a);
     }
     frames_found(image, z, at, words, writer, a)
+}
+
+// The line that was found, with the first n bytes of data laid over it from offset on.
+pub fn merged(
+    image: &[u8],
+    z: Sizes,
+    found: Found,
+    line: usize,
+    offset: usize,
+    data: &[u8],
+    n: usize,
+) -> Merged
+    requires { ⌜ Legal z × SeenLow z found × (line < 64) × (imageLength z ≤ length (now image)) × (offset + n ≤ 64) × (n ≤ length (now «data»)) ⌝ }
+    ensures words { λ r. ⌜ r .words ≡ lineWords (merged (foundLine (now (image .entry)) z found line) offset n (now («data» .entry))) ⌝ }
+    ensures changed { λ r. ⌜ r .changed ≡ mergeChanges (foundLine (now (image .entry)) z found line) offset n (now («data» .entry)) ⌝ }
+{
+    if found.wide & found.held {
+        return entry_lines::merged_entry(image, z, found.seen, offset, data, n);
+    }
+    lines::merged_line(image, z, found.seen, line, offset, data, n)
 }

@@ -15,18 +15,11 @@ ghost use Rattle.op_stores.specs.Asks.{Asks};
 ghost use Rattle.op_stores.specs.Started.{budget, Started};
 use answers::Answer;
 use layout::Sizes;
+pub use op_rows::Span;
 use op_stores::Until;
 use state::Op;
 use state::Pending;
 use state::Places;
-
-// Where a write goes: a page, a line of it, and the bytes of that line.
-pub struct Span {
-    pub page: usize,
-    pub line: usize,
-    pub offset: usize,
-    pub length: usize,
-}
 
 // A write with its finished line and its page's frame, none of its stores made: a narrow writer's, and the wide one's.
 fn pending(op: Op, line: [u64; 8], frame: usize) -> Pending
@@ -78,8 +71,10 @@ fn put_line(
 ) -> Answer
     requires { ⌜ Asks z at (decoded (now words)) (now image) p × (p .op ≡ Write writer (a .page) (a .line) (a .offset) (a .length)) ⌝ }
     ensures answer { λ r. ⌜ r ≡ Taken (needs (decoded (now (words .entry))) (p .op)) ⌝ }
-    ensures image { λ _. ⌜ now (image .exit) ≡ storesMade (withPending (decoded (now (words .entry))) p) (budget until (withPending (decoded (now (words .entry))) p)) (now (image .entry)) ⌝ }
-    ensures words { λ _. ⌜ decoded (now (words .exit)) ≡ stateAfter (withPending (decoded (now (words .entry))) p) (budget until (withPending (decoded (now (words .entry))) p)) ⌝ }
+    ensures image { λ _. ⌜ now (image .exit) ≡ storesMade (withPending (decoded (now (words .entry))) p)
+        (budget until (withPending (decoded (now (words .entry))) p)) (now (image .entry)) ⌝ }
+    ensures words { λ _. ⌜ decoded (now (words .exit)) ≡ stateAfter (withPending (decoded (now (words .entry))) p)
+        (budget until (withPending (decoded (now (words .entry))) p)) ⌝ }
 {
     let op = p.op;
     let line = p.line;
@@ -103,7 +98,9 @@ pub fn write(
     data: &[u8],
     until: Until,
 ) -> Answer
-    ensures started { λ r. ⌜ Started r (decoded (now (words .exit))) (now (image .exit)) (writeOf (decoded (now (words .entry))) (now (image .entry)) writer (span .page) (span .line) (span .offset) (span .length) (now («data» .entry))) (now (image .entry)) until ⌝ }
+    ensures started { λ r. ⌜ Started r (decoded (now (words .exit))) (now (image .exit))
+        (writeOf (decoded (now (words .entry))) (now (image .entry)) writer (span .page) (span .line) (span .offset)
+        (span .length) (now («data» .entry))) (now (image .entry)) until ⌝ }
     ensures words { λ r. ⌜ ((numberOf r ≡ 0 → ⊥) → now (words .exit) ≡ now (words .entry)) ⌝ }
 {
     let z = state_words::sizes_in(words);
@@ -112,7 +109,7 @@ pub fn write(
     if found.row != 0 {
         return answers::answer_of(found.row, 0);
     }
-    let merged = finding::merged(image, z, found, span.line, span.offset, data, span.length);
+    let merged = found::merged(image, z, found, span.line, span.offset, data, span.length);
     if found.held & !merged.changed {
         return Answer::Taken(0);
     }

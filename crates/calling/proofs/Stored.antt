@@ -2,7 +2,11 @@
 use Prim.Native.Nat.{ℕ}
 use mathlib.Core.Path.{_≡_, refl}
 use Rattle.answers.specs.Answers.{storesOf}
-use Rattle.answers.specs.declared.Answer.the-variants.{Taken, ImageTooShort, UnknownLayout, SizesOutOfRange, BufferTooShort, BadPositions, BadRecord, BadSlots, BadState, OperationPending, NothingPending, BadArgument, WriterOpen, WriterNotOpen, LineHeld, NoFreeSlot, BadFrame, PageWithoutSlot, PageHeld, JournalFull, UnknownEvent, AmountOutOfRange, NoSlotToFree, TransactionPrepared, WriterNotPrepared, BadTableLine, ModulusOutOfRange, MeterNotBelow, NoWideRounds, OtherOpen, EntriesUsed}
+use Rattle.answers.specs.declared.Answer.the-variants.{Taken, ImageTooShort, UnknownLayout, SizesOutOfRange, BufferTooShort, BadPositions, BadRecord}
+use Rattle.answers.specs.declared.Answer.the-variants.{BadSlots, BadState, OperationPending, NothingPending, BadArgument, WriterOpen, WriterNotOpen}
+use Rattle.answers.specs.declared.Answer.the-variants.{LineHeld, NoFreeSlot, BadFrame, PageWithoutSlot, PageHeld, JournalFull, UnknownEvent}
+use Rattle.answers.specs.declared.Answer.the-variants.{AmountOutOfRange, NoSlotToFree, TransactionPrepared, WriterNotPrepared, BadTableLine}
+use Rattle.answers.specs.declared.Answer.the-variants.{ModulusOutOfRange, MeterNotBelow, NoWideRounds, OtherOpen, EntriesUsed}
 use Rattle.answers.specs.declared.Answer.{Answer}
 
 -- an answer that is not taken has none

@@ -6,7 +6,7 @@ use lib.Dec.{leb}
 use lib.ListN.{getD}
 use Rattle.bounded.specs.Below.{allBelow}
 use Rattle.bounded.specs.Tab.{tab}
-use Rattle.state.specs.declared.State.{State}
+use Rattle.state.specs.State.{State}
 use Rattle.refinement.specs.Outcome.{Outcome}
 use Rattle.refinement.specs.Calls.{writeOf}
 

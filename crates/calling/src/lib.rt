@@ -4,11 +4,12 @@ ghost use mathlib.Core.Bool.{true};
 ghost use Prim.Native.Nat.{_≤_};
 ghost use lib.ListN.{replicate};
 ghost use Rattle.bounded.specs.Tab.{filled};
-ghost use Rattle.answers.specs.Answers.{storesOf, outcomeOf};
+ghost use Rattle.answers.specs.Answers.{numberOf, storesOf, answeredAt};
+ghost use Rattle.state_words.specs.Decoded.{decoded};
 ghost use Rattle.calling.specs.WriteLine.{datum, areBytes, hasData, writeBy};
 use answers::Answer;
-use answers::Done;
-use state::State;
+use call_write::Span;
+use op_stores::Until;
 
 // Whether the n numbers after the first five are bytes.
 fn all_bytes(numbers: &[u64; 69], n: usize) -> bool
@@ -52,23 +53,24 @@ fn data_of(numbers: &[u64; 69], n: usize) -> [u8; 64]
     bytes
 }
 
-// The write that a line's numbers ask for, its stores not yet made.
-pub fn write(st: State, image: &[u8], count: usize, numbers: &[u64; 69]) -> Done
+// The write that a line's numbers ask for: its stores are pending, and none is made. A call that is turned back changes no word.
+pub fn write(image: &mut [u8], words: &mut [u64; 256], count: usize, numbers: &[u64; 69]) -> Answer
     requires { ⌜ hasData count (now numbers) ≡ true ⌝ }
-    ensures { λ r. ⌜ outcomeOf r ≡ writeBy st (now (image .entry)) count (now (numbers .entry)) ⌝ }
+    ensures state { λ r. ⌜ answeredAt r (decoded (now (words .exit)))
+        ≡ writeBy (decoded (now (words .entry))) (now (image .entry)) count (now (numbers .entry)) ⌝ }
+    ensures bytes { λ _. ⌜ now (image .exit) ≡ now (image .entry) ⌝ }
+    ensures words { λ r. ⌜ ((numberOf r ≡ 0 → ⊥) → now (words .exit) ≡ now (words .entry)) ⌝ }
 {
     let n = count - 5;
     let bytes = data_of(numbers, n);
-    transactions::write(
-        st,
-        image,
-        numbers[0] as usize,
-        numbers[1] as usize,
-        numbers[2] as usize,
-        numbers[3] as usize,
-        numbers[4] as usize,
-        &bytes[..n],
-    )
+    let span = Span {
+        page: numbers[1] as usize,
+        line: numbers[2] as usize,
+        offset: numbers[3] as usize,
+        length: numbers[4] as usize,
+    };
+    let writer = numbers[0] as usize;
+    call_write::write(image, words, writer, span, &bytes[..n], Until::Asked)
 }
 
 // The stores that a taken call needs or made.

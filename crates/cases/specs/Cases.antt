@@ -9,7 +9,7 @@ use Rattle.layout.specs.declared.Sizes.{Sizes}
 use Rattle.words.specs.Words.{word, store}
 use Rattle.journal.specs.Records.{liveCount}
 use Rattle.replay.specs.Table.{emptyTable, withSlot}
-use Rattle.state.specs.declared.State.{State}
+use Rattle.state.specs.State.{State}
 use Rattle.refinement.specs.Stores.{World, storeAt}
 use Rattle.refinement.specs.Mount.{quietState, formatCall, mountCall}
 use Rattle.refinement.specs.Run.{Call, Result, mount, begin, write, commit, consolidate, checkpoint, run, exec, formattedWorld, after}

@@ -7,7 +7,7 @@ use native.Mathlib.Omega.{arith}
 use borrow.Author.Tests.{lt-ltb, le-ltb}
 use Rattle.bounded.proofs.Tests.{caseOn}
 use Rattle.image.specs.Lines.{lineBytes}
-use Rattle.state.specs.declared.State.{State}
+use Rattle.state.specs.State.{State}
 use Rattle.state.specs.Wide.{isWide, entryFor, hasEntry}
 use Rattle.refinement.specs.Frames.{pageFrame, seenFrame}
 use Rattle.refinement.specs.Wide.{entryBytes}

@@ -1,33 +1,13 @@
-// The lines of entries: found, read, and merged with data.
+// The lines of entries: read, and merged with data.
 ghost use mathlib.Core.Path.{_≡_};
 ghost use Prim.Native.Nat.{_+_, _*_, _≤_, _<_};
 ghost use lib.ListN.{length};
 ghost use Rattle.words.specs.Words.{over};
 ghost use Rattle.layout.specs.Layout.{Legal, entryWord, imageLength};
 ghost use Rattle.image.specs.Lines.{merged, mergeChanges, lineWords};
-ghost use Rattle.state.specs.Wide.{wideOf};
 ghost use Rattle.refinement.specs.Wide.{entryBytes};
-ghost use Rattle.entry_lines.specs.Own.{ownEntry};
 use layout::Sizes;
 use lines::Merged;
-
-// The entry of a writer's line, which a wide writer alone has; the count of entries where it has none.
-pub fn own_entry(
-    wide: usize,
-    count: usize,
-    keys: &[u64; 64],
-    writer: usize,
-    page: usize,
-    line: usize,
-) -> usize
-    requires { ⌜ (count ≤ 64) × (page < 1024) × (line < 64) ⌝ }
-    ensures { λ r. ⌜ r ≡ ownEntry (wideOf wide count (now (keys .entry))) writer page line ⌝ }
-{
-    if wide != writer {
-        return count;
-    }
-    entries::find_entry(keys, count, (64 * page + line) as u64)
-}
 
 // The byte at which the line of entry e starts, after the entry's key.
 fn entry_at(z: Sizes, e: usize) -> usize

@@ -1,53 +1,59 @@
 -- What a call that a line asks for came to, and the stores that it needs.
 use Prim.Native.Nat.{ℕ}
-use mathlib.Core.Bool.{false}
+use mathlib.Core.Bool.{true, false}
 use mathlib.Core.List.{List}
-use mathlib.Core.Path.{_≡_, sym, ap, subst, _∙_}
+use mathlib.Core.Path.{_≡_, sym, ap₂, _∙_}
 use lib.Dec.{eqb}
 use borrow.Author.Tests.{ne-eqb}
-use Rattle.state.specs.declared.State.{State}
-use Rattle.answers.specs.declared.Done.{Done}
+use Rattle.bounded.proofs.Tests.{caseOn}
+use Rattle.mount.specs.Mount.{mountOf}
+use Rattle.state.specs.State.{State}
+use Rattle.answers.specs.declared.Answer.{Answer}
+use Rattle.answers.specs.Answers.{numberOf, storesOf, answeredAt}
 use Rattle.refinement.specs.Outcome.{Outcome}
-use Rattle.answers.specs.Answers.{numberOf, storesOf, outcomeOf}
 use Rattle.refinement.specs.Calls.{worldOf, runOf, runBytes}
 use Rattle.refinement.specs.Mount.{mountCall}
-use Rattle.refinement.specs.Run.{result, replaces, exec, mount}
+use Rattle.refinement.specs.Run.{result, exec, mount}
+use Rattle.state_words.specs.Decoded.{decoded}
+use Rattle.call_mount.specs.Replacing.{replacing}
+use Rattle.op_stores.specs.declared.Until.the-variants.{Asked}
+use Rattle.op_stores.specs.Started.{Started}
+use Rattle.calling.proofs.Asked.{asked-told}
 use Rattle.executing.specs.declared.Cut.{Cut}
 use Rattle.executing.specs.declared.Cut.the-variants.{Unset}
 use Rattle.printing.specs.declared.Output.the-variants.{Answered}
 use Rattle.executing.specs.declared.Turned.{Turned}
-use Rattle.executing.specs.Called.{ready, budget, afterCut, finished}
+use Rattle.executing.specs.Called.{budget, afterCut, worldAt, resultAt, turnAt, finished}
 
--- a call that came to what is defined
-pub outcome-told : (d : Done) (o : Outcome) (img : List ℕ) → outcomeOf d ≡ o → result (outcomeOf d) img ≡ result o img
-outcome-told d o img e = ap (λ (x : Outcome). result x img) e
+-- a call on words that changes no byte
+pub call-told : (a : Answer) (words img : List ℕ) (o : Outcome) (before : List ℕ) → answeredAt a (decoded words) ≡ o → img ≡ before
+    → resultAt a words img ≡ result o before
+call-told a words img o before e b = ap₂ result e b
 
--- a mount, of which d came
-module _ (d : Done) (st : State) (img : List ℕ) (n : ℕ) (e : outcomeOf d ≡ mountCall img) (h : n ≡ numberOf (d .answer)) where
-  pub mount-taken : n ≡ 0 → result (outcomeOf d) img ≡ exec mount (worldOf st img)
-  unfolding exec
-  mount-taken z =
-      let t : numberOf (d .answer) ≡ 0 = sym h ∙ z in
-      subst (λ (o : Outcome). result (outcomeOf d) img ≡ replaces o (worldOf st img)) e (rw t)
+-- one that is asked for and not gone on with
+pub ask-told : (a : Answer) (words img : List ℕ) (o : Outcome) (before : List ℕ) → Started a (decoded words) img o before Asked
+    → resultAt a words img ≡ result o before
+ask-told a words img o before h = let e = asked-told a (decoded words) img o before h in call-told a words img o before (e .0) (e .1)
 
-  pub mount-refused : (n ≡ 0 → ⊥) → result (outcomeOf (record { answer = d .answer; state = st })) img ≡ exec mount (worldOf st img)
-  unfolding exec
-  mount-refused z =
-      let t : eqb (numberOf (d .answer)) 0 ≡ false = ne-eqb (numberOf (d .answer)) 0 (λ q. z (h ∙ q)) in
-      subst (λ (o : Outcome). result (outcomeOf (record { answer = d .answer; state = st })) img ≡ replaces o (worldOf st img)) e (rw t)
+-- a mount on words is a mount of the lists
+pub mount-told : (st : State) (img : List ℕ) → result (replacing st (mountCall img)) img ≡ exec mount (worldOf st img)
+unfolding exec mountCall
+mount-told st img = caseOn (eqb (mountOf img .row) 0) (λ t. rw t) (λ t. rw t)
 
--- a call, of which d came, that needs stores or none
-module _ (d : Done) (cut : Cut) (letter number needed : ℕ) (img : List ℕ) (hn : number ≡ numberOf (d .answer)) (hs : needed ≡ storesOf (d .answer)) (r : Turned) where
-  pub finish-none : needed ≡ 0 → r ≡ record { machine = ready (d .state) cut; output = Answered letter number 0 }
-      → (r ≡ finished letter cut (result (outcomeOf d) img) .turned) × (img ≡ finished letter cut (result (outcomeOf d) img) .image)
+-- a call with this answer, which needs stores or none, on these words and bytes
+module _ (a : Answer) (words img : List ℕ) (cut : Cut) (letter number needed : ℕ) (hn : number ≡ numberOf a) (hs : needed ≡ storesOf a) (r : Turned) where
+  pub finish-none : needed ≡ 0 → r ≡ record { mode = record { formatted = true; cut = cut }; output = Answered letter number 0 }
+      → turnAt r words img ≡ finished letter cut (resultAt a words img)
   unfolding finished
-  finish-none z e = let t : storesOf (d .answer) ≡ 0 = sym hs ∙ z in (rw (t, ← hn) e, rw t)
+  finish-none z e = let t : storesOf a ≡ 0 = sym hs ∙ z in rw (e, t, ← hn)
 
-  pub finish-made : (needed ≡ 0 → ⊥) → (k made : ℕ) (x : Done) (after : List ℕ) (next : State) → k ≡ budget cut needed
-      → outcomeOf x ≡ runOf (d .state) img k → after ≡ runBytes (d .state) img k → made ≡ storesOf (x .answer) → next ≡ afterCut cut (worldOf (x .state) after)
-      → r ≡ record { machine = ready next Unset; output = Answered letter number made }
-      → (r ≡ finished letter cut (result (outcomeOf d) img) .turned) × (after ≡ finished letter cut (result (outcomeOf d) img) .image)
+  -- those made, with the answer of their run; then what a K has follow
+  pub finish-made : (needed ≡ 0 → ⊥) → (k made : ℕ) (b : Answer) (words′ img′ words″ : List ℕ) → k ≡ budget cut needed
+      → answeredAt b (decoded words′) ≡ runOf (decoded words) img k → img′ ≡ runBytes (decoded words) img k → made ≡ storesOf b
+      → decoded words″ ≡ afterCut cut (worldAt words′ img′)
+      → r ≡ record { mode = record { formatted = true; cut = Unset }; output = Answered letter number made }
+      → turnAt r words″ img′ ≡ finished letter cut (resultAt a words img)
   unfolding finished exec
-  finish-made n k made x after next hk ho hb hm ha e =
-      let t : eqb (storesOf (d .answer)) 0 ≡ false = ne-eqb (storesOf (d .answer)) 0 (λ q. n (hs ∙ q)) in
-      (rw (t, ← hs, ← hk, ← ho, ← hb, ← hn, ← ha, ← hm) e, rw (t, ← hs, ← hk) hb)
+  finish-made n k made b words′ img′ words″ hk ho hb hm ha e =
+      let t : eqb (storesOf a) 0 ≡ false = ne-eqb (storesOf a) 0 (λ q. n (hs ∙ q)) in
+      rw (e, t, ← hs, ← hk, ← ho, ← hb, ← hn, ha, hm)

@@ -1,11 +1,15 @@
 -- The call that a line asks for, and what it comes to: one that needs stores makes them, all or under a K at most k, and then mounts.
 use Prim.Native.Nat.{ℕ}
-use mathlib.Core.Bool.{true, cond}
+use mathlib.Core.Bool.{Bool, true, cond}
 use mathlib.Core.List.{List}
 use lib.Dec.{eqb}
-use Rattle.state.specs.declared.State.{State}
+use Rattle.state.specs.State.{State}
 use Rattle.refinement.specs.Stores.{World}
-use Rattle.refinement.specs.Run.{Call, Result, mount, checkpoint, begin, abort, commit, consolidate, run, write, exec}
+use Rattle.refinement.specs.Calls.{worldOf}
+use Rattle.refinement.specs.Run.{Call, Result, mount, checkpoint, begin, abort, commit, consolidate, run, write, result, exec}
+use Rattle.answers.specs.declared.Answer.{Answer}
+use Rattle.answers.specs.Answers.{answeredAt}
+use Rattle.state_words.specs.Decoded.{decoded}
 use Rattle.calling.specs.WriteLine.{num, dataOf}
 use Rattle.forms.specs.declared.Ask.{Ask}
 use Rattle.forms.specs.declared.Ask.the-variants.{Begin, Commit, Abort, Write, Consolidate, Checkpoint, Mount}
@@ -13,7 +17,7 @@ use Rattle.printing.specs.declared.Output.{Output}
 use Rattle.printing.specs.declared.Output.the-variants.{Answered}
 use Rattle.executing.specs.declared.Cut.{Cut}
 use Rattle.executing.specs.declared.Cut.the-variants.{Unset, After}
-use Rattle.executing.specs.declared.Machine.{Machine}
+use Rattle.executing.specs.declared.Mode.{Mode}
 use Rattle.executing.specs.declared.Turned.{Turned}
 
 -- the call that a line of `count` numbers asks for
@@ -26,13 +30,20 @@ callOf Consolidate count numbers = consolidate (num numbers 0)
 callOf Checkpoint count numbers = checkpoint
 callOf Mount count numbers = mount
 
--- the machine after a line with what the line prints, and the buffer after it
+-- the program between two lines. Until a format is taken it obeys nothing else; a K waits for the next taken operation that needs stores
+pub record Machine : Type 0 where
+  pub st : State
+  pub formatted : Bool
+  pub cut : Cut
+
+-- the machine after a line, what the line prints, and the buffer after it
 pub record Turn : Type 0 where
-  pub turned : Turned
+  pub machine : Machine
+  pub output : Output
   pub image : List ℕ
 
 abbrev pub turn : Machine → Output → List ℕ → Turn
-turn m output img = record { turned = record { machine = m; output = output }; image = img }
+turn m output img = record { machine = m; output = output; image = img }
 
 abbrev pub ready : State → Cut → Machine
 ready st cut = record { st = st; formatted = true; cut = cut }
@@ -53,3 +64,17 @@ finished letter cut d =
     cond (eqb (d .stores) 0)
     (turn (ready (d .world .st) cut) (Answered letter (d .number) 0) (d .world .image))
     (turn (ready (afterCut cut (e .world)) Unset) (Answered letter (d .number) (e .stores)) (e .world .image))
+
+-- ---- the same of the code, which keeps the state as words beside its mode
+
+abbrev pub machineAt : Mode → List ℕ → Machine
+machineAt m words = record { st = decoded words; formatted = m .formatted; cut = m .cut }
+
+abbrev pub worldAt : List ℕ → List ℕ → World
+worldAt words img = worldOf (decoded words) img
+
+abbrev pub resultAt : Answer → List ℕ → List ℕ → Result
+resultAt a words img = result (answeredAt a (decoded words)) img
+
+abbrev pub turnAt : Turned → List ℕ → List ℕ → Turn
+turnAt r words img = turn (machineAt (r .mode) words) (r .output) img

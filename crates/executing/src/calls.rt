@@ -1,30 +1,34 @@
 // The call that a line asks for.
 ghost use mathlib.Core.Path.{_≡_};
 ghost use mathlib.Core.Bool.{true};
-ghost use Rattle.answers.specs.Answers.{outcomeOf};
-ghost use Rattle.refinement.specs.Calls.{worldOf};
-ghost use Rattle.refinement.specs.Run.{result, exec};
+ghost use Rattle.refinement.specs.Run.{exec};
 ghost use Rattle.forms.specs.declared.Ask.the-variants.{Write};
 ghost use Rattle.calling.specs.WriteLine.{hasData};
-ghost use Rattle.executing.specs.Called.{callOf};
-use crate::remounting;
-use answers::Done;
+ghost use Rattle.executing.specs.Called.{callOf, worldAt, resultAt};
+use answers::Answer;
 use forms::Ask;
-use state::State;
+use op_stores::Until;
 
-// The call, its stores not yet made.
-pub fn ask(st: State, image: &[u8], a: Ask, count: usize, numbers: &[u64; 69]) -> Done
+// The call; the stores that it needs are pending, and none is made.
+pub fn ask(
+    image: &mut [u8],
+    words: &mut [u64; 256],
+    a: Ask,
+    count: usize,
+    numbers: &[u64; 69],
+) -> Answer
     requires { ⌜ (a ≡ Write → hasData count (now numbers) ≡ true) ⌝ }
-    ensures { λ r. ⌜ result (outcomeOf r) (now (image .entry)) ≡ exec (callOf a count (now (numbers .entry))) (worldOf st (now (image .entry))) ⌝ }
+    ensures { λ r. ⌜ resultAt r (now (words .exit)) (now (image .exit))
+        ≡ exec (callOf a count (now (numbers .entry))) (worldAt (now (words .entry)) (now (image .entry))) ⌝ }
 {
     let first = numbers[0] as usize;
     match a {
-        Ask::Begin => writers::begin(st, first),
-        Ask::Commit => transactions::commit(st, image, first),
-        Ask::Abort => writers::abort(st, first),
-        Ask::Write => calling::write(st, image, count, numbers),
-        Ask::Consolidate => transactions::consolidate(st, image, first),
-        Ask::Checkpoint => transactions::checkpoint(st, image),
-        Ask::Mount => remounting::remount(st, image),
+        Ask::Begin => call_begin::begin(words, first),
+        Ask::Commit => call_commit::commit(image, words, first, Until::Asked),
+        Ask::Abort => call_begin::abort(words, first),
+        Ask::Write => calling::write(image, words, count, numbers),
+        Ask::Consolidate => call_consolidate::consolidate(image, words, first, Until::Asked),
+        Ask::Checkpoint => call_checkpoint::checkpoint(image, words, Until::Asked),
+        Ask::Mount => call_mount::mount(image, words),
     }
 }

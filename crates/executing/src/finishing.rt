@@ -1,17 +1,14 @@
 // The stores that a call needs: all of them, or under a K at most k, and then a mount.
 ghost use mathlib.Core.Path.{_≡_};
-ghost use Rattle.answers.specs.Answers.{outcomeOf};
-ghost use Rattle.refinement.specs.Calls.{worldOf};
-ghost use Rattle.refinement.specs.Run.{result};
+ghost use mathlib.Core.Bool.{true};
 ghost use Rattle.printing.specs.declared.Output.the-variants.{Answered};
-ghost use Rattle.executing.specs.Called.{budget, afterCut, ready, finished};
+ghost use Rattle.state_words.specs.Decoded.{decoded};
+ghost use Rattle.executing.specs.Called.{budget, afterCut, worldAt, resultAt, turnAt, finished};
 use crate::Cut;
-use crate::Machine;
+use crate::Mode;
 use crate::Turned;
-use crate::remounting;
-use answers::Done;
+use answers::Answer;
 use printing::Output;
-use state::State;
 
 // How many stores may be made.
 fn budget_of(cut: Cut, needed: usize) -> usize
@@ -23,25 +20,23 @@ fn budget_of(cut: Cut, needed: usize) -> usize
     }
 }
 
-// The state after the stores; under a K, that of the mount.
-fn after_cut(cut: Cut, st: State, image: &[u8]) -> State
-    ensures { λ r. ⌜ r ≡ afterCut cut (worldOf st (now (image .entry))) ⌝ }
+// What follows the stores: under a K, a mount.
+fn mount_cut(image: &[u8], words: &mut [u64; 256], cut: Cut)
+    ensures { λ _. ⌜ decoded (now (words .exit)) ≡ afterCut cut (worldAt (now (words .entry)) (now (image .entry))) ⌝ }
 {
     match cut {
-        Cut::Unset => st,
+        Cut::Unset => {}
         Cut::After(_) => {
-            let d = remounting::remount(st, image);
-            d.state
+            let _ = call_mount::mount(image, words);
         }
     }
 }
 
-// A call's answer, and the machine with the state after it.
-pub fn answered(st: State, cut: Cut, letter: u8, number: usize, stores: usize) -> Turned
-    ensures { λ r. ⌜ r ≡ record { machine = ready st cut; output = Answered letter number stores } ⌝ }
+// A call's answer, and the mode after it.
+pub fn answered(cut: Cut, letter: u8, number: usize, stores: usize) -> Turned
+    ensures { λ r. ⌜ r ≡ record { mode = record { formatted = true; cut = cut }; output = Answered letter number stores } ⌝ }
 {
-    let machine = Machine {
-        st,
+    let mode = Mode {
         formatted: true,
         cut,
     };
@@ -50,24 +45,26 @@ pub fn answered(st: State, cut: Cut, letter: u8, number: usize, stores: usize) -
         number,
         stores,
     };
-    Turned { machine, output }
+    Turned { mode, output }
 }
 
-// What a call came to; one that needs stores makes them.
-pub fn finish(image: &mut [u8], cut: Cut, letter: u8, d: Done) -> Turned
-    ensures turned { λ r. ⌜ r ≡ finished letter cut (result (outcomeOf d) (now (image .entry))) .turned ⌝ }
-    ensures bytes { λ _. ⌜ now (image .exit) ≡ finished letter cut (result (outcomeOf d) (now (image .entry))) .image ⌝ }
+// What a call came to that was asked for; one that needs stores makes them.
+pub fn finish(
+    image: &mut [u8],
+    words: &mut [u64; 256],
+    cut: Cut,
+    letter: u8,
+    answer: Answer,
+) -> Turned
+    ensures { λ r. ⌜ turnAt r (now (words .exit)) (now (image .exit)) ≡ finished letter cut (resultAt answer (now (words .entry)) (now (image .entry))) ⌝ }
 {
-    let answer = d.answer;
-    let st = d.state;
     let number = answers::number_of(answer);
     let needed = calling::stores_of(answer);
     if needed == 0 {
-        return answered(st, cut, letter, number, 0);
+        return answered(cut, letter, number, 0);
     }
-    let e = stepping::run(st, image, budget_of(cut, needed));
-    let run_answer = e.answer;
+    let run_answer = call_step::run(image, words, budget_of(cut, needed));
     let made = calling::stores_of(run_answer);
-    let next = after_cut(cut, e.state, image);
-    answered(next, Cut::Unset, letter, number, made)
+    mount_cut(image, words, cut);
+    answered(Cut::Unset, letter, number, made)
 }

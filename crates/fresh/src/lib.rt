@@ -9,6 +9,9 @@ ghost use Rattle.fresh.specs.Fresh.{freshHeader, freshPages, freshSlot, 
 use layout::Sizes;
 use replay::Table;
 
+// Where head stands, the first of three words that a fresh image has 0.
+const HEAD_BYTE: usize = 32;
+
 // Writes the header: head and tail 0, no entry counted.
 fn put_header(image: &mut [u8], z: Sizes)
     requires { ⌜ Legal z × (imageLength z ≤ length (now image)) ⌝ }
@@ -18,7 +21,7 @@ fn put_header(image: &mut [u8], z: Sizes)
     image_words::store_word(image, layout::SLOTS_WORD, z.slots as u64);
     image_words::store_word(image, layout::PLACES_WORD, z.places as u64);
     image_words::store_word(image, layout::LAYOUT_WORD, layout::layout_of(z));
-    runs::fill_words(image, 32, 3, 0);
+    runs::fill_words(image, HEAD_BYTE, 3, 0);
     image_words::store_word(image, layout::ENTRIES_WORD, z.entries as u64);
 }
 

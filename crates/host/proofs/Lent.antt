@@ -1,6 +1,6 @@
 -- A call on the host's own state record, lent by `&mut`: the state is copied out, the call by value is made on the copy, and the state that it
--- returns is stored back. One law for every such function, over the argument X, the call's definition S and its key k: where the call
--- by value comes to S, so does the call on the record. The borrow checker does not cover `&mut State`, so the code is walked here, once.
+-- returns is stored back. One law for every such function, over the argument X, what the call ensures P and its key k: where the call
+-- by value ensures P, so does the call on the record. The borrow checker does not cover `&mut State`, so the code is walked here, once.
 -- Assumes nothing.
 use mathlib.Core.Path.{_≡_, refl, sym, ap, subst}
 use mathlib.Core.List.{[], _∷_, List}
@@ -45,17 +45,14 @@ use denote.Triple.Spec.{Meets, tripleOf}
 use denote.Triple.Table.{entered, cited}
 use denote.Triple.Walked.{says, Stays, stay-ref, stay-none, walkOf, AllGo, goes-none, goes-ref, Walks, ends-at, walked, walk-meets}
 use denote.Exit.{yes}
-use Rattle.state.specs.declared.State.{State}
-use Rattle.answers.specs.declared.Done.{Done}
 use Rattle.answers.specs.declared.Answer.{Answer}
-use Rattle.refinement.specs.Outcome.{Outcome}
-use Rattle.answers.specs.Answers.{outcomeOf}
-use Rattle.host.specs.Lent.{outcomeIn}
+use Rattle.host.specs.declared.record.State.{State}
+use Rattle.host.specs.declared.record.Done.{Done}
 use Rattle.host.proofs.Argument.{Argument, row}
-use Rattle.state.proofs.State as T
-use Rattle.state.proofs.State.Laws as T′
-use Rattle.answers.proofs.Done as D
-use Rattle.answers.proofs.Done.Laws as D′
+use Rattle.host.proofs.record.State as T
+use Rattle.host.proofs.record.State.Laws as T′
+use Rattle.host.proofs.record.Done as D
+use Rattle.host.proofs.record.Done.Laws as D′
 use Rattle.answers.proofs.Answer as N
 use Rattle.answers.proofs.Answer.Laws as N′
 
@@ -73,7 +70,7 @@ state-is r v is = LL.owed D.the-type D′.the-laws r (v ∷ []) is .1 .0
 answer-is : (r : Done) (v : Val) → Is D.the-row r (v ∷ []) → Is N.the-row (r .answer) (answerVal (r .answer) ∷ [])
 answer-is r v is = LL.owed D.the-type D′.the-laws r (v ∷ []) is .0
 
-module _ (X : Argument) (S : State → X .type .Value → Outcome) (k : Name) where
+module _ (X : Argument) (P : State → X .type .Value → Answer → State → Type 0) (k : Name) where
   abbrev R : RattleType
   R = row (X .type)
 
@@ -98,11 +95,11 @@ module _ (X : Argument) (S : State → X .type .Value → Outcome) (k : Name) wh
 
   abbrev value-clauses : {M : Type 1} (𝓤 : URA M) → Clauses 𝓤 by-value
   value-clauses 𝓤 κs args =
-      record { ghost = Unit {0}; requires = λ g. emp 𝓤; ensures = λ g r end. fact 𝓤 (outcomeOf r ≡ S (args .0) (args .1 .0)) }
+      record { ghost = Unit {0}; requires = λ g. emp 𝓤; ensures = λ g r end. fact 𝓤 (P (args .0) (args .1 .0) (r .answer) (r .state)) }
 
   abbrev lent-clauses : {M : Type 1} (𝓤 : URA M) → Clauses 𝓤 lent
   lent-clauses 𝓤 κs args =
-      record { ghost = Unit {0}; requires = λ g. emp 𝓤; ensures = λ g r end. fact 𝓤 (outcomeIn r (now (end .0)) ≡ S (now (args .0)) (args .1 .0)) }
+      record { ghost = Unit {0}; requires = λ g. emp 𝓤; ensures = λ g r end. fact 𝓤 (P (now (args .0)) (args .1 .0) r (now (end .0))) }
 
   abbrev code : Fn
   code = record {
@@ -127,8 +124,8 @@ module _ (X : Argument) (S : State → X .type .Value → Outcome) (k : Name) wh
     Value = tripleOf 𝓤 H A (by-value .signature) (closing 𝓤 H A by-value (value-clauses 𝓤))
 
     value-of : (h : State) (n : X .type .Value) (r : Done)
-        → ent 𝓤 (ensured 𝓤 H A by-value (value-clauses 𝓤) tt (h, (n, tt)) tt r) (fact 𝓤 (outcomeOf r ≡ S h n))
-    value-of h n r = exE 𝓤 _ (λ ws. snd∗ 𝓤 (sem 𝓤 H A (lasts by-value tt (h, (n, tt)) ws)) (fact 𝓤 (outcomeOf r ≡ S h n)))
+        → ent 𝓤 (ensured 𝓤 H A by-value (value-clauses 𝓤) tt (h, (n, tt)) tt r) (fact 𝓤 (P h n (r .answer) (r .state)))
+    value-of h n r = exE 𝓤 _ (λ ws. snd∗ 𝓤 (sem 𝓤 H A (lasts by-value tt (h, (n, tt)) ws)) (fact 𝓤 (P h n (r .answer) (r .state))))
 
     argument-makes : Makes 𝓤 H A R (Is R)
     argument-makes x vs is = makes-shadow 𝓤 H A (X .type .own x vs) (X .pure x vs) is
@@ -147,7 +144,7 @@ module _ (X : Argument) (S : State → X .type .Value → Outcome) (k : Name) wh
     Post = walkOf 𝓤 H A lent stayed (lent-clauses 𝓤) .post (((κ, tt), (q, tt), tt, x, at), tt)
 
     -- what is left at the return is what the contract asks
-    exits : Is R n (X .val n ∷ []) → (r : Done) (v : Val) → Is D.the-row r (v ∷ []) → outcomeOf r ≡ S h n
+    exits : Is R n (X .val n ∷ []) → (r : Done) (v : Val) → Is D.the-row r (v ∷ []) → P h n (r .answer) (r .state)
         → ent 𝓤 (sep 𝓤 (A .obs γ (T.the-row .coded .code (r .state))) (sep 𝓤 (A .bor κ (Body (mem T.the-row) b o γ)) (A .lft κ q)))
         (Post (answerVal (r .answer)))
     exits fits r v is e =
@@ -193,7 +190,7 @@ module _ (X : Argument) (S : State → X .type .Value → Outcome) (k : Name) wh
           use1 W (later (some (λ (r : Done).
           (‵ ftrue ⊛ ‵ (D.the-row .own r (v ∷ []))) ⊛ raw (ensured 𝓤 H A by-value (value-clauses 𝓤) tt (h, (n, tt)) tt r)))) (id⊢ 𝓤 _) $
           await ! tt $ pick ! (λ r. split ! $ move ! (1 ∷ []) $
-          use1 W (raw (fact 𝓤 (outcomeOf r ≡ S h n))) (value-of 𝓤 H A h n r) $ heard ! (outcomeOf r ≡ S h n) (λ e. split ! $ drop ! $
+          use1 W (raw (fact 𝓤 (P h n (r .answer) (r .state)))) (value-of 𝓤 H A h n r) $ heard ! (P h n (r .answer) (r .state)) (λ e. split ! $ drop ! $
           peeks ! D.the-row (Is D.the-row) (shows 𝓤 H A D.the-row) r (v ∷ []) (λ is.
           -- [what the result owns; the cell; what it owned; the open borrow; obs; auth; _4; …; _3; …; _2; …; _1; …; room for _0; …]
           land ! (from ! (stop !)) (init ! 8 refl (LL.lawful D.the-type D′.the-laws 𝓤 H A W .typed r _ is .0)) $
@@ -230,7 +227,7 @@ module _ (X : Argument) (S : State → X .type .Value → Outcome) (k : Name) wh
         walk-meets 𝓤 H A lent stayed W goes (lent-clauses 𝓤) (WpFn 𝓤 H (𝓣 .C) (𝓣 .Λ) code) (WpFn-mono 𝓤 H (W .laws) 𝓣 code)
         (lent-walks (𝓣 .C) (𝓣 .Λ) (fmOf 𝓤 H (W .laws) 𝓣) known)
 
-  -- ---- the law: a function f with this code, whose callee k is a routine g that comes to S, meets each contract that follows from S
+  -- ---- the law: a function f with this code, whose callee k is a routine g that ensures P, meets each contract that follows from P
 
   module _ {M : Type 1} (𝓤 : URA M) (H : Heap 𝓤) (𝓜 : Model 𝓤 H) (𝓖 : GhostRules 𝓤 H) (𝓡 : Running 𝓤 H 𝓜) (γ : Env) (name : Name) (f : Fn)
       (E : (κs : Lfts 1) (a : Args (lent .signature) κs) → Unit {0} → Answer → AtExit lent κs → SProp 𝓤) where

@@ -1,9 +1,12 @@
--- Calls on the host's own state record, lent by `&mut` (document 01: "the host's own state record is changed directly").
-use Rattle.state.specs.declared.State.{State}
+-- Calls on the host's own state record, by value or lent by `&mut` (document 01: "the host's own state record is changed directly").
+use mathlib.Core.Path.{_≡_}
 use Rattle.answers.specs.declared.Answer.{Answer}
+use Rattle.answers.specs.Answers.{numberOf, answeredAt}
 use Rattle.refinement.specs.Outcome.{Outcome}
-use Rattle.answers.specs.Answers.{outcomeOf}
+use Rattle.state_words.specs.Decoded.{decoded}
+use Rattle.host.specs.declared.record.State.{State}
 
--- what comes of such a call, by its answer and the state that it leaves: the same as of the call by value
-abbrev pub outcomeIn : Answer → State → Outcome
-outcomeIn answer left = outcomeOf (record { answer = answer; state = left })
+-- the answer and the record that a call leaves are this outcome's, and a refused call leaves the record as it was
+abbrev pub CameTo : Outcome → State → Answer → State → Type 0
+CameTo o before answer left =
+    (answeredAt answer (decoded (left .words)) ≡ o) × ((numberOf answer ≡ 0 → ⊥) → left .words ≡ before .words)

@@ -1,16 +1,15 @@
-// Format, mount, step and run: F, M, S and N.
+// Format, mount, step, run and the next store: F, M, S, N and n.
 ghost use mathlib.Core.Path.{_≡_};
-ghost use Rattle.image_calls.specs.Calls.{formatTurn, formatted, mountTurn, stepTurn, steppedBytes, runTurn, ranBytes};
+ghost use Rattle.state_words.specs.Decoded.{decoded};
+ghost use Rattle.workbench.specs.Turns.{turnAt};
+ghost use Rattle.image_calls.specs.Calls.{formatTurn, formatted, mountTurn, stepTurn, steppedBytes, runTurn, ranBytes, nextSaid};
 use layout::Sizes;
-use mounting;
-use stepping;
 use text::Line;
-use workbench::Bench;
-use workbench::Turn;
+use workbench::Said;
 use workbench::calls;
 
-pub fn format(bench: Bench, image: &mut [u8], line: Line) -> Turn
-    ensures turn { λ r. ⌜ r ≡ formatTurn bench (now (image .entry)) line ⌝ }
+pub fn format(image: &mut [u8], words: &mut [u64; 256], line: Line) -> Said
+    ensures turn { λ r. ⌜ turnAt r (now (words .exit)) ≡ formatTurn (decoded (now (words .entry))) (now (image .entry)) line ⌝ }
     ensures bytes { λ _. ⌜ now (image .exit) ≡ formatted (now (image .entry)) line ⌝ }
 {
     if line.count == 3 { // F,P,S,J
@@ -20,40 +19,58 @@ pub fn format(bench: Bench, image: &mut [u8], line: Line) -> Turn
             places: line.numbers[2] as usize,
             entries: 0,
         };
-        let done = mounting::format(image, sizes);
-        return calls::replacing(bench, done);
+        let answer = call_mount::format(image, words, sizes);
+        return calls::answered(answer);
     }
-    workbench::other(bench)
+    Said::OtherForm
 }
 
-pub fn mount(bench: Bench, image: &[u8], line: Line) -> Turn
-    ensures { λ r. ⌜ r ≡ mountTurn bench (now (image .entry)) line ⌝ }
+pub fn mount(image: &[u8], words: &mut [u64; 256], line: Line) -> Said
+    ensures { λ r. ⌜ turnAt r (now (words .exit)) ≡ mountTurn (decoded (now (words .entry))) (now (image .entry)) line ⌝ }
 {
     if line.count == 0 { // M
-        let done = mounting::mount(image);
-        return calls::replacing(bench, done);
+        let answer = call_mount::mount(image, words);
+        return calls::answered(answer);
     }
-    workbench::other(bench)
+    Said::OtherForm
 }
 
-pub fn step(bench: Bench, image: &mut [u8], line: Line) -> Turn
-    ensures turn { λ r. ⌜ r ≡ stepTurn bench (now (image .entry)) line ⌝ }
-    ensures bytes { λ _. ⌜ now (image .exit) ≡ steppedBytes bench (now (image .entry)) line ⌝ }
+pub fn step(image: &mut [u8], words: &mut [u64; 256], line: Line) -> Said
+    ensures turn { λ r. ⌜ turnAt r (now (words .exit)) ≡ stepTurn (decoded (now (words .entry))) (now (image .entry)) line ⌝ }
+    ensures bytes { λ _. ⌜ now (image .exit) ≡ steppedBytes (decoded (now (words .entry))) (now (image .entry)) line ⌝ }
 {
     if line.count == 0 { // S
-        let done = stepping::step(bench.st, image);
-        return calls::called(bench, done);
+        let answer = call_step::step(image, words);
+        return calls::answered(answer);
     }
-    workbench::other(bench)
+    Said::OtherForm
 }
 
-pub fn run(bench: Bench, image: &mut [u8], line: Line) -> Turn
-    ensures turn { λ r. ⌜ r ≡ runTurn bench (now (image .entry)) line ⌝ }
-    ensures bytes { λ _. ⌜ now (image .exit) ≡ ranBytes bench (now (image .entry)) line ⌝ }
+pub fn run(image: &mut [u8], words: &mut [u64; 256], line: Line) -> Said
+    ensures turn { λ r. ⌜ turnAt r (now (words .exit)) ≡ runTurn (decoded (now (words .entry))) (now (image .entry)) line ⌝ }
+    ensures bytes { λ _. ⌜ now (image .exit) ≡ ranBytes (decoded (now (words .entry))) (now (image .entry)) line ⌝ }
 {
     if line.count == 1 { // N,k
-        let done = stepping::run(bench.st, image, line.numbers[0] as usize);
-        return calls::called(bench, done);
+        let answer = call_step::run(image, words, line.numbers[0] as usize);
+        return calls::answered(answer);
     }
-    workbench::other(bench)
+    Said::OtherForm
+}
+
+pub fn next_store(image: &[u8], words: &[u64; 256], line: Line) -> Said
+    ensures { λ r. ⌜ r ≡ nextSaid (decoded (now (words .entry))) (now (image .entry)) line ⌝ }
+{
+    if line.count != 0 { // n
+        return Said::OtherForm;
+    }
+    let next = call_step::next_store(image, words);
+    let answer = next.answer;
+    let number = answers::number_of(answer);
+    if number == 0 {
+        return Said::Store {
+            at: next.at,
+            decides: next.decides,
+        };
+    }
+    Said::Answered { number, count: 0 }
 }

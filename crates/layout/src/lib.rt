@@ -1,7 +1,8 @@
 // Where each word of an image lies (document 01, "The image"), in words from its start.
 ghost use mathlib.Core.Path.{_≡_};
 ghost use Prim.Native.Nat.{_+_, _%_, _<_, _≤_};
-ghost use Rattle.layout.specs.Layout.{sizesOk, Legal, frames, layoutOf, pageWord, slotWord, placeOf, recordWord, paddingWord, frameWord, lineWord, entryWord, imageLength};
+ghost use Rattle.layout.specs.Layout.{sizesOk, Legal, frames, layoutOf, pageWord, slotWord, placeOf, recordWord, paddingWord, frameWord, lineWord};
+ghost use Rattle.layout.specs.Layout.{entryWord, imageLength};
 
 // Sizes of a store (document 01: P, S and J; document 02, L14: L).
 pub struct Sizes {

@@ -13,8 +13,7 @@ use Rattle.layout.specs.Layout.{imageLength}
 use Rattle.words.specs.Words.{Bytes}
 use Rattle.mount.proofs.Verdict.{Taken, foundIn}
 use Rattle.mount.proofs.View.{View, Shows}
-use Rattle.state.specs.declared.State.{State}
-use Rattle.state.specs.declared.Wide.{Wide}
+use Rattle.state.specs.State.{State, Wide}
 use Rattle.state.specs.declared.Pending.{Pending}
 use Rattle.state.specs.Held.{noWriter}
 use Rattle.state.specs.Wide.{noWide, wideOf}

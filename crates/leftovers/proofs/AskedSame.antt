@@ -16,7 +16,7 @@ use Rattle.layout.specs.declared.Sizes.{Sizes}
 use Rattle.layout.specs.Layout.{imageLength}
 use Rattle.image.specs.Lines.{merged, mergeChanges, lineWords}
 use Rattle.words.specs.Words.{wordAt, bytesOf}
-use Rattle.state.specs.declared.State.{State}
+use Rattle.state.specs.State.{State}
 use Rattle.state.specs.declared.Op.{Op}
 use Rattle.state.specs.declared.Op.the-variants.{Event}
 use Rattle.state.specs.Held.{noWriter}

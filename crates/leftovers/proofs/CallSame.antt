@@ -15,7 +15,7 @@ use Rattle.words.specs.Words.{word}
 use Rattle.mount.specs.Mount.{sizesFrom}
 use Rattle.mount.proofs.Verdict.{foundIn}
 use Rattle.mount.proofs.View.{View}
-use Rattle.state.specs.declared.State.{State}
+use Rattle.state.specs.State.{State}
 use Rattle.state.specs.declared.Op.the-variants.{Consolidate, Checkpoint, Prepare, Confirm}
 use Rattle.state.specs.Held.{somePrepared}
 use Rattle.operations.specs.Operations.{isIdle, journalFull, commitRows, prepareRows, confirmRows, consolidateRows}

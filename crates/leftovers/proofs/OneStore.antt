@@ -23,7 +23,7 @@ use Rattle.replay.proofs.Latest.{Latest, latest, replay-latest, replay-kept}
 use Rattle.mount.proofs.View.{View, Shows}
 use Rattle.mount.proofs.Dead.{dead-view}
 use Rattle.mount.proofs.Emptied.{unrecorded}
-use Rattle.state.specs.declared.State.{State}
+use Rattle.state.specs.State.{State}
 use Rattle.state.specs.declared.Op.{Op}
 use Rattle.state.specs.declared.Op.the-variants.{Idle, Write, Commit, Consolidate, Checkpoint, Event, Prepare, Confirm, Log, Copy}
 use Rattle.operations.specs.Operations.{needs}

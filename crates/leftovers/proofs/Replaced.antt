@@ -22,7 +22,7 @@ use Rattle.replay.specs.Table.{slotOf}
 use Rattle.mount.proofs.View.{View, Shows, Read, header, wide, journal, slot, page, entry, slot-none, same-view}
 use Rattle.mount.proofs.Verdict.{Taken}
 use Rattle.mount.proofs.Dead.{Dead, dead-between, dead-line, dead-entry, dead-place, dead-slot, dead-page}
-use Rattle.state.specs.declared.Wide.{Wide}
+use Rattle.state.specs.State.{Wide}
 use Rattle.state.specs.declared.Pending.{Pending}
 use Rattle.refinement.specs.Stores.{World}
 use Rattle.refinement.specs.Calls.{worldOf}

@@ -9,7 +9,7 @@ use lib.ListN.{length}
 use borrow.Author.Tests.{le-ltb}
 use Rattle.bounded.proofs.Rows.{row-none}
 use Rattle.layout.specs.Layout.{imageLength}
-use Rattle.state.specs.declared.State.{State}
+use Rattle.state.specs.State.{State}
 use Rattle.operations.specs.Operations.{isIdle, needs}
 use Rattle.refinement.specs.Stores.{World, completed, withMade, stepped, steppedBy, left}
 use Rattle.refinement.specs.Calls.{worldOf, stepRows, stepRow, runOf, runBytes}

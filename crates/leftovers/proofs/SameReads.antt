@@ -15,7 +15,7 @@ use Rattle.words.specs.Words.{word}
 use Rattle.replay.specs.declared.Table.{Table}
 use Rattle.replay.specs.Table.{slotOf}
 use Rattle.mount.proofs.View.{slot-none}
-use Rattle.state.specs.declared.State.{State}
+use Rattle.state.specs.State.{State}
 use Rattle.state.specs.declared.Pending.{Pending}
 use Rattle.operations.specs.Operations.{isIdle, slotted}
 use Rattle.refinement.specs.Frames.{pageFrame}

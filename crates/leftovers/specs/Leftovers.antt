@@ -27,7 +27,8 @@ copiedWord v key =
 pub data Leftover (v : World) (a : ℕ) : Type 0 where
   -- one of the four words of the place where position q sits, if no live record sits there
   journal-place : (q k : ℕ) → k < 4
-      → ((i : ℕ) → i < liveCount (v .st .sizes) (v .st .head) (v .st .tail) → placeOf (v .st .sizes) (position (v .st .sizes) (v .st .tail) i) ≡ placeOf (v .st .sizes) q → ⊥)
+      → ((i : ℕ) → i < liveCount (v .st .sizes) (v .st .head) (v .st .tail) → placeOf (v .st .sizes) (position (v .st .sizes) (v .st .tail) i)
+      ≡ placeOf (v .st .sizes) q → ⊥)
       → a ≡ recordWord (v .st .sizes) q + k → Leftover v a
   -- one of the three words of slot s in the slot table, if the slot has a live record
   under-record : (s k : ℕ) → s < v .st .sizes .slots → k < 3

@@ -12,7 +12,7 @@ use Rattle.bounded.proofs.Rows.{none-apply}
 use Rattle.bounded.proofs.Tests.{and-right, or-right}
 use Rattle.words.specs.Words.{word}
 use Rattle.mount.specs.Mount.{sizesFrom}
-use Rattle.state.specs.declared.State.{State}
+use Rattle.state.specs.State.{State}
 use Rattle.refinement.specs.Calls.{readRows, readRow}
 use Rattle.refinement.specs.Recall.{recallRows, recallRow}
 use Rattle.text.specs.declared.Line.{Line}

@@ -4,30 +4,27 @@ use mathlib.Core.Bool.{_&&_, cond}
 use mathlib.Core.List.{List}
 use lib.Dec.{leb, eqb}
 use lib.ListN.{take, replicate}
+use Rattle.state.specs.State.{State}
 use Rattle.refinement.specs.Calls.{readRow, readBytes}
 use Rattle.refinement.specs.Recall.{recallRow, recallBytes}
 use Rattle.text.specs.declared.Line.{Line}
-use Rattle.workbench.specs.Turns.{arg, shown, formed}
-use Rattle.workbench.specs.declared.Bench.{Bench}
+use Rattle.workbench.specs.Turns.{arg, formedSaid}
 use Rattle.workbench.specs.declared.Said.the-variants.{Answered, Hash}
 use Rattle.workbench.specs.declared.Said.{Said}
-use Rattle.workbench.specs.declared.Turn.{Turn}
 use Rattle.hashing.specs.Hash.{hashOf}
 
 abbrev pub lineSaid : ℕ → List ℕ → Said
 lineSaid row target = cond (eqb row 0) (Hash (hashOf (take 64 target))) (Answered row 0)
 
-abbrev pub readSaid : Bench → List ℕ → Line → List ℕ → Said
-readSaid b img line target =
-    lineSaid (readRow (b .st) img (arg line 0) (arg line 1) (arg line 2) target) (readBytes (b .st) img (arg line 0) (arg line 1) (arg line 2) target)
+abbrev pub readInto : State → List ℕ → Line → List ℕ → Said
+readInto st img line target =
+    lineSaid (readRow st img (arg line 0) (arg line 1) (arg line 2) target) (readBytes st img (arg line 0) (arg line 1) (arg line 2) target)
 
-abbrev pub readTurn : Bench → List ℕ → Line → Turn
-readTurn b img line =
-    formed (eqb (line .count) 4 && leb (arg line 3) 128) b (shown b (readSaid b img line (replicate (arg line 3) 0)))
+abbrev pub readSaid : State → List ℕ → Line → Said
+readSaid st img line = formedSaid (eqb (line .count) 4 && leb (arg line 3) 128) (readInto st img line (replicate (arg line 3) 0))
 
-abbrev pub recallSaid : List ℕ → Line → List ℕ → Said
-recallSaid img line target = lineSaid (recallRow img (arg line 0) (arg line 1) target) (recallBytes img (arg line 0) (arg line 1) target)
+abbrev pub recallInto : List ℕ → Line → List ℕ → Said
+recallInto img line target = lineSaid (recallRow img (arg line 0) (arg line 1) target) (recallBytes img (arg line 0) (arg line 1) target)
 
-abbrev pub recallTurn : Bench → List ℕ → Line → Turn
-recallTurn b img line =
-    formed (eqb (line .count) 3 && leb (arg line 2) 128) b (shown b (recallSaid img line (replicate (arg line 2) 0)))
+abbrev pub recallSaid : List ℕ → Line → Said
+recallSaid img line = formedSaid (eqb (line .count) 3 && leb (arg line 2) 128) (recallInto img line (replicate (arg line 2) 0))

@@ -2,12 +2,11 @@
 ghost use mathlib.Core.Path.{_≡_};
 ghost use Prim.Native.Nat.{_≤_};
 ghost use lib.ListN.{length};
-ghost use Rattle.line_calls.specs.Calls.{lineSaid, readSaid, readTurn, recallSaid, recallTurn};
+ghost use Rattle.line_calls.specs.Calls.{lineSaid, readInto, readSaid, recallInto, recallSaid};
+ghost use Rattle.state_words.specs.Decoded.{decoded};
 use answers;
 use text::Line;
-use workbench::Bench;
 use workbench::Said;
-use workbench::Turn;
 
 // A refused call's answer, or the hash of the 64 bytes that a taken one put into its target.
 fn said(number: usize, target: &[u8]) -> Said
@@ -21,12 +20,12 @@ fn said(number: usize, target: &[u8]) -> Said
 }
 
 // A read's answer, or the hash of the 64 bytes.
-fn read_into(bench: Bench, image: &[u8], line: Line, target: &mut [u8]) -> Said
-    ensures { λ r. ⌜ r ≡ readSaid bench (now (image .entry)) line (now (target .entry)) ⌝ }
+fn read_into(image: &[u8], words: &[u64; 256], line: Line, target: &mut [u8]) -> Said
+    ensures { λ r. ⌜ r ≡ readInto (decoded (now (words .entry))) (now (image .entry)) line (now (target .entry)) ⌝ }
 {
-    let answer = reading::read(
-        bench.st,
+    let answer = call_read::read(
         image,
+        words,
         line.numbers[0] as usize,
         line.numbers[1] as usize,
         line.numbers[2] as usize,
@@ -35,21 +34,20 @@ fn read_into(bench: Bench, image: &[u8], line: Line, target: &mut [u8]) -> Said
     said(answers::number_of(answer), target)
 }
 
-pub fn read(bench: Bench, image: &[u8], line: Line) -> Turn
-    ensures { λ r. ⌜ r ≡ readTurn bench (now (image .entry)) line ⌝ }
+pub fn read(image: &[u8], words: &[u64; 256], line: Line) -> Said
+    ensures { λ r. ⌜ r ≡ readSaid (decoded (now (words .entry))) (now (image .entry)) line ⌝ }
 {
     let t = line.numbers[3] as usize;
     if (line.count == 4) & (t <= 128) {
         let mut target = [0u8; 128];
-        let said = read_into(bench, image, line, &mut target[..t]);
-        return Turn { bench, said };
+        return read_into(image, words, line, &mut target[..t]);
     }
-    workbench::other(bench)
+    Said::OtherForm
 }
 
 // A recall's answer, or the hash of the 64 bytes.
 fn recall_into(image: &[u8], line: Line, target: &mut [u8]) -> Said
-    ensures { λ r. ⌜ r ≡ recallSaid (now (image .entry)) line (now (target .entry)) ⌝ }
+    ensures { λ r. ⌜ r ≡ recallInto (now (image .entry)) line (now (target .entry)) ⌝ }
 {
     let number = recalling::recall(
         line.numbers[0] as usize,
@@ -60,14 +58,13 @@ fn recall_into(image: &[u8], line: Line, target: &mut [u8]) -> Said
     said(number, target)
 }
 
-pub fn recall(bench: Bench, image: &[u8], line: Line) -> Turn
-    ensures { λ r. ⌜ r ≡ recallTurn bench (now (image .entry)) line ⌝ }
+pub fn recall(image: &[u8], line: Line) -> Said
+    ensures { λ r. ⌜ r ≡ recallSaid (now (image .entry)) line ⌝ }
 {
     let t = line.numbers[2] as usize;
     if (line.count == 3) & (t <= 128) {
         let mut target = [0u8; 128];
-        let said = recall_into(image, line, &mut target[..t]);
-        return Turn { bench, said };
+        return recall_into(image, line, &mut target[..t]);
     }
-    workbench::other(bench)
+    Said::OtherForm
 }

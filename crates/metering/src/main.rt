@@ -12,12 +12,13 @@ fn number(v: u64, end: &[u8]) {
 
 fn main() {
     let mut image = [0u8; 16640];
-    let fresh = play::fresh(&mut image);
-    let first = play::events(&mut image, fresh, HALF);
-    let loaded = play::with_venue(&image, first);
-    let game = play::events(&mut image, loaded, HALF);
-    let credit = play::meter(&image, game.state, 0);
-    let sum = play::folded(&image, game.state, game.sum);
+    let mut words = [0u64; 256];
+    let fresh = play::fresh(&mut image, &mut words);
+    let first = play::events(&mut image, &mut words, fresh, HALF);
+    let loaded = play::with_venue(&image, &words, first);
+    let game = play::events(&mut image, &mut words, loaded, HALF);
+    let credit = play::meter(&image, &words, 0);
+    let sum = play::folded(&image, &words, game.sum);
     number(2 * HALF as u64, b" events: checksum ");
     number(sum, b", credit ");
     number(credit, b"\n");

@@ -1,31 +1,26 @@
 // Events drawn by a linear congruence, each run to its end or cut.
 ghost use mathlib.Core.Path.{_≡_};
 ghost use Prim.Native.Nat.{_+_, _*_, _%_};
-use answers::Done;
 use answers::number_of;
 use layout::Sizes;
-use state::State;
+use op_stores::Until;
 
 // A venue's moduli.
 const VENUE: [u8; 251] =
-    *b"0,300000000\n1,1000000000000\n2,100000000\n3,250000000\n4,999999937\n5,1000000\n6,2000000\n7,1000000\n8,1000003\n9,1000000\n10,1000000\n11,1000000\n12,3000000\n13,1000000\n14,1000000\n15,10007\n16,10000\n17,10000\n18,100000\n19,10000\n20,10000\n21,10000\n22,10000\n23,20000\n";
+    *b"0,300000000\n1,1000000000000\n2,100000000\n3,250000000\n4,999999937\n5,1000000\n6,2000000\n7,1000000\n\
+        8,1000003\n9,1000000\n10,1000000\n11,1000000\n12,3000000\n13,1000000\n14,1000000\n15,10007\n\
+        16,10000\n17,10000\n18,100000\n19,10000\n20,10000\n21,10000\n22,10000\n23,20000\n";
 
 // Moduli that the meters have outgrown.
-const SMALL: [u8; 158] =
-    *b"0,100\n1,100\n2,100\n3,100\n4,100\n5,100\n6,100\n7,100\n8,100\n9,100\n10,100\n11,100\n12,100\n13,100\n14,100\n15,100\n16,100\n17,100\n18,100\n19,100\n20,100\n21,100\n22,100\n23,100\n";
+const SMALL: [u8; 158] = *b"0,100\n1,100\n2,100\n3,100\n4,100\n5,100\n6,100\n7,100\n\
+        8,100\n9,100\n10,100\n11,100\n12,100\n13,100\n14,100\n15,100\n\
+        16,100\n17,100\n18,100\n19,100\n20,100\n21,100\n22,100\n23,100\n";
 
-// The state, the moduli, the checksum so far, and the number drawn last.
+// The moduli, the checksum so far, and the number drawn last. The state is in words beside it.
 pub struct Game {
-    pub state: State,
     pub moduli: [u64; 24],
     pub sum: u64,
     pub seed: u64,
-}
-
-// The state after an event was asked for, and the answer's number.
-struct Asked {
-    state: State,
-    number: u64,
 }
 
 // The number drawn after this one, below 2^31.
@@ -51,44 +46,38 @@ fn amount_of(drawn: u64) -> u64 {
 }
 
 // Makes at most k stores; where more are needed, power goes.
-fn run_or_cut(image: &mut [u8; 16640], st: State, k: usize, needed: usize) -> Done {
-    let done = stepping::run(st, image, k);
+fn run_or_cut(image: &mut [u8; 16640], words: &mut [u64; 256], k: usize, needed: usize) {
+    call_step::run(image, words, k);
     if k < needed {
-        return mounting::mount(image);
+        call_mount::mount(image, words);
     }
-    done
 }
 
-// Asks for one event. Where the journal is full, a checkpoint follows.
+// Asks for one event, and gives the answer's number. Where the journal is full, a checkpoint follows.
 fn ask(
     image: &mut [u8; 16640],
-    st: State,
+    words: &mut [u64; 256],
     kind: usize,
     meter: usize,
     amount: u64,
     moduli: &[u64],
     k: usize,
-) -> Asked {
-    let done = events::event(st, image, kind, meter, amount, moduli);
-    let answer = done.answer;
+) -> u64 {
+    let answer = call_event::event(image, words, kind, meter, amount, moduli, Until::Asked);
     let number = number_of(answer) as u64;
     if number == 19 {
-        let done = transactions::checkpoint(done.state, image);
-        let done = stepping::run(done.state, image, 1000);
-        let state = done.state;
-        return Asked { state, number };
+        call_checkpoint::checkpoint(image, words, Until::End);
+        return number;
     }
     if number != 0 {
-        let state = done.state;
-        return Asked { state, number };
+        return number;
     }
-    let done = run_or_cut(image, done.state, k, meters::event_needs(kind));
-    let state = done.state;
-    Asked { state, number }
+    run_or_cut(image, words, k, meters::event_needs(kind));
+    number
 }
 
 // One turn: kind 0 to 6, meter 0 to 25, an amount, and the stores allowed, 0 to 43.
-fn turn(image: &mut [u8; 16640], game: Game) -> Game {
+fn turn(image: &mut [u8; 16640], words: &mut [u64; 256], game: Game) -> Game {
     let a = drawn(game.seed);
     let b = drawn(a);
     let c = drawn(b);
@@ -97,20 +86,19 @@ fn turn(image: &mut [u8; 16640], game: Game) -> Game {
     let meter = (b / 65536 % 26) as usize;
     let k = (d / 65536 % 44) as usize;
     let moduli = game.moduli;
-    let asked = ask(image, game.state, kind, meter, amount_of(c), &moduli, k);
-    let state = asked.state;
+    let number = ask(image, words, kind, meter, amount_of(c), &moduli, k);
     Game {
-        state,
         moduli,
-        sum: with(game.sum, asked.number),
+        sum: with(game.sum, number),
         seed: d,
     }
 }
 
 // A fresh store, with the fixed moduli.
-pub fn fresh(image: &mut [u8; 16640]) -> Game {
-    let done = mounting::format(
+pub fn fresh(image: &mut [u8; 16640], words: &mut [u64; 256]) -> Game {
+    call_mount::format(
         image,
+        words,
         Sizes {
             pages: 2,
             slots: 2,
@@ -118,10 +106,8 @@ pub fn fresh(image: &mut [u8; 16640]) -> Game {
             entries: 0,
         },
     );
-    let state = done.state;
     let moduli = meters::fixed_moduli();
     Game {
-        state,
         moduli,
         sum: 0,
         seed: 1,
@@ -129,24 +115,21 @@ pub fn fresh(image: &mut [u8; 16640]) -> Game {
 }
 
 // The moduli of a text loaded, the ones before where the load is refused, and its answer in the checksum.
-fn with_text(image: &[u8; 16640], game: Game, text: &[u8]) -> Game {
-    let done = loading::load(game.state, image, text);
-    let answer = done.answer;
+fn with_text(image: &[u8; 16640], words: &[u64; 256], game: Game, text: &[u8]) -> Game {
+    let loaded = call_load::load(image, words, text);
+    let answer = loaded.answer;
     let number = number_of(answer) as u64;
-    let state = game.state;
     let sum = with(game.sum, number);
     if number != 0 {
         let moduli = game.moduli;
         return Game {
-            state,
             moduli,
             sum,
             seed: game.seed,
         };
     }
-    let moduli = done.moduli;
+    let moduli = loaded.moduli;
     Game {
-        state,
         moduli,
         sum,
         seed: game.seed,
@@ -154,37 +137,37 @@ fn with_text(image: &[u8; 16640], game: Game, text: &[u8]) -> Game {
 }
 
 // Texts of a wrong count and a wrong range are turned back, then moduli that the meters have outgrown; a venue's are taken.
-pub fn with_venue(image: &[u8; 16640], game: Game) -> Game {
-    let a = with_text(image, game, b"0,100\n");
-    let b = with_text(image, a, b"0,99\n1,x");
-    let c = with_text(image, b, &SMALL);
-    with_text(image, c, &VENUE)
+pub fn with_venue(image: &[u8; 16640], words: &[u64; 256], game: Game) -> Game {
+    let a = with_text(image, words, game, b"0,100\n");
+    let b = with_text(image, words, a, b"0,99\n1,x");
+    let c = with_text(image, words, b, &SMALL);
+    with_text(image, words, c, &VENUE)
 }
 
 // The game after n events more.
-pub fn events(image: &mut [u8; 16640], game: Game, n: usize) -> Game {
+pub fn events(image: &mut [u8; 16640], words: &mut [u64; 256], game: Game, n: usize) -> Game {
     let mut game = game;
     let mut i = 0;
     while i < n {
-        game = turn(image, game);
+        game = turn(image, words, game);
         i += 1;
     }
     game
 }
 
 // The stored number of meter m.
-pub fn meter(image: &[u8; 16640], st: State, m: usize) -> u64 {
+pub fn meter(image: &[u8; 16640], words: &[u64; 256], m: usize) -> u64 {
     let mut line = [0u8; 64];
-    reading::read(st, image, 0, 0, m, &mut line);
+    call_read::read(image, words, 0, 0, m, &mut line);
     image_words::read_word(&line, 0)
 }
 
 // The checksum with the 24 meters.
-pub fn folded(image: &[u8; 16640], st: State, sum: u64) -> u64 {
+pub fn folded(image: &[u8; 16640], words: &[u64; 256], sum: u64) -> u64 {
     let mut sum = sum;
     let mut m = 0;
     while m < 24 {
-        sum = with(sum, meter(image, st, m));
+        sum = with(sum, meter(image, words, m));
         m += 1;
     }
     sum

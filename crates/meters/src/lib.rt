@@ -2,7 +2,8 @@
 ghost use mathlib.Core.Path.{_≡_};
 ghost use mathlib.Core.Bool.{true, false};
 ghost use Prim.Native.Nat.{_+_, _^_, _<_, _≤_};
-ghost use Rattle.meters.specs.Meters.{modulusBad, moduliOk, fixedModuli, adds, modulusOf, eventKnown, movesCredit, ownMeter, firstMeter, eventNeeds, rolled, creditAfter, firstNumber, creditBad, amountBad};
+ghost use Rattle.meters.specs.Meters.{modulusBad, moduliOk, fixedModuli, adds, modulusOf, eventKnown, movesCredit, ownMeter, firstMeter, eventNeeds};
+ghost use Rattle.meters.specs.Meters.{rolled, creditAfter, firstNumber, creditBad, amountBad};
 
 // Document 02: "Each has its modulus from a fixed table".
 const MODULI: [u64; 24] = [

@@ -106,7 +106,8 @@ fn turned_back(row: usize) -> Entry
 // What stands in the line of meter m before and after its comma.
 fn entry_of<'a>(meter: &'a [u8], modulus: &'a [u8], m: usize) -> Entry
     requires { ⌜ m < 24 ⌝ }
-    ensures { λ r. ⌜ (r .row ≡ refusal (entryRows m (now (meter .entry)) (now (modulus .entry)))) × (r .row ≡ 0 → r .modulus ≡ valueOf (now (modulus .entry))) ⌝ }
+    ensures { λ r. ⌜ (r .row ≡ refusal (entryRows m (now (meter .entry)) (now (modulus .entry))))
+        × (r .row ≡ 0 → r .modulus ≡ valueOf (now (modulus .entry))) ⌝ }
 {
     if !is_plain(meter) {
         return turned_back(25);
@@ -143,7 +144,9 @@ fn line_entry(line: &[u8], m: usize) -> Entry
 // The line at the start of a text, which is that of meter m.
 fn first_entry(text: &[u8], m: usize) -> Entry
     requires { ⌜ m < 24 ⌝ }
-    ensures { λ r. ⌜ (r .row ≡ refusal (firstRows m (now (text .entry)))) × (r .row ≡ 0 → (r .length ≡ placeOf 10 (now (text .entry))) × (r .length < length (now (text .entry))) × (r .modulus ≡ modulusIn (firstLine (now (text .entry))))) ⌝ }
+    ensures { λ r. ⌜ (r .row ≡ refusal (firstRows m (now (text .entry))))
+        × (r .row ≡ 0 → (r .length ≡ placeOf 10 (now (text .entry))) × (r .length < length (now (text .entry)))
+        × (r .modulus ≡ modulusIn (firstLine (now (text .entry))))) ⌝ }
 {
     let n = place_of(10, text);
     if text.len() <= n {

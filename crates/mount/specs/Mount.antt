@@ -44,7 +44,11 @@ mountRows n r =
     ∷ (not (sizesOk (sizesFrom r) && eqb (r layoutWord) (layoutOf (sizesFrom r))), 3)
     ∷ (ltb n (imageLength (sizesFrom r)), 4)
     ∷ (not (positionsOk (sizesFrom r) (r headWord) (r tailWord)), 5)
-    ∷ (not (recordsOk (sizesFrom r) (r tailWord) (liveFrom r) (liveRecord r (sizesFrom r) (r tailWord)) && entriesOk (sizesFrom r) (keysAfter r) (countFrom r)), 6)
+    ∷ (
+      not (recordsOk (sizesFrom r) (r tailWord) (liveFrom r) (liveRecord r (sizesFrom r) (r tailWord)) && entriesOk
+          (sizesFrom r) (keysAfter r) (countFrom r)),
+      6,
+    )
     ∷ (not (tableOk r (sizesFrom r) (tableAfter r)), 7)
     ∷ []
 

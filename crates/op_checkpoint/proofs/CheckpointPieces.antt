@@ -15,7 +15,7 @@ use Rattle.bounded.proofs.Tests.{caseOn}
 use Rattle.layout.specs.declared.Sizes.{Sizes}
 use Rattle.layout.specs.Layout.{Legal, tailWord, slotWord, recordWord, imageLength}
 use Rattle.replay.specs.Table.{noPosition}
-use Rattle.state.specs.declared.State.{State}
+use Rattle.state.specs.State.{State}
 use Rattle.state.specs.declared.Op.the-variants.{Checkpoint}
 use Rattle.operations.specs.Operations.{recordedSlots}
 use Rattle.refinement.specs.Checkpoint.{checkpointAtOf, checkpointValueOf}

@@ -46,7 +46,8 @@ fn last_words(z: Sizes, words: &[u64; 256], s: usize) -> usize
 // The piece of a checkpoint that store i lies in: a slot's three words, read from the image, or tail.
 pub fn checkpoint_piece(image: &[u8], z: Sizes, at: Places, words: &[u64; 256], i: usize) -> Piece
     requires { ⌜ (z ≡ decoded (now words) .sizes) × (at ≡ placesOf (decoded (now words))) × Legal z × (imageLength z ≤ length (now image)) ⌝ }
-    ensures { λ r. ⌜ Next (λ m. storeAt (decoded (now (words .entry))) m Checkpoint) (λ m. storeValue (decoded (now (words .entry))) m Checkpoint) i (imageLength z) (now (image .entry)) r ⌝ }
+    ensures { λ r. ⌜ Next (λ m. storeAt (decoded (now (words .entry))) m Checkpoint) (λ m. storeValue (decoded (now (words .entry))) m Checkpoint)
+        i (imageLength z) (now (image .entry)) r ⌝ }
 {
     let s = recorded_slot(z, words, i / 3);
     if s < z.slots {

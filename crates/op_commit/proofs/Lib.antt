@@ -1,2 +1,3 @@
+pub mod CommitMade
 pub mod Turns
 pub mod CommitPieces

@@ -10,11 +10,11 @@ use Rattle.layout.specs.declared.Sizes.{Sizes}
 use Rattle.masks.specs.Lines.{exclusiveOr}
 use Rattle.journal.specs.Records.{position}
 use Rattle.replay.specs.Table.{withLast}
-use Rattle.state.specs.declared.State.{State}
+use Rattle.state.specs.State.{State}
 use Rattle.state.specs.Held.{heldAt, heldSlots, letGo}
 use Rattle.refinement.specs.Commit.{bitmapsAfter, lastsAfter, commitDone}
 use Rattle.refinement.specs.Settled.{noPending}
-use Rattle.commits.proofs.CommitMade.{bitmaps-turn, lasts-turn, commit-done}
+use Rattle.op_commit.proofs.CommitMade.{bitmaps-turn, lasts-turn, commit-done}
 use Rattle.state_words.specs.Decoded.{withTable, withWriters, withBitmap, withHeld, withOpened, withPrepared, withHead, withNothing}
 use Rattle.op_commit.specs.After.{withBitmaps, withLasts}
 

@@ -1,7 +1,7 @@
 -- A state with other bitmaps, or other last positions.
 use Prim.Native.Nat.{ℕ}
 use mathlib.Core.List.{List}
-use Rattle.state.specs.declared.State.{State}
+use Rattle.state.specs.State.{State}
 use Rattle.state_words.specs.Decoded.{withTable}
 
 abbrev pub withBitmaps : State → List ℕ → State

@@ -36,7 +36,8 @@ fn held_slot(z: Sizes, words: &[u64; 256], w: usize, j: usize) -> usize
 // Puts the bitmaps of a commit of n slots.
 fn put_bitmaps(z: Sizes, words: &mut [u64; 256], w: usize, n: usize)
     requires { ⌜ Legal z × (w < 4) ⌝ }
-    ensures { λ _. ⌜ decoded (now (words .exit)) ≡ withBitmaps (decoded (now (words .entry))) (bitmapsAfter z (decoded (now (words .entry)) .table .bitmap) (decoded (now (words .entry)) .writers .held) w n) ⌝ }
+    ensures { λ _. ⌜ decoded (now (words .exit)) ≡ withBitmaps (decoded (now (words .entry)))
+        (bitmapsAfter z (decoded (now (words .entry)) .table .bitmap) (decoded (now (words .entry)) .writers .held) w n) ⌝ }
 {
     let before = state_words::parts::bitmaps_in(words);
     let mut j = 0;
@@ -51,7 +52,8 @@ fn put_bitmaps(z: Sizes, words: &mut [u64; 256], w: usize, n: usize)
 // The same of the positions of last records.
 fn put_lasts(z: Sizes, head: usize, words: &mut [u64; 256], w: usize, n: usize)
     requires { ⌜ Legal z × (head < 2 * z .places) × (w < 4) × (n ≤ z .places) ⌝ }
-    ensures { λ _. ⌜ decoded (now (words .exit)) ≡ withLasts (decoded (now (words .entry))) (lastsAfter z head (decoded (now (words .entry)) .table .last) (decoded (now (words .entry)) .writers .held) w n) ⌝ }
+    ensures { λ _. ⌜ decoded (now (words .exit)) ≡ withLasts (decoded (now (words .entry)))
+        (lastsAfter z head (decoded (now (words .entry)) .table .last) (decoded (now (words .entry)) .writers .held) w n) ⌝ }
 {
     let mut j = 0;
     while j < n {
@@ -64,7 +66,8 @@ fn put_lasts(z: Sizes, head: usize, words: &mut [u64; 256], w: usize, n: usize)
 // Empties the held lines of writer w.
 pub fn let_go(z: Sizes, words: &mut [u64; 256], w: usize)
     requires { ⌜ Legal z × (w < 4) ⌝ }
-    ensures { λ _. ⌜ decoded (now (words .exit)) ≡ withWriters (decoded (now (words .entry))) (withHeld (decoded (now (words .entry)) .writers) (letGo z (decoded (now (words .entry)) .writers .held) w)) ⌝ }
+    ensures { λ _. ⌜ decoded (now (words .exit)) ≡ withWriters (decoded (now (words .entry)))
+        (withHeld (decoded (now (words .entry)) .writers) (letGo z (decoded (now (words .entry)) .writers .held) w)) ⌝ }
 {
     let mut s = 0;
     while s < z.slots {

@@ -55,8 +55,10 @@ pub fn commit_piece(
     c: usize,
     i: usize,
 ) -> Piece
-    requires { ⌜ Legal z × (head < 2 * z .places) × (slotsShaped z (decoded (now words) .table) ≡ true) × (w < 4) × (c ≡ length (heldSlots z (decoded (now words) .writers .held) w)) ⌝ }
-    ensures { λ r. ⌜ ((img : List ℕ) → Next (λ m. commitAtOf z head (decoded (now (words .entry)) .writers .held) w) (λ m. commitValueOf z head (decoded (now (words .entry)) .table) (decoded (now (words .entry)) .writers .held) w) i (imageLength z) img r) ⌝ }
+    requires { ⌜ Legal z × (head < 2 * z .places) × (slotsShaped z (decoded (now words) .table) ≡ true) × (w < 4)
+        × (c ≡ length (heldSlots z (decoded (now words) .writers .held) w)) ⌝ }
+    ensures { λ r. ⌜ ((img : List ℕ) → Next (λ m. commitAtOf z head (decoded (now (words .entry)) .writers .held) w)
+        (λ m. commitValueOf z head (decoded (now (words .entry)) .table) (decoded (now (words .entry)) .writers .held) w) i (imageLength z) img r) ⌝ }
 {
     if i < 4 * c {
         let e = commit_record(z, head, words, w, i / 4);

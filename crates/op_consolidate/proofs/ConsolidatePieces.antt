@@ -21,7 +21,7 @@ use Rattle.journal.specs.Slots.{freeSlot}
 use Rattle.journal.proofs.SlotWords.{Owning}
 use Rattle.replay.specs.declared.Table.{Table}
 use Rattle.replay.specs.Table.{slotIn, withSlot, withLast}
-use Rattle.state.specs.declared.State.{State}
+use Rattle.state.specs.State.{State}
 use Rattle.state.specs.declared.Op.the-variants.{Consolidate}
 use Rattle.operations.specs.Operations.{Ranged, slotFor, copyCount}
 use Rattle.refinement.specs.Consolidate.{copyTo, copyFrom, copyLines, copyStoreCount, freeingRecord, consolidationAt, consolidationValue, consolidateAt, consolidateValue, consolidateTable}

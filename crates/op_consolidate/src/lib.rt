@@ -61,7 +61,8 @@ fn freeing_record(head: usize, s: usize, t: Slot) -> Record
 
 // The piece that store i lies in, of a slot t that record e frees: a line, read from its frame; the page-table word; the record; head.
 fn slot_piece(image: &[u8], z: Sizes, head: usize, t: Slot, e: Record, p: usize, i: usize) -> Piece
-    requires { ⌜ Legal z × (head < 2 * z .places) × (copyFrom t < frames z) × (copyTo t < frames z) × (copyTo t ≡ copyFrom t → ⊥) × Fits e × (p < z .pages) × (imageLength z ≤ length (now image)) ⌝ }
+    requires { ⌜ Legal z × (head < 2 * z .places) × (copyFrom t < frames z) × (copyTo t < frames z) × (copyTo t ≡ copyFrom t → ⊥)
+        × Fits e × (p < z .pages) × (imageLength z ≤ length (now image)) ⌝ }
     ensures { λ r. ⌜ Next (λ m. consolidationAt z head t p) (λ m. consolidationValue z head t e m) i (imageLength z) (now (image .entry)) r ⌝ }
 {
     let c = 8 * needs::copy_count(t.bitmap);
@@ -89,8 +90,10 @@ pub fn consolidate_piece(
     p: usize,
     i: usize,
 ) -> Piece
-    requires { ⌜ (z ≡ decoded (now words) .sizes) × (at ≡ placesOf (decoded (now words))) × Consolidates z (at .head) (decoded (now words) .table) p × (imageLength z ≤ length (now image)) ⌝ }
-    ensures { λ r. ⌜ Next (λ m. storeAt (decoded (now (words .entry))) m (Consolidate p)) (λ m. storeValue (decoded (now (words .entry))) m (Consolidate p)) i (imageLength z) (now (image .entry)) r ⌝ }
+    requires { ⌜ (z ≡ decoded (now words) .sizes) × (at ≡ placesOf (decoded (now words))) × Consolidates z (at .head) (decoded (now words) .table) p
+        × (imageLength z ≤ length (now image)) ⌝ }
+    ensures { λ r. ⌜ Next (λ m. storeAt (decoded (now (words .entry))) m (Consolidate p))
+        (λ m. storeValue (decoded (now (words .entry))) m (Consolidate p)) i (imageLength z) (now (image .entry)) r ⌝ }
 {
     let s = state_held::slots::slot_of(z, words, p);
     let t = state_words::slot_at(words, s);
@@ -100,7 +103,8 @@ pub fn consolidate_piece(
 
 // What the consolidation of page p leaves when it is complete: the page's slot is free.
 pub fn complete_consolidate(z: Sizes, at: Places, words: &mut [u64; 256], p: usize)
-    requires { ⌜ (z ≡ decoded (now words) .sizes) × (at ≡ placesOf (decoded (now words))) × Ranged (decoded (now words)) × (slotted (decoded (now words)) p ≡ true) ⌝ }
+    requires { ⌜ (z ≡ decoded (now words) .sizes) × (at ≡ placesOf (decoded (now words))) × Ranged (decoded (now words))
+        × (slotted (decoded (now words)) p ≡ true) ⌝ }
     ensures { λ _. ⌜ decoded (now (words .exit)) ≡ completed (decoded (now (words .entry))) (Consolidate p) ⌝ }
 {
     let s = state_held::slots::slot_of(z, words, p);

@@ -10,7 +10,7 @@ use Rattle.bounded.specs.Tab.{tab, filled}
 use Rattle.bounded.proofs.Tab.{tab-getD, tab-ext, length-filled, getD-filled}
 use Rattle.entries.specs.Entries.{noKeys}
 use Rattle.layout.specs.declared.Sizes.{Sizes}
-use Rattle.state.specs.declared.State.{State}
+use Rattle.state.specs.State.{State}
 use Rattle.state.specs.Held.{letGo}
 use Rattle.state.specs.Wide.{wideOf, noWide}
 use Rattle.refinement.specs.Settled.{withWide}
@@ -18,7 +18,7 @@ use Rattle.refinement.specs.Commit.{closedWriter}
 use Rattle.refinement.specs.Wide.{copyDone}
 use Rattle.state_words.specs.Decoded.{start, size, part, flags, decoded, withWriters, withHeld, withOpened, withNothing}
 use Rattle.state_words.proofs.DecodedLaws.{put-part}
-use Rattle.wide_stores.proofs.NoWriter.{open-past, held-past}
+use Rattle.op_copy.proofs.NoWriter.{open-past, held-past}
 
 filled-all : (n : ℕ) (l : List ℕ) → length l ≡ n → filled n (λ i. 0) l ≡ tab n (λ i. 0)
 filled-all n l h =

@@ -14,6 +14,7 @@ use layout::Sizes;
 use op_pieces::Piece;
 use state_words::COUNT;
 use state_words::KEYS;
+use state_words::NO_WRITER;
 use state_words::WIDE;
 
 // There is no wide transaction, and no entry is used.
@@ -26,7 +27,7 @@ pub fn put_no_wide(words: &mut [u64; 256])
         words[KEYS + e] = 0;
         e += 1;
     }
-    words[WIDE] = 4;
+    words[WIDE] = NO_WRITER;
     words[COUNT] = 0;
 }
 
@@ -71,8 +72,10 @@ fn copied_frame(image: &[u8], z: Sizes, words: &[u64; 256], key: u64) -> usize
 
 // The piece of a wide commit that store i lies in: the count of entries, a line, or 0 for the count.
 pub fn copy_piece(image: &[u8], z: Sizes, words: &[u64; 256], count: usize, i: usize) -> Piece
-    requires { ⌜ Legal z × (count ≤ z .entries) × ((e : ℕ) → e < count → keyPage (getD (decoded (now words) .wide .keys) e 0) < z .pages) × (imageLength z ≤ length (now image)) ⌝ }
-    ensures { λ r. ⌜ Next (copyAtOf z (decoded (now (words .entry)) .table) count (decoded (now (words .entry)) .wide .keys)) (copyValueOf z count) i (imageLength z) (now (image .entry)) r ⌝ }
+    requires { ⌜ Legal z × (count ≤ z .entries) × ((e : ℕ) → e < count → keyPage (getD (decoded (now words) .wide .keys) e 0) < z .pages)
+        × (imageLength z ≤ length (now image)) ⌝ }
+    ensures { λ r. ⌜ Next (copyAtOf z (decoded (now (words .entry)) .table) count (decoded (now (words .entry)) .wide .keys))
+        (copyValueOf z count) i (imageLength z) (now (image .entry)) r ⌝ }
 {
     if i == 0 {
         return op_pieces::one(layout::COUNT_WORD, count as u64);

@@ -7,7 +7,7 @@ use Rattle.bounded.proofs.Tests.{caseOn, row-keeps}
 use Rattle.layout.specs.declared.Sizes.{Sizes}
 use Rattle.layout.specs.Layout.{Legal}
 use Rattle.meters.specs.Meters.{movesCredit, firstMeter, ownMeter}
-use Rattle.state.specs.declared.State.{State}
+use Rattle.state.specs.State.{State}
 use Rattle.operations.specs.Operations.{slotted}
 use Rattle.refinement.specs.Write.{writeSlot}
 use Rattle.refinement.specs.Commit.{commitDone}

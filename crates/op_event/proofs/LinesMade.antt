@@ -15,7 +15,7 @@ use Rattle.meters.specs.Meters.{movesCredit, firstMeter, ownMeter}
 use Rattle.op_pieces.specs.declared.Piece.{Piece}
 use Rattle.op_pieces.specs.Pieces.{Next, linePiece}
 use Rattle.op_pieces.proofs.PieceLaws.{line-next, next-as}
-use Rattle.state.specs.declared.State.{State}
+use Rattle.state.specs.State.{State}
 use Rattle.state.specs.declared.Op.the-variants.{Event}
 use Rattle.state.specs.Held.{heldSlots}
 use Rattle.operations.specs.Operations.{opRows}

@@ -3,7 +3,7 @@ use Prim.Native.Nat.{ℕ}
 use mathlib.Core.Bool.{true, cond}
 use lib.ListN.{set}
 use Rattle.meters.specs.Meters.{movesCredit, firstMeter, ownMeter}
-use Rattle.state.specs.declared.State.{State}
+use Rattle.state.specs.State.{State}
 use Rattle.state_words.specs.Decoded.{withWriters, withOpened}
 use Rattle.op_write.specs.LineHeld.{lineHeld}
 

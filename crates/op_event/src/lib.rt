@@ -47,8 +47,11 @@ fn commit_piece(
     meter: usize,
     i: usize,
 ) -> Piece
-    requires { ⌜ (z ≡ decoded (now words) .sizes) × (at ≡ placesOf (decoded (now words))) × (stateOk (decoded (now words)) ≡ true) × (isIdle (decoded (now words) .pending .op) ≡ false) × (refusal (opRows (decoded (now words)) (Event kind meter 0) (decoded (now words) .pending .frame)) ≡ 0) ⌝ }
-    ensures { λ r. ⌜ ((img : List ℕ) → Next (λ m. commitAt (linesDone (decoded (now (words .entry))) kind meter) 1) (λ m. commitValue (linesDone (decoded (now (words .entry))) kind meter) 1) i (imageLength z) img r) ⌝ }
+    requires { ⌜ (z ≡ decoded (now words) .sizes) × (at ≡ placesOf (decoded (now words))) × (stateOk (decoded (now words)) ≡ true)
+        × (isIdle (decoded (now words) .pending .op) ≡ false) × (refusal
+        (opRows (decoded (now words)) (Event kind meter 0) (decoded (now words) .pending .frame)) ≡ 0) ⌝ }
+    ensures { λ r. ⌜ ((img : List ℕ) → Next (λ m. commitAt (linesDone (decoded (now (words .entry))) kind meter) 1)
+        (λ m. commitValue (linesDone (decoded (now (words .entry))) kind meter) 1) i (imageLength z) img r) ⌝ }
 {
     let _ = state_words::all_words(*words);
     let frame = state_words::parts::frame_in(words);
@@ -66,8 +69,11 @@ pub fn event_piece(
     meter: usize,
     i: usize,
 ) -> Piece
-    requires { ⌜ (z ≡ decoded (now words) .sizes) × (at ≡ placesOf (decoded (now words))) × (stateOk (decoded (now words)) ≡ true) × (isIdle (decoded (now words) .pending .op) ≡ false) × (refusal (opRows (decoded (now words)) (Event kind meter 0) (decoded (now words) .pending .frame)) ≡ 0) ⌝ }
-    ensures { λ r. ⌜ ((img : List ℕ) → Next (λ m. eventAt (decoded (now (words .entry))) kind meter) (λ m. eventValue (decoded (now (words .entry))) kind meter) i (imageLength z) img r) ⌝ }
+    requires { ⌜ (z ≡ decoded (now words) .sizes) × (at ≡ placesOf (decoded (now words))) × (stateOk (decoded (now words)) ≡ true)
+        × (isIdle (decoded (now words) .pending .op) ≡ false) × (refusal
+        (opRows (decoded (now words)) (Event kind meter 0) (decoded (now words) .pending .frame)) ≡ 0) ⌝ }
+    ensures { λ r. ⌜ ((img : List ℕ) → Next (λ m. eventAt (decoded (now (words .entry))) kind meter)
+        (λ m. eventValue (decoded (now (words .entry))) kind meter) i (imageLength z) img r) ⌝ }
 {
     let _ = state_words::all_words(*words);
     if i < 8 {
@@ -86,7 +92,8 @@ pub fn event_piece(
 
 // What an event leaves when it is complete.
 pub fn complete_event(z: Sizes, words: &mut [u64; 256], kind: usize, meter: usize)
-    requires { ⌜ (z ≡ decoded (now words) .sizes) × Legal z × (decoded (now words) .head < 2 * z .places) × (decoded (now words) .next < z .slots) × (isIdle (decoded (now words) .pending .op) ≡ false) × (eventKnown kind meter ≡ true) ⌝ }
+    requires { ⌜ (z ≡ decoded (now words) .sizes) × Legal z × (decoded (now words) .head < 2 * z .places)
+        × (decoded (now words) .next < z .slots) × (isIdle (decoded (now words) .pending .op) ≡ false) × (eventKnown kind meter ≡ true) ⌝ }
     ensures { λ _. ⌜ decoded (now (words .exit)) ≡ eventDone (decoded (now (words .entry))) kind meter ⌝ }
 {
     let frame = state_words::parts::frame_in(words);

@@ -13,7 +13,7 @@ use Rattle.layout.specs.declared.Sizes.{Sizes}
 use Rattle.layout.specs.Layout.{entryWord, imageLength}
 use Rattle.layout.proofs.LayoutLaws.{entry-end}
 use Rattle.entries.specs.Entries.{keyOf, entryOf}
-use Rattle.state.specs.declared.State.{State}
+use Rattle.state.specs.State.{State}
 use Rattle.state.specs.Wide.{entryFor, withEntry}
 use Rattle.refinement.specs.Wide.{logAt, logValue, logDone}
 use Rattle.op_pieces.specs.declared.Piece.{Piece}

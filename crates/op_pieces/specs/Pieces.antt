@@ -27,7 +27,8 @@ pub record Next (at value : List ℕ → ℕ → ℕ) (i bound : ℕ) (img : Lis
   pub place : (d : ℕ) → p .from + d < p .count → at (pieceStores p d img) (i + d) ≡ p .at + (p .from + d)
   pub bytes : (d : ℕ) → p .from + d < p .count → value (pieceStores p d img) (i + d) ≡ getD (p .words) (p .from + d) 0
 
--- ---- the pieces that there are: one word; the four of a record, from word k on; the eight of a line; the three that stand from word a of an image on; the eight that stand from byte o on
+-- ---- the pieces that there are: one word; the four of a record, from word k on; the eight of a line; the three that stand from word a of an image
+-- on; the eight that stand from byte o on
 abbrev pub onePiece : ℕ → ℕ → Piece
 onePiece at v = record { at = at; from = 0; count = 1; words = v ∷ 0 ∷ 0 ∷ 0 ∷ 0 ∷ 0 ∷ 0 ∷ 0 ∷ [] }
 

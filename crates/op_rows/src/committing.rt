@@ -1,9 +1,14 @@
 // The rows from 11 on of a commit, in one part or in two, of a wide commit, and of a consolidation.
 ghost use mathlib.Core.Path.{_≡_};
+ghost use mathlib.Core.Bool.{not};
+ghost use mathlib.Core.List.{[], _∷_};
+ghost use lib.Dec.{ltb, eqb};
 ghost use Rattle.bounded.specs.Rows.{refusal};
-ghost use Rattle.operations.specs.Operations.{commitRows, prepareRows, consolidateRows, copyRowsOf, confirmRowsOf};
+ghost use Rattle.operations.specs.Operations.{commitRows, prepareRows, consolidateRows};
+ghost use Rattle.state.specs.Held.{somePrepared};
 ghost use Rattle.state_words.specs.Decoded.{decoded};
 ghost use Rattle.op_rows.specs.Seen.{Low, seen};
+use crate::no_room;
 use layout::Sizes;
 use state::Places;
 
@@ -41,14 +46,14 @@ pub(crate) fn prepare_row(z: Sizes, at: Places, words: &[u64; 256], writer: usiz
 
 // The first row from 11 on that turns a pending wide commit back.
 pub(crate) fn copy_row(prepared: usize) -> usize
-    ensures { λ r. ⌜ r ≡ refusal (copyRowsOf prepared) ⌝ }
+    ensures { λ r. ⌜ r ≡ refusal ((somePrepared prepared, 23) ∷ []) ⌝ }
 {
     if prepared < 4 { 23 } else { 0 }
 }
 
 // The first row from 11 on that turns a confirm or a withdraw back.
 pub(crate) fn confirm_row(prepared: usize, writer: usize) -> usize
-    ensures { λ r. ⌜ r ≡ refusal (confirmRowsOf prepared writer) ⌝ }
+    ensures { λ r. ⌜ r ≡ refusal ((ltb 3 writer, 11) ∷ (not (eqb prepared writer), 24) ∷ []) ⌝ }
 {
     if writer > 3 {
         return 11;
@@ -77,7 +82,7 @@ pub fn consolidate_row(z: Sizes, at: Places, words: &[u64; 256], p: usize) -> us
     if state_held::held::some_hold(words, s) {
         return 18;
     }
-    if operations::no_room(z, at.head, at.tail) {
+    if no_room(z, at.head, at.tail) {
         return 19;
     }
     0

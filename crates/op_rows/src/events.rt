@@ -9,6 +9,7 @@ ghost use Rattle.state.specs.declared.Op.the-variants.{Event};
 ghost use Rattle.operations.specs.Operations.{opRows};
 ghost use Rattle.state_words.specs.Decoded.{decoded};
 ghost use Rattle.op_rows.specs.Seen.{Low, seen, eventNextRowsIn};
+use crate::no_room;
 use crate::writing;
 use layout::Sizes;
 use state::Places;
@@ -68,7 +69,7 @@ pub(crate) fn event_row(
     if row != 0 {
         return row;
     }
-    if operations::no_room(z, at.head, at.tail) {
+    if no_room(z, at.head, at.tail) {
         return 19;
     }
     0

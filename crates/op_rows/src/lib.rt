@@ -2,6 +2,7 @@
 mod committing;
 mod counting;
 mod events;
+mod room;
 mod writing;
 
 ghost use mathlib.Core.Path.{_≡_};
@@ -19,12 +20,32 @@ pub use counting::op_needs;
 pub use events::event_next_row;
 use events::event_row;
 use layout::Sizes;
+pub use room::no_room;
 use state::Op;
 use state::Places;
 use state_held::slots::slot_of;
 pub use writing::frame_bad;
 pub use writing::log_row;
 pub use writing::write_row;
+
+// Where a write goes: a page, a line of it, and the bytes of that line.
+pub struct Span {
+    pub page: usize,
+    pub line: usize,
+    pub offset: usize,
+    pub length: usize,
+}
+
+fn span_of(page: usize, line: usize, offset: usize, length: usize) -> Span
+    ensures { λ r. ⌜ r ≡ record { page = page; line = line; offset = offset; length = length } ⌝ }
+{
+    Span {
+        page,
+        line,
+        offset,
+        length,
+    }
+}
 
 // The first row from 11 on that turns an operation back, of a write or an event with the page's frame.
 pub fn op_row(z: Sizes, at: Places, words: &[u64; 256], op: Op, frame: usize) -> usize
@@ -41,7 +62,8 @@ pub fn op_row(z: Sizes, at: Places, words: &[u64; 256], op: Op, frame: usize) ->
             length,
         } => {
             let s = slot_of(z, words, p);
-            write_row(z, at, words, writer, p, s, line, offset, length, frame)
+            let a = span_of(p, line, offset, length);
+            write_row(z, at, words, writer, a, s, frame)
         }
         Op::Commit { writer } => commit_row(z, at, words, writer),
         Op::Consolidate { page: p } => consolidate_row(z, at, words, p),
@@ -60,7 +82,8 @@ pub fn op_row(z: Sizes, at: Places, words: &[u64; 256], op: Op, frame: usize) ->
             length,
         } => {
             let s = slot_of(z, words, p);
-            log_row(z, at, words, p, s, line, offset, length, frame)
+            let a = span_of(p, line, offset, length);
+            log_row(z, at, words, a, s, frame)
         }
         Op::Copy => copy_row(at.prepared),
     }

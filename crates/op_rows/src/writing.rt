@@ -7,27 +7,25 @@ ghost use Rattle.state.specs.Wide.{wideOf, noEntryLeft};
 ghost use Rattle.operations.specs.Operations.{writeArgsBad, lineTaken, noneFree};
 ghost use Rattle.state_words.specs.Decoded.{decoded};
 ghost use Rattle.op_rows.specs.Seen.{frameBadIn, writeRowsIn, logRowsIn};
+use crate::Span;
 use layout::Sizes;
 use state::Places;
 
 // Row 11 of a write, without the data. No sum wraps.
-fn write_args_bad(
-    z: Sizes,
-    writer: usize,
-    page: usize,
-    line: usize,
-    offset: usize,
-    length: usize,
-) -> bool
-    ensures { λ r. ⌜ r ≡ writeArgsBad z writer page line offset length ⌝ }
+fn write_args_bad(z: Sizes, writer: usize, span: Span) -> bool
+    ensures { λ r. ⌜ r ≡ writeArgsBad z writer (span .page) (span .line) (span .offset) (span .length) ⌝ }
 {
-    if offset > 64 {
+    if span.offset > 64 {
         return true;
     }
-    if length > 64 {
+    if span.length > 64 {
         return true;
     }
-    (writer > 3) | (page >= z.pages) | (line > 63) | (length == 0) | (offset + length > 64)
+    (writer > 3)
+        | (span.page >= z.pages)
+        | (span.line > 63)
+        | (span.length == 0)
+        | (span.offset + span.length > 64)
 }
 
 // Row 14: the page has slot s, and a writer other than w holds line l.
@@ -67,23 +65,20 @@ pub fn frame_bad(z: Sizes, words: &[u64; 256], s: usize, f: usize) -> bool
     state_held::slots::frame_of_slot(z, words, f)
 }
 
-// The first row from 11 on that turns a write to page p back, with the page's slot s, S where it has none, and its frame.
+// The first row from 11 on that turns a write back, with the page's slot s, S where it has none, and its frame.
 pub fn write_row(
     z: Sizes,
     at: Places,
     words: &[u64; 256],
     writer: usize,
-    p: usize,
+    span: Span,
     s: usize,
-    line: usize,
-    offset: usize,
-    length: usize,
     frame: usize,
 ) -> usize
     requires { ⌜ Legal z × (at .next < z .slots) ⌝ }
-    ensures { λ r. ⌜ r ≡ refusal (writeRowsIn z at (decoded (now (words .entry))) writer p s line offset length frame) ⌝ }
+    ensures { λ r. ⌜ r ≡ refusal (writeRowsIn z at (decoded (now (words .entry))) writer span s frame) ⌝ }
 {
-    if write_args_bad(z, writer, p, line, offset, length) {
+    if write_args_bad(z, writer, span) {
         return 11;
     }
     if !state_words::open_at(words, writer) {
@@ -92,7 +87,7 @@ pub fn write_row(
     if at.prepared == writer {
         return 23;
     }
-    if line_taken(z, words, writer, s, line) {
+    if line_taken(z, words, writer, s, span.line) {
         return 14;
     }
     if none_free(z, at.next, words, s) {
@@ -113,28 +108,25 @@ fn no_entry_left(z: Sizes, count: usize, words: &[u64; 256], p: usize, l: usize)
     !(e < count) & (z.entries <= count)
 }
 
-// The first row from 11 on that turns a wide write to page p back, with the page's slot s, S where it has none, and its frame.
+// The first row from 11 on that turns a wide write back, with the page's slot s, S where it has none, and its frame.
 pub fn log_row(
     z: Sizes,
     at: Places,
     words: &[u64; 256],
-    p: usize,
+    span: Span,
     s: usize,
-    line: usize,
-    offset: usize,
-    length: usize,
     frame: usize,
 ) -> usize
     requires { ⌜ Legal z × (at .count ≤ 64) ⌝ }
-    ensures { λ r. ⌜ r ≡ refusal (logRowsIn z at (decoded (now (words .entry))) p s line offset length frame) ⌝ }
+    ensures { λ r. ⌜ r ≡ refusal (logRowsIn z at (decoded (now (words .entry))) span s frame) ⌝ }
 {
-    if write_args_bad(z, at.wide, p, line, offset, length) {
+    if write_args_bad(z, at.wide, span) {
         return 11;
     }
     if !state_words::open_at(words, at.wide) {
         return 13;
     }
-    if no_entry_left(z, at.count, words, p, line) {
+    if no_entry_left(z, at.count, words, span.page, span.line) {
         return 30;
     }
     if frame_bad(z, words, s, frame) {

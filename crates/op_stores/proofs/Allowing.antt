@@ -7,7 +7,7 @@ use lib.ListN.{length, replicate}
 use Rattle.bounded.specs.Rows.{refusal}
 use Rattle.layout.specs.declared.Sizes.{Sizes}
 use Rattle.layout.specs.Layout.{Legal, imageLength}
-use Rattle.state.specs.declared.State.{State}
+use Rattle.state.specs.State.{State}
 use Rattle.state.specs.declared.Places.{Places}
 use Rattle.state.specs.declared.Pending.{Pending}
 use Rattle.state.specs.declared.Op.{Op}

@@ -1,4 +1,4 @@
--- What a started call is: with `Asked` the asking itself; with `End` what the calls in place are; always two calls of demand 3's lists.
+-- What a started call is: with `Asked` the asking itself; always two calls of demand 3's lists.
 use Prim.Native.Nat.{ℕ, _≤_, min}
 use mathlib.Core.Bool.{true, false}
 use mathlib.Core.List.{List}
@@ -6,7 +6,7 @@ use mathlib.Core.Path.{_≡_, refl, sym, ap, ap₂, _∙_}
 use native.Mathlib.Omega.{arith}
 use lib.Dec.{eqb}
 use Rattle.bounded.proofs.Tests.{caseOn}
-use Rattle.state.specs.declared.State.{State}
+use Rattle.state.specs.State.{State}
 use Rattle.refinement.specs.Outcome.{Outcome, answered}
 use Rattle.refinement.specs.Stores.{steppedBy, left}
 use Rattle.refinement.specs.Calls.{stepRow, worldOf, runOf, runBytes}
@@ -14,7 +14,6 @@ use Rattle.refinement.specs.Run.{run, exec}
 use Rattle.refinement.proofs.Steps.{run-none}
 use Rattle.answers.specs.declared.Answer.{Answer}
 use Rattle.answers.specs.Answers.{numberOf, storesOf}
-use Rattle.in_place.specs.Through.{throughOf, throughBytes, Through, answeredAt}
 use Rattle.op_stores.specs.declared.Until.{Until}
 use Rattle.op_stores.specs.declared.Until.the-variants.{Asked, Fence, End}
 use Rattle.op_stores.specs.Started.{budget, startedOf, startedBytes, startedRun, Started, InLists}
@@ -45,13 +44,3 @@ in-lists o img u =
     caseOn (eqb (o .stores) 0)
     (λ t. rw t (ap₂ worldOf (none-state (o .state) img) (none-bytes (o .state) img)))
     (λ t. rw t)
-
--- run to its end it is the call in place, of an outcome whose run is taken and that reports all of its stores
-pub end-is : (a : Answer) (after : State) (bs : List ℕ) (o : Outcome) (img : List ℕ) → o .number ≡ 0 → stepRow (o .state) img ≡ 0 → o .stores ≡ left (o .state)
-    → Started a after bs o img End → Through (answeredAt a after) bs o img
-unfolding runOf
-end-is a after bs o img n r l h =
-    let m : min (left (o .state)) (left (o .state)) ≡ left (o .state) = omega arith in
-    caseOn (eqb (o .stores) 0)
-    (λ t. (rw t (rw t at (h .0)), rw t (rw t at (h .1))))
-    (λ t. (rw t (rw t at (h .0) ∙ rw (n, r, l, m)), rw t (rw (t, ← l) at (h .1))))

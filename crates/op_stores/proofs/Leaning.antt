@@ -14,7 +14,7 @@ use Rattle.journal.specs.Records.{position}
 use Rattle.meters.specs.Meters.{eventKnown}
 use Rattle.entries.specs.Entries.{keyPage}
 use Rattle.replay.specs.Table.{slotsShaped}
-use Rattle.state.specs.declared.State.{State}
+use Rattle.state.specs.State.{State}
 use Rattle.state.specs.declared.Places.{Places}
 use Rattle.state.specs.declared.Op.{Op}
 use Rattle.state.specs.declared.Op.the-variants.{Write, Commit, Consolidate, Event, Prepare, Confirm, Log, Copy}
@@ -27,7 +27,7 @@ use Rattle.refinement.specs.Consolidate.{Consolidates}
 use Rattle.refinement.specs.Wide.{copyAtOf, copyValueOf}
 use Rattle.refinement.specs.Stores.{storeAt, storeValue, completed, withMade, stateAfter, left}
 use Rattle.refinement.proofs.Going.{going, ranges-of, shapes-of, entries-of, write-of, commit-of, prepare-of, confirm-of, consolidate-of, event-of}
-use Rattle.wide_stores.proofs.WideGoing.{log-of, entry-room}
+use Rattle.op_stores.proofs.WideGoing.{log-of, entry-room}
 use Rattle.op_pieces.specs.declared.Piece.{Piece}
 use Rattle.op_pieces.specs.Pieces.{Next, onePiece}
 use Rattle.op_pieces.proofs.PieceLaws.{one-next, next-as}

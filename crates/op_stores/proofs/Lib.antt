@@ -1,3 +1,4 @@
+pub mod WideGoing
 pub mod Leaning
 pub mod Starting
 pub mod Asking

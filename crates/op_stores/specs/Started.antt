@@ -4,7 +4,7 @@ use mathlib.Core.Bool.{Bool, cond}
 use mathlib.Core.List.{List}
 use mathlib.Core.Path.{_≡_}
 use lib.Dec.{eqb}
-use Rattle.state.specs.declared.State.{State}
+use Rattle.state.specs.State.{State}
 use Rattle.state.specs.declared.Op.{Op}
 use Rattle.state.specs.declared.Op.the-variants.{Idle, Write, Commit, Consolidate, Checkpoint, Event, Prepare, Confirm, Log, Copy}
 use Rattle.refinement.specs.Stores.{left}
@@ -62,4 +62,5 @@ startedRun o u = cond (eqb (o .stores) 0) 0 (budget u (o .state))
 
 abbrev pub InLists : Type 0
 InLists =
-    (o : Outcome) (img : List ℕ) (u : Until) → exec (run (startedRun o u)) (worldOf (o .state) img) .world ≡ worldOf (startedOf o img u .state) (startedBytes o img u)
+    (o : Outcome) (img : List ℕ) (u : Until) → exec (run (startedRun o u)) (worldOf (o .state) img) .world
+    ≡ worldOf (startedOf o img u .state) (startedBytes o img u)

@@ -62,7 +62,8 @@ pub fn ask(
 ) -> Answer
     requires { ⌜ Allowed z at (decoded (now words)) op × (imageLength z ≤ length (now image)) ⌝ }
     ensures answer { λ r. ⌜ r ≡ Taken (needs (decoded (now (words .entry))) op) ⌝ }
-    ensures started { λ r. ⌜ Started r (decoded (now (words .exit))) (now (image .exit)) (asked 0 (decoded (now (words .entry))) op (replicate 8 0) 0) (now (image .entry)) until ⌝ }
+    ensures started { λ r. ⌜ Started r (decoded (now (words .exit))) (now (image .exit))
+        (asked 0 (decoded (now (words .entry))) op (replicate 8 0) 0) (now (image .entry)) until ⌝ }
 {
     if op_rows::op_needs(z, at, words, op) == 0 {
         complete_now(z, at, words, op);

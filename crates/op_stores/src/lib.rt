@@ -107,8 +107,10 @@ pub fn start(
 ) -> Answer
     requires { ⌜ Asks z at (decoded (now words)) (now image) p ⌝ }
     ensures answer { λ r. ⌜ r ≡ Taken (needs (decoded (now (words .entry))) (p .op)) ⌝ }
-    ensures image { λ _. ⌜ now (image .exit) ≡ storesMade (withPending (decoded (now (words .entry))) p) (budget until (withPending (decoded (now (words .entry))) p)) (now (image .entry)) ⌝ }
-    ensures words { λ _. ⌜ decoded (now (words .exit)) ≡ stateAfter (withPending (decoded (now (words .entry))) p) (budget until (withPending (decoded (now (words .entry))) p)) ⌝ }
+    ensures image { λ _. ⌜ now (image .exit) ≡ storesMade (withPending (decoded (now (words .entry))) p)
+        (budget until (withPending (decoded (now (words .entry))) p)) (now (image .entry)) ⌝ }
+    ensures words { λ _. ⌜ decoded (now (words .exit)) ≡ stateAfter (withPending (decoded (now (words .entry))) p)
+        (budget until (withPending (decoded (now (words .entry))) p)) ⌝ }
 {
     let op = p.op;
     let n = op_rows::op_needs(z, at, words, op);

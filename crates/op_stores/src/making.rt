@@ -23,7 +23,8 @@ use state_held::held::held_count;
 // The piece of a commit or a prepare by writer w that store i lies in.
 fn commit_piece(z: Sizes, at: Places, words: &[u64; 256], w: usize, i: usize) -> Piece
     requires { ⌜ Legal z × (at .head < 2 * z .places) × (slotsShaped z (decoded (now words) .table) ≡ true) × (w < 4) ⌝ }
-    ensures { λ r. ⌜ ((img : List ℕ) → Next (λ m. commitAtOf z (at .head) (decoded (now (words .entry)) .writers .held) w) (λ m. commitValueOf z (at .head) (decoded (now (words .entry)) .table) (decoded (now (words .entry)) .writers .held) w) i (imageLength z) img r) ⌝ }
+    ensures { λ r. ⌜ ((img : List ℕ) → Next (λ m. commitAtOf z (at .head) (decoded (now (words .entry)) .writers .held) w)
+        (λ m. commitValueOf z (at .head) (decoded (now (words .entry)) .table) (decoded (now (words .entry)) .writers .held) w) i (imageLength z) img r) ⌝ }
 {
     let c = held_count(z, words, w);
     op_commit::piece::commit_piece(z, at.head, words, w, c, i)
@@ -47,8 +48,10 @@ pub(crate) fn next_piece(
     op: Op,
     i: usize,
 ) -> Piece
-    requires { ⌜ Served z at (decoded (now words)) × (op ≡ decoded (now words) .pending .op) × (i < needs (decoded (now words)) op) × (imageLength z ≤ length (now image)) ⌝ }
-    ensures { λ r. ⌜ Next (λ m. storeAt (decoded (now (words .entry))) m op) (λ m. storeValue (decoded (now (words .entry))) m op) i (imageLength z) (now (image .entry)) r ⌝ }
+    requires { ⌜ Served z at (decoded (now words)) × (op ≡ decoded (now words) .pending .op) × (i < needs (decoded (now words)) op)
+        × (imageLength z ≤ length (now image)) ⌝ }
+    ensures { λ r. ⌜ Next (λ m. storeAt (decoded (now (words .entry))) m op) (λ m. storeValue (decoded (now (words .entry))) m op)
+        i (imageLength z) (now (image .entry)) r ⌝ }
 {
     match op {
         Op::Idle => op_pieces::one(0, 0),
@@ -89,7 +92,8 @@ pub(crate) fn make_stores(
     made: usize,
     n: usize,
 )
-    requires { ⌜ Served z at (decoded (now words)) × (op ≡ decoded (now words) .pending .op) × (made ≡ decoded (now words) .pending .made) × (made + n ≤ needs (decoded (now words)) op) × (made + n < 2 ^ 64) × (imageLength z ≤ length (now image)) ⌝ }
+    requires { ⌜ Served z at (decoded (now words)) × (op ≡ decoded (now words) .pending .op) × (made ≡ decoded (now words) .pending .made)
+        × (made + n ≤ needs (decoded (now words)) op) × (made + n < 2 ^ 64) × (imageLength z ≤ length (now image)) ⌝ }
     ensures { λ _. ⌜ now (image .exit) ≡ storesMade (decoded (now (words .entry))) n (now (image .entry)) ⌝ }
 {
     let mut i = 0;

@@ -36,7 +36,8 @@ pub fn stores_before_fence(z: Sizes, at: Places, words: &[u64; 256]) -> usize
 // The word that its next store goes to.
 pub fn next_place(image: &[u8], z: Sizes, at: Places, words: &[u64; 256]) -> usize
     requires { ⌜ Served z at (decoded (now words)) × (imageLength z ≤ length (now image)) ⌝ }
-    ensures { λ r. ⌜ r ≡ storeAt (decoded (now (words .entry))) (now (image .entry)) (decoded (now (words .entry)) .pending .op) (decoded (now (words .entry)) .pending .made) ⌝ }
+    ensures { λ r. ⌜ r ≡ storeAt (decoded (now (words .entry))) (now (image .entry)) (decoded (now (words .entry)) .pending .op)
+        (decoded (now (words .entry)) .pending .made) ⌝ }
 {
     let op = op_in(words);
     let made = made_in(words);

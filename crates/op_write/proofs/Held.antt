@@ -11,7 +11,7 @@ use Rattle.journal.specs.declared.Slot.{Slot}
 use Rattle.replay.specs.declared.Table.{Table}
 use Rattle.replay.specs.Table.{slotIn, withSlot}
 use Rattle.masks.specs.Lines.{withLine}
-use Rattle.state.specs.declared.State.{State}
+use Rattle.state.specs.State.{State}
 use Rattle.state.specs.Slots.{slotOfPage}
 use Rattle.state.specs.Held.{heldAt}
 use Rattle.refinement.specs.Frames.{otherFrame}

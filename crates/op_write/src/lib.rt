@@ -49,8 +49,10 @@ pub fn line_piece(
 
 // The piece of a write of line l of page p that store i lies in: its finished line.
 pub fn write_piece(z: Sizes, next: usize, words: &[u64; 256], p: usize, l: usize, i: usize) -> Piece
-    requires { ⌜ (z ≡ decoded (now words) .sizes) × (next ≡ decoded (now words) .next) × Legal z × (next < z .slots) × (slotsShaped z (decoded (now words) .table) ≡ true) × (isIdle (decoded (now words) .pending .op) ≡ false) × (l < 64) × (i < 8) ⌝ }
-    ensures { λ r. ⌜ ((img : List ℕ) → Next (λ m. writeAt (decoded (now (words .entry))) p l) (λ m. writeValue (decoded (now (words .entry)))) i (imageLength z) img r) ⌝ }
+    requires { ⌜ (z ≡ decoded (now words) .sizes) × (next ≡ decoded (now words) .next) × Legal z × (next < z .slots)
+        × (slotsShaped z (decoded (now words) .table) ≡ true) × (isIdle (decoded (now words) .pending .op) ≡ false) × (l < 64) × (i < 8) ⌝ }
+    ensures { λ r. ⌜ ((img : List ℕ) → Next (λ m. writeAt (decoded (now (words .entry))) p l) (λ m. writeValue (decoded (now (words .entry))))
+        i (imageLength z) img r) ⌝ }
 {
     let line = state_words::parts::line_in(words);
     line_piece(z, next, words, line, p, l, i)
@@ -82,7 +84,8 @@ pub fn hold_line(z: Sizes, words: &mut [u64; 256], frame: usize, w: usize, p: us
 
 // What a write leaves when it is complete.
 pub fn complete_write(z: Sizes, words: &mut [u64; 256], w: usize, p: usize, l: usize)
-    requires { ⌜ (z ≡ decoded (now words) .sizes) × Legal z × (decoded (now words) .next < z .slots) × (isIdle (decoded (now words) .pending .op) ≡ false) × (w < 4) × (l < 64) ⌝ }
+    requires { ⌜ (z ≡ decoded (now words) .sizes) × Legal z × (decoded (now words) .next < z .slots)
+        × (isIdle (decoded (now words) .pending .op) ≡ false) × (w < 4) × (l < 64) ⌝ }
     ensures { λ _. ⌜ decoded (now (words .exit)) ≡ writeDone (decoded (now (words .entry))) w p l ⌝ }
 {
     let frame = state_words::parts::frame_in(words);

@@ -3,7 +3,7 @@ use Prim.Native.Nat.{ℕ, _+_, _≤_}
 use mathlib.Core.List.{List}
 use mathlib.Core.Path.{_≡_}
 use lib.ListN.{length}
-use Rattle.state.specs.declared.State.{State}
+use Rattle.state.specs.State.{State}
 use Rattle.operations.specs.Operations.{needs}
 use Rattle.refinement.specs.Stores.{storeAt, storeValue, storesMade}
 use Rattle.op_pieces.specs.declared.Piece.{Piece}

@@ -13,9 +13,8 @@ use Rattle.journal.specs.Records.{liveCount}
 use Rattle.replay.specs.Table.{slotIn, slotOf, noPosition}
 use Rattle.masks.specs.Lines.{countLines}
 use Rattle.meters.specs.Meters.{eventKnown, firstMeter, ownMeter, eventNeeds}
-use Rattle.state.specs.declared.State.{State}
+use Rattle.state.specs.State.{State}
 use Rattle.state.specs.declared.Op.{Op}
-use Rattle.state.specs.declared.Wide.{Wide}
 use Rattle.state.specs.declared.Op.the-variants.{Idle, Write, Commit, Consolidate, Checkpoint, Event, Prepare, Confirm, Log, Copy}
 use Rattle.state.specs.Slots.{slotOfPage, freeAfter, frameOfSlot}
 use Rattle.state.specs.Held.{isOpen, somePrepared, othersHold, someHold, heldSlots}
@@ -52,8 +51,7 @@ pub record Ranged (st : State) : Type 0 where
   pub live-high : live st ≤ st .sizes .places
   pub next-low : st .next < st .sizes .slots
 
--- ---- the rows from 11 on; s is the slot of the page, S where it has none; prepared is the writer who is prepared, above 3 where none is; d is the wide
--- transaction
+-- ---- the rows from 11 on; s is the slot of the page, S where it has none, and f the page's frame
 
 -- 11, without the data
 abbrev pub writeArgsBad : Sizes → ℕ → ℕ → ℕ → ℕ → ℕ → Bool
@@ -79,126 +77,99 @@ journalFullOf z head tail n = ltb (z .places) (liveCount z head tail + n)
 abbrev pub journalFull : State → ℕ → Bool
 journalFull st n = journalFullOf (st .sizes) (st .head) (st .tail) n
 
--- each table takes the parts of a state that it reads; of a write, s is the slot of page p and f its frame. 23 (document 02, L8): of a write, its writer
--- is prepared; of a commit, a prepare, a consolidation or an event, a writer is
-abbrev pub writeRowsOf : Sizes → ℕ → List ℕ → List ℕ → List ℕ → List Bool → List ℕ → ℕ → ℕ → ℕ → ℕ → ℕ → ℕ → ℕ → ℕ → List Row
-writeRowsOf z next page original spare opened held prepared w p s l o n f =
-    (writeArgsBad z w p l o n, 11)
-    ∷ (not (isOpen opened w), 13)
-    ∷ (eqb prepared w, 23)
-    ∷ (lineTaken z held w s l, 14)
-    ∷ (noneFree z page next s, 15)
-    ∷ (frameBad z page original spare s f, 16)
+-- of a write. 23 (document 02, L8): of a write, its writer is prepared; of a commit, a prepare, a consolidation or an event, a writer is
+abbrev pub writeRowsAt : State → ℕ → ℕ → ℕ → ℕ → ℕ → ℕ → ℕ → List Row
+writeRowsAt st s w p l o n f =
+    (writeArgsBad (st .sizes) w p l o n, 11)
+    ∷ (not (isOpen (st .writers .opened) w), 13)
+    ∷ (eqb (st .writers .prepared) w, 23)
+    ∷ (lineTaken (st .sizes) (st .writers .held) w s l, 14)
+    ∷ (noneFree (st .sizes) (st .table .page) (st .next) s, 15)
+    ∷ (frameBad (st .sizes) (st .table .page) (st .table .original) (st .table .spare) s f, 16)
     ∷ []
+
+abbrev pub writeRows : State → ℕ → ℕ → ℕ → ℕ → ℕ → ℕ → List Row
+writeRows st w p l o n f = writeRowsAt st (slotFor st p) w p l o n f
 
 -- a wide write's, by the wide writer (document 02, L14). 30: a new line with all entries used. It takes no slot, so there is no 15; by row 8 every other
 -- writer is closed and it is not prepared, so that 14 and 23 cannot apply
-abbrev pub logRowsOf : Sizes → List ℕ → List ℕ → List ℕ → List Bool → Wide → ℕ → ℕ → ℕ → ℕ → ℕ → ℕ → List Row
-logRowsOf z page original spare opened d p s l o n f =
-    (writeArgsBad z (d .writer) p l o n, 11)
-    ∷ (not (isOpen opened (d .writer)), 13)
-    ∷ (noEntryLeft z d p l, 30)
-    ∷ (frameBad z page original spare s f, 16)
+abbrev pub logRowsAt : State → ℕ → ℕ → ℕ → ℕ → ℕ → ℕ → List Row
+logRowsAt st s p l o n f =
+    (writeArgsBad (st .sizes) (st .wide .writer) p l o n, 11)
+    ∷ (not (isOpen (st .writers .opened) (st .wide .writer)), 13)
+    ∷ (noEntryLeft (st .sizes) (st .wide) p l, 30)
+    ∷ (frameBad (st .sizes) (st .table .page) (st .table .original) (st .table .spare) s f, 16)
     ∷ []
 
+abbrev pub logRows : State → ℕ → ℕ → ℕ → ℕ → ℕ → List Row
+logRows st p l o n f = logRowsAt st (slotFor st p) p l o n f
+
 -- of a commit
-abbrev pub commitRowsOf : Sizes → ℕ → ℕ → List Bool → List ℕ → ℕ → ℕ → List Row
-commitRowsOf z head tail opened held prepared w =
+abbrev pub commitRows : State → ℕ → List Row
+commitRows st w =
     (ltb 3 w, 11)
-    ∷ (not (isOpen opened w), 13)
-    ∷ (somePrepared prepared, 23)
-    ∷ (journalFullOf z head tail (length (heldSlots z held w)), 19)
+    ∷ (not (isOpen (st .writers .opened) w), 13)
+    ∷ (somePrepared (st .writers .prepared), 23)
+    ∷ (journalFull st (length (heldSlots (st .sizes) (st .writers .held) w)), 19)
     ∷ []
 
 -- of a prepare, which checks as a commit does. 29: a wide transaction is open
-abbrev pub prepareRowsOf : Sizes → ℕ → ℕ → List Bool → List ℕ → ℕ → ℕ → ℕ → List Row
-prepareRowsOf z head tail opened held prepared wide w =
+abbrev pub prepareRows : State → ℕ → List Row
+prepareRows st w =
     (ltb 3 w, 11)
-    ∷ (someWide wide, 29)
-    ∷ (not (isOpen opened w), 13)
-    ∷ (somePrepared prepared, 23)
-    ∷ (journalFullOf z head tail (length (heldSlots z held w)), 19)
+    ∷ (someWide (st .wide .writer), 29)
+    ∷ (not (isOpen (st .writers .opened) w), 13)
+    ∷ (somePrepared (st .writers .prepared), 23)
+    ∷ (journalFull st (length (heldSlots (st .sizes) (st .writers .held) w)), 19)
     ∷ []
 
 -- of a wide commit that is pending: row 8 leaves out 11 and 13, as one that a mount returned has no writer; it appends no record, so that 19 cannot apply
-abbrev pub copyRowsOf : ℕ → List Row
-copyRowsOf prepared = (somePrepared prepared, 23) ∷ []
+abbrev pub copyRows : State → List Row
+copyRows st = (somePrepared (st .writers .prepared), 23) ∷ []
 
 -- of a confirm, and of a withdraw. 24: the writer is not prepared
-abbrev pub confirmRowsOf : ℕ → ℕ → List Row
-confirmRowsOf prepared w = (ltb 3 w, 11) ∷ (not (eqb prepared w), 24) ∷ []
+abbrev pub confirmRows : State → ℕ → List Row
+confirmRows st w = (ltb 3 w, 11) ∷ (not (eqb (st .writers .prepared) w), 24) ∷ []
 
 -- 17: the page has no slot; 18: a writer holds a line of it
-abbrev pub consolidateRowsOf : Sizes → ℕ → ℕ → List ℕ → List ℕ → ℕ → ℕ → List Row
-consolidateRowsOf z head tail page held prepared p =
-    (leb (z .pages) p, 11)
-    ∷ (somePrepared prepared, 23)
-    ∷ (not (ltb (slotOfPage z page p) (z .slots)), 17)
-    ∷ (someHold held (slotOfPage z page p), 18)
-    ∷ (journalFullOf z head tail 1, 19)
+abbrev pub consolidateRows : State → ℕ → List Row
+consolidateRows st p =
+    (leb (st .sizes .pages) p, 11)
+    ∷ (somePrepared (st .writers .prepared), 23)
+    ∷ (not (slotted st p), 17)
+    ∷ (someHold (st .writers .held) (slotFor st p), 18)
+    ∷ (journalFull st 1, 19)
     ∷ []
 
 -- an event's, s being the slot of page 0 and f its frame, without rows 26 and 21, which row 8 leaves out (document 02, L2 and L10). 20: there is no such
 -- event; 12: writer 1 is open; 14: another writer holds one of its lines
-abbrev pub eventNextRowsOf : Sizes → ℕ → List ℕ → List ℕ → List ℕ → List Bool → List ℕ → ℕ → ℕ → ℕ → ℕ → ℕ → List Row
-eventNextRowsOf z next page original spare opened held prepared k m s f =
-    (isOpen opened 1, 12)
-    ∷ (somePrepared prepared, 23)
-    ∷ (lineTaken z held 1 s (firstMeter k m) || lineTaken z held 1 s (ownMeter k m), 14)
-    ∷ (noneFree z page next s, 15)
-    ∷ (frameBad z page original spare s f, 16)
+abbrev pub eventNextRowsAt : State → ℕ → ℕ → ℕ → ℕ → List Row
+eventNextRowsAt st s k m f =
+    (isOpen (st .writers .opened) 1, 12)
+    ∷ (somePrepared (st .writers .prepared), 23)
+    ∷ (lineTaken (st .sizes) (st .writers .held) 1 s (firstMeter k m) || lineTaken (st .sizes) (st .writers .held) 1 s (ownMeter k m), 14)
+    ∷ (noneFree (st .sizes) (st .table .page) (st .next) s, 15)
+    ∷ (frameBad (st .sizes) (st .table .page) (st .table .original) (st .table .spare) s f, 16)
     ∷ []
 
-abbrev pub eventRowsOf : Sizes → ℕ → ℕ → ℕ → List ℕ → List ℕ → List ℕ → List Bool → List ℕ → ℕ → ℕ → ℕ → ℕ → ℕ → ℕ → List Row
-eventRowsOf z head tail next page original spare opened held prepared wide k m s f =
-    (someWide wide, 29)
-    ∷ (not (eventKnown k m), 20)
-    ∷ (eventNextRowsOf z next page original spare opened held prepared k m s f ++ ((journalFullOf z head tail 1, 19) ∷ []))
+abbrev pub eventNextRows : State → ℕ → ℕ → ℕ → List Row
+eventNextRows st k m f = eventNextRowsAt st (slotFor st 0) k m f
+
+abbrev pub eventRows : State → ℕ → ℕ → ℕ → List Row
+eventRows st k m f = (someWide (st .wide .writer), 29) ∷ (not (eventKnown k m), 20) ∷ (eventNextRows st k m f ++ ((journalFull st 1, 19) ∷ []))
 
 -- the rows of an operation, of a write or an event with the page's frame f
-abbrev pub opRowsOf : Sizes → ℕ → ℕ → ℕ → List ℕ → List ℕ → List ℕ → List Bool → List ℕ → ℕ → Wide → Op → ℕ → List Row
-opRowsOf z head tail next page original spare opened held prepared d Idle f = []
-opRowsOf z head tail next page original spare opened held prepared d (Write w p l o n) f =
-    writeRowsOf z next page original spare opened held prepared w p (slotOfPage z page p) l o n f
-opRowsOf z head tail next page original spare opened held prepared d (Commit w) f = commitRowsOf z head tail opened held prepared w
-opRowsOf z head tail next page original spare opened held prepared d (Consolidate p) f = consolidateRowsOf z head tail page held prepared p
-opRowsOf z head tail next page original spare opened held prepared d Checkpoint f = []
-opRowsOf z head tail next page original spare opened held prepared d (Event k m a) f =
-    eventRowsOf z head tail next page original spare opened held prepared (d .writer) k m (slotOfPage z page 0) f
-opRowsOf z head tail next page original spare opened held prepared d (Prepare w) f = prepareRowsOf z head tail opened held prepared (d .writer) w
-opRowsOf z head tail next page original spare opened held prepared d (Confirm w) f = confirmRowsOf prepared w
-opRowsOf z head tail next page original spare opened held prepared d (Log p l o n) f =
-    logRowsOf z page original spare opened d p (slotOfPage z page p) l o n f
-opRowsOf z head tail next page original spare opened held prepared d Copy f = copyRowsOf prepared
-
--- the same of a state
-abbrev pub writeRows : State → ℕ → ℕ → ℕ → ℕ → ℕ → ℕ → List Row
-writeRows st w p l o n f =
-    writeRowsOf (st .sizes) (st .next) (st .table .page) (st .table .original) (st .table .spare) (st .writers .opened) (st .writers .held) (st .writers .prepared) w p (slotFor st p) l o n f
-
-abbrev pub commitRows : State → ℕ → List Row
-commitRows st w = commitRowsOf (st .sizes) (st .head) (st .tail) (st .writers .opened) (st .writers .held) (st .writers .prepared) w
-
-abbrev pub prepareRows : State → ℕ → List Row
-prepareRows st w = prepareRowsOf (st .sizes) (st .head) (st .tail) (st .writers .opened) (st .writers .held) (st .writers .prepared) (st .wide .writer) w
-
-abbrev pub logRows : State → ℕ → ℕ → ℕ → ℕ → ℕ → List Row
-logRows st p l o n f =
-    logRowsOf (st .sizes) (st .table .page) (st .table .original) (st .table .spare) (st .writers .opened) (st .wide) p (slotFor st p) l o n f
-
-abbrev pub confirmRows : State → ℕ → List Row
-confirmRows st w = confirmRowsOf (st .writers .prepared) w
-
-abbrev pub consolidateRows : State → ℕ → List Row
-consolidateRows st p = consolidateRowsOf (st .sizes) (st .head) (st .tail) (st .table .page) (st .writers .held) (st .writers .prepared) p
-
-abbrev pub eventNextRows : State → ℕ → ℕ → ℕ → List Row
-eventNextRows st k m f =
-    eventNextRowsOf (st .sizes) (st .next) (st .table .page) (st .table .original) (st .table .spare) (st .writers .opened) (st .writers .held) (st .writers .prepared) k m (slotFor st 0) f
-
 abbrev pub opRows : State → Op → ℕ → List Row
-opRows st op f =
-    opRowsOf (st .sizes) (st .head) (st .tail) (st .next) (st .table .page) (st .table .original) (st .table .spare) (st .writers .opened) (st .writers .held) (st .writers .prepared) (st .wide) op f
+opRows st Idle f = []
+opRows st (Write w p l o n) f = writeRows st w p l o n f
+opRows st (Commit w) f = commitRows st w
+opRows st (Consolidate p) f = consolidateRows st p
+opRows st Checkpoint f = []
+opRows st (Event k m a) f = eventRows st k m f
+opRows st (Prepare w) f = prepareRows st w
+opRows st (Confirm w) f = confirmRows st w
+opRows st (Log p l o n) f = logRows st p l o n f
+opRows st Copy f = copyRows st
 
 -- ---- stores needed
 
@@ -231,21 +202,18 @@ recordedSlots z last = those (z .slots) (λ s. not (eqb (getD last s 0) noPositi
 abbrev pub checkpointNeeds : ℕ → ℕ → ℕ → ℕ
 checkpointNeeds head tail m = cond (eqb head tail) 0 (3 * m + 1)
 
--- the same of an operation, by the parts of a state that it reads; a wide transaction uses so many entries
-abbrev pub needsOf : Sizes → ℕ → ℕ → List ℕ → List ℕ → List ℕ → List ℕ → ℕ → Op → ℕ
-needsOf z head tail page bitmap last held entries Idle = 0
-needsOf z head tail page bitmap last held entries (Write w p l o n) = 8
-needsOf z head tail page bitmap last held entries (Commit w) = commitNeeds (length (heldSlots z held w))
-needsOf z head tail page bitmap last held entries (Consolidate p) = consolidateNeeds (getD bitmap (slotOfPage z page p) 0)
-needsOf z head tail page bitmap last held entries Checkpoint = checkpointNeeds head tail (length (recordedSlots z last))
-needsOf z head tail page bitmap last held entries (Event k m a) = eventNeeds k
-needsOf z head tail page bitmap last held entries (Prepare w) = prepareNeeds (length (heldSlots z held w))
-needsOf z head tail page bitmap last held entries (Confirm w) = confirmNeeds (length (heldSlots z held w))
-needsOf z head tail page bitmap last held entries (Log p l o n) = 9
-needsOf z head tail page bitmap last held entries Copy = copyNeeds entries
-
+-- the same of an operation; a wide transaction uses so many entries
 unfoldable pub needs : State → Op → ℕ
-needs st op = needsOf (st .sizes) (st .head) (st .tail) (st .table .page) (st .table .bitmap) (st .table .last) (st .writers .held) (st .wide .count) op
+needs st Idle = 0
+needs st (Write w p l o n) = 8
+needs st (Commit w) = commitNeeds (length (heldSlots (st .sizes) (st .writers .held) w))
+needs st (Consolidate p) = consolidateNeeds (getD (st .table .bitmap) (slotFor st p) 0)
+needs st Checkpoint = checkpointNeeds (st .head) (st .tail) (length (recordedSlots (st .sizes) (st .table .last)))
+needs st (Event k m a) = eventNeeds k
+needs st (Prepare w) = prepareNeeds (length (heldSlots (st .sizes) (st .writers .held) w))
+needs st (Confirm w) = confirmNeeds (length (heldSlots (st .sizes) (st .writers .held) w))
+needs st (Log p l o n) = 9
+needs st Copy = copyNeeds (st .wide .count)
 
 -- what the count leans on, and the rows make sure of: a writer below 4, a page with a slot
 abbrev pub Asked : Sizes → List ℕ → Op → Type 0

@@ -1,1 +1,2 @@
+pub mod Described
 pub mod LineByte

@@ -8,33 +8,32 @@ use Rattle.words.specs.Words.{leOf, bytesOf}
 use Rattle.state.specs.declared.Op.the-variants.{Idle, Write, Commit, Consolidate, Checkpoint, Event, Prepare, Confirm, Log, Copy}
 use Rattle.state.specs.declared.Op.{Op}
 use Rattle.state.specs.declared.Pending.{Pending}
-use Rattle.state.specs.declared.State.{State}
+use Rattle.state.specs.State.{State}
 use Rattle.refinement.specs.Settled.{noPending}
+use Rattle.state_pending.specs.Put.{opIn, withPending}
 use Rattle.text.specs.declared.Line.{Line}
-use Rattle.workbench.specs.Turns.{arg, withState, edited, formed}
-use Rattle.workbench.specs.declared.Bench.{Bench}
-use Rattle.workbench.specs.declared.Turn.{Turn}
+use Rattle.workbench.specs.Turns.{Turn, arg, edited, formed}
 
 -- ---- O,k,a,b,c,d,e,made,frame: the pending operation
 
-abbrev pub plainPending : Op → ℕ → Pending
-plainPending op made = record { op = op; made = made; line = replicate 8 0; second = replicate 8 0; frame = 0 }
+-- an operation with so many stores made; its finished lines are zeros
+abbrev pub pendingWith : Op → ℕ → ℕ → Pending
+pendingWith op made frame = record { op = op; made = made; line = replicate 8 0; second = replicate 8 0; frame = frame }
 
+-- a write alone has a frame
 abbrev pub pendingOf : Line → Pending
 pendingOf line =
-    cond (eqb (arg line 0) 1)
-    (record { op = Write (arg line 1) (arg line 2) (arg line 3) (arg line 4) (arg line 5); made = arg line 6; line = replicate 8 0; second = replicate 8 0; frame = arg line 7 })
-    (cond (eqb (arg line 0) 2) (plainPending (Commit (arg line 1)) (arg line 6))
-    (cond (eqb (arg line 0) 3) (plainPending (Consolidate (arg line 1)) (arg line 6))
-    (cond (eqb (arg line 0) 4) (plainPending Checkpoint (arg line 6)) noPending)))
+    cond (eqb (arg line 0) 1) (pendingWith (Write (arg line 1) (arg line 2) (arg line 3) (arg line 4) (arg line 5)) (arg line 6) (arg line 7))
+    (cond (eqb (arg line 0) 2) (pendingWith (Commit (arg line 1)) (arg line 6) 0)
+    (cond (eqb (arg line 0) 3) (pendingWith (Consolidate (arg line 1)) (arg line 6) 0)
+    (cond (eqb (arg line 0) 4) (pendingWith Checkpoint (arg line 6) 0) noPending)))
 
-abbrev pub withPending : State → Pending → State
-withPending st p =
-    record { sizes = st .sizes; head = st .head; tail = st .tail; next = st .next; table = st .table; writers = st .writers; wide = st .wide; pending = p }
+-- the same by the eight numbers that stand in a state's words
+abbrev pub pendingIn : List ℕ → Pending
+pendingIn n = pendingWith (opIn n) (getD n 6 0) (getD n 7 0)
 
-abbrev pub pendingTurn : Bench → Line → Turn
-pendingTurn b line =
-    formed (eqb (line .count) 8 && leb (arg line 0) 4) b (edited (withState b (withPending (b .st) (pendingOf line))))
+abbrev pub pendingTurn : State → Line → Turn
+pendingTurn st line = formed (eqb (line .count) 8 && leb (arg line 0) 4) st (edited (withPending st (pendingOf line)))
 
 -- ---- Q,i,v: byte i of the pending write's finished line becomes v
 
@@ -50,15 +49,21 @@ isWrite (Confirm w) = false
 isWrite (Log p l o n) = false
 isWrite Copy = false
 
--- the words of a line with its byte i set to v
-abbrev pub withLineByte : List ℕ → ℕ → ℕ → List ℕ
-withLineByte words i v = set words (i / 8) (leOf (set (bytesOf 8 (getD words (i / 8) 0)) (i % 8) v))
+-- a word with its byte j set to v
+abbrev pub withByte : ℕ → ℕ → ℕ → ℕ
+withByte word j v = leOf (set (bytesOf 8 word) j v)
 
 abbrev pub withLine : Pending → List ℕ → Pending
 withLine p words = record { op = p .op; made = p .made; line = words; second = p .second; frame = p .frame }
 
-abbrev pub lineByteTurn : Bench → Line → Turn
-lineByteTurn b line =
-    let p = b .st .pending in
-    formed (eqb (line .count) 2 && leb (arg line 0) 63 && leb (arg line 1) 255 && isWrite (p .op)) b
-    (edited (withState b (withPending (b .st) (withLine p (withLineByte (p .line) (arg line 0) (arg line 1))))))
+-- byte i of the line is byte i mod 8 of its word i / 8
+abbrev pub withLineByte : State → ℕ → ℕ → State
+withLineByte st i v =
+    let p = st .pending in
+    withPending st (withLine p (set (p .line) (i / 8) (withByte (getD (p .line) (i / 8) 0) (i % 8) v)))
+
+abbrev pub lineByteForm : State → Line → Bool
+lineByteForm st line = eqb (line .count) 2 && leb (arg line 0) 63 && leb (arg line 1) 255 && isWrite (st .pending .op)
+
+abbrev pub lineByteTurn : State → Line → Turn
+lineByteTurn st line = formed (lineByteForm st line) st (edited (withLineByte st (arg line 0) (arg line 1)))

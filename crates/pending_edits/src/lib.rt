@@ -1,137 +1,113 @@
-// O and Q: the pending operation, and a byte of the pending write's finished line.
+// O and Q: the pending operation, and a byte of the pending write's finished line. Unlike `state_pending::put_pending`, O puts any numbers,
+// over any that are there.
 ghost use mathlib.Core.Path.{_≡_};
-ghost use Prim.Native.Nat.{_<_};
-ghost use Rattle.pending_edits.specs.Edits.{plainPending, pendingOf, withPending, pendingTurn, isWrite, withLineByte, lineByteTurn};
-use state::Op;
-use state::Pending;
-use state::State;
+ghost use mathlib.Core.Bool.{true, false};
+ghost use Prim.Native.Nat.{_+_, _<_, _≤_};
+ghost use lib.ListN.{getD, set, length};
+ghost use Rattle.words.specs.Words.{leOf, bytesOf};
+ghost use Rattle.operations.specs.Operations.{isIdle};
+ghost use Rattle.state_words.specs.Decoded.{decoded};
+ghost use Rattle.state_pending.specs.Put.{eight, opIn, withPending};
+ghost use Rattle.workbench.specs.Turns.{turnAt};
+ghost use Rattle.pending_edits.specs.Edits.{pendingIn, pendingOf, pendingTurn, isWrite, withByte, withLineByte, lineByteTurn};
+use state_words::LINE;
+use state_words::PENDING;
+use state_words::SECOND;
 use text::Line;
-use workbench::Bench;
-use workbench::Turn;
+use workbench::Said;
 
-// An operation other than a write.
-fn plain_pending(op: Op, made: usize) -> Pending
-    ensures { λ r. ⌜ r ≡ plainPending op made ⌝ }
+// Puts eight words from word i on.
+fn put_eight(words: &mut [u64; 256], i: usize, l: [u64; 8])
+    requires { ⌜ i + 8 ≤ 256 ⌝ }
+    ensures words { λ _. ⌜ now (words .exit) ≡ eight (now (words .entry)) i l ⌝ }
+    ensures long { λ _. ⌜ length l ≡ 8 ⌝ }
 {
-    Pending {
-        op,
-        made,
-        line: [0; 8],
-        second: [0; 8],
-        frame: 0,
+    words[i] = l[0];
+    words[i + 1] = l[1];
+    words[i + 2] = l[2];
+    words[i + 3] = l[3];
+    words[i + 4] = l[4];
+    words[i + 5] = l[5];
+    words[i + 6] = l[6];
+    words[i + 7] = l[7];
+}
+
+// Puts an operation by its eight numbers, its finished lines zeros.
+fn put_numbers(words: &mut [u64; 256], n: [u64; 8])
+    requires { ⌜ isIdle (opIn n) ≡ false ⌝ }
+    ensures { λ _. ⌜ decoded (now (words .exit)) ≡ withPending (decoded (now (words .entry))) (pendingIn n) ⌝ }
+{
+    let _ = state_words::all_words(*words);
+    let none = [0u64; 8];
+    put_eight(words, PENDING, n);
+    put_eight(words, LINE, none);
+    put_eight(words, SECOND, none);
+}
+
+// Puts the operation that a line describes. A write alone has a frame.
+fn put_described(words: &mut [u64; 256], line: Line)
+    requires { ⌜ getD (line .numbers) 0 0 ≤ 4 ⌝ }
+    ensures { λ _. ⌜ decoded (now (words .exit)) ≡ withPending (decoded (now (words .entry))) (pendingOf line) ⌝ }
+{
+    let n = line.numbers;
+    let k = n[0];
+    if k == 0 {
+        state_words::put_nothing(words);
+        return;
     }
-}
-
-// The pending operation that a line describes, its finished line zeros.
-fn pending_of(line: Line) -> Pending
-    ensures { λ r. ⌜ r ≡ pendingOf line ⌝ }
-{
-    let a = line.numbers[1] as usize;
-    let made = line.numbers[6] as usize;
-    let k = line.numbers[0];
-    match k {
-        1 => {
-            let op = Op::Write {
-                writer: a,
-                page: line.numbers[2] as usize,
-                line: line.numbers[3] as usize,
-                offset: line.numbers[4] as usize,
-                length: line.numbers[5] as usize,
-            };
-            let frame = line.numbers[7] as usize;
-            Pending {
-                op,
-                made,
-                line: [0; 8],
-                second: [0; 8],
-                frame,
-            }
-        }
-        2 => plain_pending(Op::Commit { writer: a }, made),
-        3 => plain_pending(Op::Consolidate { page: a }, made),
-        4 => plain_pending(Op::Checkpoint, made),
-        _ => settled::no_pending(),
+    if k == 1 {
+        put_numbers(words, [k, n[1], n[2], n[3], n[4], n[5], n[6], n[7]]);
+        return;
     }
+    put_numbers(words, [k, n[1], n[2], n[3], n[4], n[5], n[6], 0]);
 }
 
-fn with_pending(st: State, p: Pending) -> State
-    ensures { λ r. ⌜ r ≡ withPending st p ⌝ }
-{
-    let mut next = st;
-    next.pending = p;
-    next
-}
-
-pub fn set_pending(bench: Bench, line: Line) -> Turn
-    ensures { λ r. ⌜ r ≡ pendingTurn bench line ⌝ }
+pub fn set_pending(words: &mut [u64; 256], line: Line) -> Said
+    ensures { λ r. ⌜ turnAt r (now (words .exit)) ≡ pendingTurn (decoded (now (words .entry))) line ⌝ }
 {
     let k = line.numbers[0];
     if (line.count == 8) & (k <= 4) {
-        let next = with_pending(bench.st, pending_of(line));
-        return workbench::edited(workbench::with_state(bench, next));
+        put_described(words, line);
+        return workbench::edited();
     }
-    workbench::other(bench)
+    Said::OtherForm
 }
 
-fn is_write(op: Op) -> bool
-    ensures { λ r. ⌜ r ≡ isWrite op ⌝ }
+// Whether a write is pending.
+fn is_write(words: &[u64; 256]) -> bool
+    ensures { λ r. ⌜ r ≡ isWrite (decoded (now (words .entry)) .pending .op) ⌝ }
 {
-    match op {
-        Op::Idle => false,
-        Op::Write {
-            writer: _,
-            page: _,
-            line: _,
-            offset: _,
-            length: _,
-        } => true,
-        Op::Commit { writer: _ } => false,
-        Op::Consolidate { page: _ } => false,
-        Op::Checkpoint => false,
-        Op::Event {
-            kind: _,
-            meter: _,
-            amount: _,
-        } => false,
-        Op::Prepare { writer: _ } => false,
-        Op::Confirm { writer: _ } => false,
-        Op::Log {
-            page: _,
-            line: _,
-            offset: _,
-            length: _,
-        } => false,
-        Op::Copy => false,
-    }
+    words[PENDING] == 1
 }
 
-// The words of a line with its byte i set to v.
-fn with_line_byte(line: [u64; 8], i: usize, v: u8) -> [u64; 8]
-    requires { ⌜ i < 64 ⌝ }
-    ensures { λ r. ⌜ r ≡ withLineByte line i v ⌝ }
+// A word with its byte j set to v.
+fn with_byte(word: u64, j: usize, v: u8) -> u64
+    requires { ⌜ j < 8 ⌝ }
+    ensures { λ r. ⌜ r ≡ withByte word j v ⌝ }
 {
-    let k = i / 8;
     let mut b = [0u8; 8];
-    words::put_word(&mut b, 0, line[k]);
-    b[i % 8] = v;
-    let mut next = line;
-    next[k] = words::word_at(&b, 0);
-    next
+    words::put_word(&mut b, 0, word);
+    b[j] = v;
+    words::word_at(&b, 0)
 }
 
-pub fn set_line_byte(bench: Bench, line: Line) -> Turn
-    ensures { λ r. ⌜ r ≡ lineByteTurn bench line ⌝ }
+// Sets byte i of the pending write's finished line.
+fn put_line_byte(words: &mut [u64; 256], i: usize, v: u8)
+    requires { ⌜ (i < 64) × (isWrite (decoded (now words) .pending .op) ≡ true) ⌝ }
+    ensures { λ _. ⌜ decoded (now (words .exit)) ≡ withLineByte (decoded (now (words .entry))) i v ⌝ }
 {
-    let st = bench.st;
-    let mut p = st.pending;
-    let op = p.op;
+    let k = LINE + i / 8;
+    words[k] = with_byte(words[k], i % 8, v);
+}
+
+pub fn set_line_byte(words: &mut [u64; 256], line: Line) -> Said
+    ensures { λ r. ⌜ turnAt r (now (words .exit)) ≡ lineByteTurn (decoded (now (words .entry))) line ⌝ }
+{
     let i = line.numbers[0] as usize;
     let v = line.numbers[1];
-    if (line.count == 2) & (i <= 63) & (v <= 255) & is_write(op) {
-        let words = p.line;
-        let next = with_line_byte(words, i, v as u8);
-        p.line = next;
-        return workbench::edited(workbench::with_state(bench, with_pending(st, p)));
+    if (line.count == 2) & (i <= 63) & (v <= 255) & is_write(words) {
+        put_line_byte(words, i, v as u8);
+        return workbench::edited();
     }
-    workbench::other(bench)
+    Said::OtherForm
 }

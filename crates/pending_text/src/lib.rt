@@ -4,9 +4,10 @@ ghost use Prim.Native.Nat.{_+_, _<_, _≤_};
 ghost use lib.ListN.{length};
 ghost use Rattle.words.specs.Words.{bytesOf};
 ghost use Rattle.number_text.specs.Text.{Put, blanked};
+ghost use Rattle.state_words.specs.Decoded.{decoded};
 ghost use Rattle.pending_text.specs.Numbers.{opNumbers, lineNumbers, finishedNumbers, pendingNumbers};
 use state::Op;
-use state::Pending;
+use state_words::parts;
 
 fn op_numbers(op: Op, made: usize, frame: usize) -> [u64; 8]
     ensures { λ r. ⌜ r ≡ opNumbers op made frame ⌝ }
@@ -131,13 +132,17 @@ fn put_finished(out: &mut [u8], at: usize, op: Op, line: [u64; 8]) -> usize
     }
 }
 
-pub fn put_pending(out: &mut [u8], at: usize, p: Pending) -> usize
+// The pending operation of a state in words: eight zeros where there is none.
+pub fn put_pending(out: &mut [u8], at: usize, words: &[u64; 256]) -> usize
     requires { ⌜ at + 1512 ≤ length (now out) ⌝ }
-    ensures { λ r. ⌜ Put (now (out .entry)) at (blanked (pendingNumbers p)) (now (out .exit)) r ⌝ }
+    ensures { λ r. ⌜ Put (now (out .entry)) at (blanked (pendingNumbers (decoded (now (words .entry)) .pending))) (now (out .exit)) r ⌝ }
 {
-    let op = p.op;
-    let eight = op_numbers(op, p.made, p.frame);
+    if parts::idle_in(words) {
+        return number_text::put_numbers(out, at, &[0; 8]);
+    }
+    let op = parts::op_in(words);
+    let eight = op_numbers(op, parts::made_in(words), parts::frame_in(words));
     let next = number_text::put_numbers(out, at, &eight);
-    let line = p.line;
+    let line = parts::line_in(words);
     put_finished(out, next, op, line)
 }

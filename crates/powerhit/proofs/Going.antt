@@ -19,9 +19,8 @@ use Rattle.cutting.proofs.Cutting.{end-here}
 use Rattle.cutting.proofs.Feeding.{fed-append, fed-line, fed-to, fed-rest}
 use Rattle.text.proofs.LongLine.{cut-line}
 use Rattle.printing.specs.Output.{outputLine}
-use Rattle.executing.specs.declared.Machine.{Machine}
-use Rattle.script.specs.declared.Performed.{Performed}
-use Rattle.script.specs.Performed.{lineTurn, performed}
+use Rattle.executing.specs.Called.{Machine}
+use Rattle.script.specs.Performed.{lineTurn, Performance, performed}
 use Rattle.powerhit.specs.declared.Session.{Session}
 use Rattle.powerhit.specs.Program.{Work, roomed, act, first, Stands, Shows, Takes, Lines, Closes, TakesSome, Ran}
 
@@ -44,25 +43,24 @@ act-stands : (w : Work) (line out : List ℕ) → Ends out (roomed (w .waiting))
     → (let t = lineTurn (w .machine) (w .image) line in
     let n = (w .lines + 1) % 2 ^ 64 in
     let at = roomed (w .waiting) in
-    let text = outputLine n (t .turned .output) in
-    length (over out at text) ≡ length out → Stands (t .turned .machine) n (at + length text) (t .image) (over out at text) (act w line))
+    let text = outputLine n (t .output) in
+    length (over out at text) ≡ length out → Stands (t .machine) n (at + length text) (t .image) (over out at text) (act w line))
 unfolding act
 act-stands w line out h r k = record { machine = refl; image = refl; lines = refl; waiting = refl; unwritten = ends-more _ h r k }
 
 stands-line : {m : Machine} {n at : ℕ} {img out : List ℕ} {w : Work} → Stands m n at img out w
-    → (line : List ℕ) (room k : ℕ) (r : Performed) (img′ out′ : List ℕ) → room ≡ roomed at → length out ≡ 65536 → length out′ ≡ 65536
-    → k ≡ (n + 1) % 2 ^ 64
-    → (let p = performed m img k line out room in (r ≡ p .result) × ((img′ ≡ p .image) × (out′ ≡ p .out)))
-    → Stands (r .machine) k (r .end) img′ out′ (act w line)
+    → (line : List ℕ) (room k : ℕ) (p : Performance) → room ≡ roomed at → length out ≡ 65536 → length (p .out) ≡ 65536
+    → k ≡ (n + 1) % 2 ^ 64 → p ≡ performed m img k line out room
+    → Stands (p .machine) k (p .end) (p .image) (p .out) (act w line)
 unfolding performed
-stands-line {at = at} {out = out} {w = w} stands line room k r img′ out′ made size size′ e p =
+stands-line {at = at} {out = out} {w = w} stands line room k p made size size′ e h =
     let low : room ≤ 65000 = rw made (roomed-low at) in
     let t : leb (room + 67) (length out) ≡ true = le-leb (room + 67) (length out) (omega arith) in
     let a : room ≡ roomed (w .waiting) = made ∙ ap roomed (stands .waiting) in
-    let q = rw (t, e, stands .machine, stands .image, stands .lines, a) at p in
-    let s = rw (q .1 .1) at size′ in
+    let q = rw (t, e, stands .machine, stands .image, stands .lines, a) at h in
+    let s = rw q at size′ in
     let u : Ends out (roomed at) (w .printed) = ends-room (stands .unwritten) in
-    rw (q .0, q .1 .0, q .1 .1, e, stands .lines) (act-stands w line out (rw (stands .waiting) at u) (omega arith) (s ∙ sym size))
+    rw (q, e, stands .lines) (act-stands w line out (rw (stands .waiting) at u) (omega arith) (s ∙ sym size))
 
 -- ---- the lines of a piece
 
@@ -75,7 +73,8 @@ pub record Reached (m : Machine) (n at : ℕ) (img out piece : List ℕ) (start 
 -- past a newline, up to the end of the next line
 fed-next : (f : Fed Work) (piece : List ℕ) (end : ℕ) → end ≡ lineEnd piece end → end < length piece
     → fed act f (drop end piece)
-    ≡ fed act (record { done = act (f .done) (f .begun); begun = part piece (end + 1) (lineEnd piece (end + 1) - (end + 1)) }) (drop (lineEnd piece (end + 1)) piece)
+    ≡ fed act (record { done = act (f .done) (f .begun); begun = part piece (end + 1) (lineEnd piece (end + 1) - (end + 1)) })
+    (drop (lineEnd piece (end + 1)) piece)
 unfolding part
 fed-next f piece end e h =
     let z : end - end ≡ 0 = omega arith in
@@ -83,17 +82,17 @@ fed-next f piece end e h =
     ∙ rw (← e, z, append-nil) (fed-to act (record { done = act (f .done) (f .begun); begun = [] }) piece (end + 1) (omega arith))
 
 module _ {m : Machine} {n at : ℕ} {img out piece : List ℕ} {start end : ℕ} {bytes : Fed Work} (reached : Reached m n at img out piece start end bytes) where
-  pub reached-line : (room k : ℕ) (r : Performed) (img′ out′ : List ℕ) (next : ℕ) → end ≡ lineEnd piece end → end < length piece
-      → room ≡ roomed at → length out ≡ 65536 → length out′ ≡ 65536
+  pub reached-line : (room k : ℕ) (p : Performance) (next : ℕ) → end ≡ lineEnd piece end → end < length piece
+      → room ≡ roomed at → length out ≡ 65536 → length (p .out) ≡ 65536
       → k ≡ (n + 1) % 2 ^ 64
-      → (let p = performed m img k (part piece start (end - start)) out room in (r ≡ p .result) × ((img′ ≡ p .image) × (out′ ≡ p .out)))
+      → p ≡ performed m img k (part piece start (end - start)) out room
       → next ≡ lineEnd piece (end + 1)
-      → Reached (r .machine) k (r .end) img′ out′ piece (end + 1) next bytes
-  reached-line room k r img′ out′ next e some made size size′ count p found =
+      → Reached (p .machine) k (p .end) (p .image) (p .out) piece (end + 1) next bytes
+  reached-line room k p next e some made size size′ count h found =
       let line : List ℕ = part piece start (end - start) in
       record {
         work = act (reached .work) line;
-        stands = stands-line (reached .stands) line room k r img′ out′ made size size′ count p;
+        stands = stands-line (reached .stands) line room k p made size size′ count h;
         left = reached .left ∙ fed-next (record { done = reached .work; begun = line }) piece end e some ∙ rw (← found);
       }
 
@@ -151,8 +150,8 @@ take-both a b l =
     rw e (sym (take-take b a l (omega arith))))
 
 -- a newline: its line is performed by what the buffer has of it
-pub goes-newline : {s r : Session} {img line out img′ line′ out′ : List ℕ} (end : ℕ) → length line ≡ 2048 → end ≡ min (s .kept) 2047
-    → Lines s img out (take (end + 1) (set line end 10)) 0 end r img′ out′ → Takes s img line out (10 ∷ []) r img′ line′ out′
+pub goes-newline : {s r : Session} {words img line out words′ img′ line′ out′ : List ℕ} (end : ℕ) → length line ≡ 2048 → end ≡ min (s .kept) 2047
+    → Lines s words img out (take (end + 1) (set line end 10)) 0 end r words′ img′ out′ → Takes s words img line out (10 ∷ []) r words′ img′ line′ out′
 unfolding fed fedByte
 goes-newline {s = s} {line = line} {line′ = line′} end size e lines =
     record {
@@ -168,60 +167,64 @@ goes-newline {s = s} {line = line} {line′ = line′} end size e lines =
 
 -- ---- a last line
 
-module _ {s : Session} {img line out : List ℕ} where
-  pub finishes-none : length line ≡ 2048 → s .kept ≡ 0 → Closes s img line out s img out
+module _ {s : Session} {words img line out : List ℕ} where
+  pub finishes-none : length line ≡ 2048 → s .kept ≡ 0 → Closes s words img line out s words img out
   unfolding ended
   finishes-none size e = record { stands = λ f shows. rw (none-begun size (shows .next) e) (shows .lines) }
 
   -- one that no newline ends is performed as if one did
-  pub finishes-some : {r : Session} {img′ line′ out′ : List ℕ} → (s .kept ≡ 0 → ⊥) → Takes s img line out (10 ∷ []) r img′ line′ out′ → Closes s img line out r img′ out′
+  pub finishes-some : {r : Session} {words′ img′ line′ out′ : List ℕ} → (s .kept ≡ 0 → ⊥)
+      → Takes s words img line out (10 ∷ []) r words′ img′ line′ out′ → Closes s words img line out r words′ img′ out′
   unfolding ended fed fedByte
   finishes-some e g =
       record { stands = λ f shows. rw (ne-eqb (length (f .begun)) 0 (some-begun (shows .next) e)) (g .shows f shows .lines) }
 
 -- ---- pieces
 
-module _ {s : Session} {img line out : List ℕ} where
-  pub goes-none : Takes s img line out [] s img line out
+module _ {s : Session} {words img line out : List ℕ} where
+  pub goes-none : Takes s words img line out [] s words img line out
   unfolding fed
   goes-none = record { shows = λ f shows. shows }
 
   -- whether there is more to read is no part of it
-  pub goes-more : {bytes : List ℕ} {r : Session} {img′ line′ out′ : List ℕ} (more : Bool) → Takes s img line out bytes r img′ line′ out′
-      → Takes s img line out bytes (record { machine = r .machine; lines = r .lines; start = r .start; kept = r .kept; at = r .at; more = more; ok = r .ok }) img′ line′ out′
+  pub goes-more : {bytes : List ℕ} {r : Session} {words′ img′ line′ out′ : List ℕ} (more : Bool) → Takes s words img line out bytes r words′ img′ line′ out′
+      → Takes s words img line out bytes (record { mode = r .mode; lines = r .lines; start = r .start; kept = r .kept; at = r .at; more = more; ok = r .ok })
+      words′ img′ line′ out′
   goes-more more g =
       record {
         shows = λ f shows.
             let h = g .shows f shows in record { lines = h .lines; next = h .next };
       }
 
-  pub goes-then : {a b : List ℕ} {q r : Session} {img′ line′ out′ img″ line″ out″ : List ℕ}
-      → Takes s img line out a q img′ line′ out′ → Takes q img′ line′ out′ b r img″ line″ out″ → Takes s img line out (a ++ b) r img″ line″ out″
+  pub goes-then : {a b : List ℕ} {q r : Session} {words′ img′ line′ out′ words″ img″ line″ out″ : List ℕ}
+      → Takes s words img line out a q words′ img′ line′ out′ → Takes q words′ img′ line′ out′ b r words″ img″ line″ out″
+      → Takes s words img line out (a ++ b) r words″ img″ line″ out″
   goes-then {a = a} g h = record { shows = λ f shows. rw fed-append (h .shows (fed act f a) (g .shows f shows)) }
 
 -- a piece whose first line goes on to `end`: q is the session with what the line keeps of it
-module _ {s : Session} {img line out : List ℕ} (piece : List ℕ) (end : ℕ) (q : Session) (line′ : List ℕ)
+module _ {s : Session} {words img line out : List ℕ} (piece : List ℕ) (end : ℕ) (q : Session) (line′ : List ℕ)
     (found : end ≡ lineEnd piece 0)
     (bytes : line′ ≡ over line (s .kept) (fitting line (s .kept) piece 0 end))
     (kept : q .kept ≡ s .kept + length (fitting line (s .kept) piece 0 end))
-    (machine : q .machine ≡ s .machine) (lines : q .lines ≡ s .lines) (at : q .at ≡ s .at) where
-  shows-begun : (f : Fed Work) → Shows s img line out f → Shows q img line′ out (record { done = f .done; begun = f .begun ++ part piece 0 (end - 0) })
-  shows-begun f shows = record { lines = rw (machine, lines, at) (shows .lines); next = rw (bytes, kept) (holds-more piece 0 end (shows .next)) }
+    (mode : q .mode ≡ s .mode) (lines : q .lines ≡ s .lines) (at : q .at ≡ s .at) where
+  shows-begun : (f : Fed Work) → Shows s words img line out f
+      → Shows q words img line′ out (record { done = f .done; begun = f .begun ++ part piece 0 (end - 0) })
+  shows-begun f shows = record { lines = rw (mode, lines, at) (shows .lines); next = rw (bytes, kept) (holds-more piece 0 end (shows .next)) }
 
-  pub goes-rest : end ≡ length piece → Takes s img line out piece q img line′ out
+  pub goes-rest : end ≡ length piece → Takes s words img line out piece q words img line′ out
   unfolding part
   goes-rest e =
       let all : take (end - 0) piece ≡ piece = take-all (end - 0) piece (omega arith) in
       record { shows = λ f shows. rw (fed-rest act f piece 0 (omega arith) (sym found ∙ e), ← all) (shows-begun f shows) }
 
   -- then its newline, and the lines after it; what stands after the last newline is kept
-  pub goes-lines : {n r t : Session} {img′ line″ out′ img″ line‴ out″ : List ℕ} (e : ℕ) → end < length piece
-      → Takes q img line′ out (10 ∷ []) n img′ line″ out′
-      → e ≡ lineEnd piece (end + 1) → Lines n img′ out′ piece (end + 1) e r img″ out″
+  pub goes-lines : {n r t : Session} {words′ img′ line″ out′ words″ img″ line‴ out″ : List ℕ} (e : ℕ) → end < length piece
+      → Takes q words img line′ out (10 ∷ []) n words′ img′ line″ out′
+      → e ≡ lineEnd piece (end + 1) → Lines n words′ img′ out′ piece (end + 1) e r words″ img″ out″
       → line‴ ≡ over line″ 0 (fitting line″ 0 piece (r .start) (length piece))
       → t .kept ≡ 0 + length (fitting line″ 0 piece (r .start) (length piece))
-      → t .machine ≡ r .machine → t .lines ≡ r .lines → t .at ≡ r .at
-      → Takes s img line out piece t img″ line‴ out″
+      → t .mode ≡ r .mode → t .lines ≡ r .lines → t .at ≡ r .at
+      → Takes s words img line out piece t words″ img″ line‴ out″
   unfolding fed fedByte part
   goes-lines {r = r} {line″ = line″} e some g at-e h a b c d k =
       record {
@@ -231,16 +234,18 @@ module _ {s : Session} {img line out : List ℕ} (piece : List ℕ) (end : ℕ) 
             let p = h .stands w (n .lines) in
             let all : take (length piece - r .start) (drop (r .start) piece) ≡ drop (r .start) piece =
             take-all (length piece - r .start) (drop (r .start) piece) (omega (arith, length-drop (r .start) piece)) in
-            let m : Holds (over line″ 0 (fitting line″ 0 piece (r .start) (length piece))) (0 + length (fitting line″ 0 piece (r .start) (length piece))) (take (length piece - r .start) (drop (r .start) piece)) =
+            let fit = fitting line″ 0 piece (r .start) (length piece) in
+            let m : Holds (over line″ 0 fit) (0 + length fit) (take (length piece - r .start) (drop (r .start) piece)) =
             holds-more piece (r .start) (length piece) (holds-none line″) in
-            rw (fed-line act f piece 0 (omega arith) (rw found at some), ← found, fed-to act (record { done = w; begun = [] }) piece (end + 1) (omega arith), ← at-e)
+            let to = fed-to act (record { done = w; begun = [] }) piece (end + 1) (omega arith) in
+            rw (fed-line act f piece 0 (omega arith) (rw found at some), ← found, to, ← at-e)
             (record { lines = rw (c, d, k) (p .0); next = rw (a, b, p .1) (rw all at m) });
       }
 
 -- ---- the whole input
 
-pub performs-all : {s q r : Session} {img line out img′ line′ out′ img″ out″ : List ℕ} → Shows s img line out (first img)
-    → TakesSome s img line out q img′ line′ out′ → Closes q img′ line′ out′ r img″ out″ → Ran img r img″ out″
+pub performs-all : {s q r : Session} {words img line out words′ img′ line′ out′ words″ img″ out″ : List ℕ} → Shows s words img line out (first img)
+    → TakesSome s words img line out q words′ img′ line′ out′ → Closes q words′ img′ line′ out′ r words″ img″ out″ → Ran img r words″ img″ out″
 performs-all {img = img} shows reads ends =
     record {
       input = reads .bytes;

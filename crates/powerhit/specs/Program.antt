@@ -8,7 +8,7 @@ use lib.ListN.{length, take, drop}
 use Rattle.words.specs.Words.{part}
 use Rattle.cutting.specs.Buffers.{Holds, Ends}
 use Rattle.cutting.specs.Feeding.{Fed, fed, ended}
-use Rattle.executing.specs.declared.Machine.{Machine}
+use Rattle.executing.specs.Called.{Machine, machineAt}
 use Rattle.printing.specs.Output.{outputLine}
 use Rattle.script.specs.Listing.{text}
 use Rattle.script.specs.Performed.{started, lineTurn}
@@ -32,9 +32,9 @@ unfoldable pub act : Work → List ℕ → Work
 act w line =
     let n = (w .lines + 1) % 2 ^ 64 in
     let t = lineTurn (w .machine) (w .image) line in
-    let text = outputLine n (t .turned .output) in
+    let text = outputLine n (t .output) in
     record {
-      machine = t .turned .machine;
+      machine = t .machine;
       image = t .image;
       lines = n;
       printed = w .printed ++ text;
@@ -58,38 +58,39 @@ pub record Stands (m : Machine) (n at : ℕ) (img out : List ℕ) (w : Work) : T
   pub waiting : at ≡ w .waiting
   pub unwritten : Ends out at (w .printed)
 
--- that a session and its buffers are what the bytes so far came to: of the next line the line buffer has what has come, as much as fits
-pub record Shows (s : Session) (image line out : List ℕ) (f : Fed Work) : Type 0 where
-  pub lines : Stands (s .machine) (s .lines) (s .at) image out (f .done)
+-- that a session, its state's words and its buffers are what the bytes so far came to: of the next line the line buffer has what has come, as much as
+-- fits
+pub record Shows (s : Session) (words image line out : List ℕ) (f : Fed Work) : Type 0 where
+  pub lines : Stands (machineAt (s .mode) words) (s .lines) (s .at) image out (f .done)
   pub next : Holds line (s .kept) (f .begun)
 
 -- that these bytes bring the one session and its buffers to the other
-pub record Takes (s : Session) (image line out bytes : List ℕ) (r : Session) (image′ line′ out′ : List ℕ) : Type 0 where
-  pub shows : (f : Fed Work) → Shows s image line out f → Shows r image′ line′ out′ (fed act f bytes)
+pub record Takes (s : Session) (words image line out bytes : List ℕ) (r : Session) (words′ image′ line′ out′ : List ℕ) : Type 0 where
+  pub shows : (f : Fed Work) → Shows s words image line out f → Shows r words′ image′ line′ out′ (fed act f bytes)
 
 -- the same of the lines of a piece, from one on that goes from byte `from` to byte `to`: what has come of the next one begins at `start`
-pub record Lines (s : Session) (image out piece : List ℕ) (from to : ℕ) (r : Session) (image′ out′ : List ℕ) : Type 0 where
-  pub stands : (w : Work) → Stands (s .machine) (s .lines) (s .at) image out w
+pub record Lines (s : Session) (words image out piece : List ℕ) (from to : ℕ) (r : Session) (words′ image′ out′ : List ℕ) : Type 0 where
+  pub stands : (w : Work) → Stands (machineAt (s .mode) words) (s .lines) (s .at) image out w
       → (let f = fed act (record { done = w; begun = part piece from (to - from) }) (drop to piece) in
-      Stands (r .machine) (r .lines) (r .at) image′ out′ (f .done) × (f .begun ≡ drop (r .start) piece))
+      Stands (machineAt (r .mode) words′) (r .lines) (r .at) image′ out′ (f .done) × (f .begun ≡ drop (r .start) piece))
   pub kept : r .kept ≡ 0
 
 -- the input's end does: a last line that no newline ends is performed too
-pub record Closes (s : Session) (image line out : List ℕ) (r : Session) (image′ out′ : List ℕ) : Type 0 where
-  pub stands : (f : Fed Work) → Shows s image line out f → Stands (r .machine) (r .lines) (r .at) image′ out′ (ended act f)
+pub record Closes (s : Session) (words image line out : List ℕ) (r : Session) (words′ image′ out′ : List ℕ) : Type 0 where
+  pub stands : (f : Fed Work) → Shows s words image line out f → Stands (machineAt (r .mode) words′) (r .lines) (r .at) image′ out′ (ended act f)
 
 -- the bytes do that a read put at the start of `input`; there may be more where it put any. (Which bytes they are no contract says.)
-pub record Reads (s : Session) (image line out input : List ℕ) (r : Session) (image′ line′ out′ : List ℕ) : Type 0 where
+pub record Reads (s : Session) (words image line out input : List ℕ) (r : Session) (words′ image′ line′ out′ : List ℕ) : Type 0 where
   pub count : ℕ
-  pub goes : Takes s image line out (take count input) r image′ line′ out′
+  pub goes : Takes s words image line out (take count input) r words′ image′ line′ out′
   pub more : r .more ≡ ltb 0 count
 
 -- some bytes do
-pub record TakesSome (s : Session) (image line out : List ℕ) (r : Session) (image′ line′ out′ : List ℕ) : Type 0 where
+pub record TakesSome (s : Session) (words image line out : List ℕ) (r : Session) (words′ image′ line′ out′ : List ℕ) : Type 0 where
   pub bytes : List ℕ
-  pub goes : Takes s image line out bytes r image′ line′ out′
+  pub goes : Takes s words image line out bytes r words′ image′ line′ out′
 
 -- the whole input, whatever it is, has brought the program here, with this image at first
-pub record Ran (image : List ℕ) (r : Session) (image′ out′ : List ℕ) : Type 0 where
+pub record Ran (image : List ℕ) (r : Session) (words′ image′ out′ : List ℕ) : Type 0 where
   pub input : List ℕ
-  pub stands : Stands (r .machine) (r .lines) (r .at) image′ out′ (ended act (fed act (first image) input))
+  pub stands : Stands (machineAt (r .mode) words′) (r .lines) (r .at) image′ out′ (ended act (fed act (first image) input))

@@ -6,14 +6,14 @@ ghost use Prim.Native.Nat.{ℕ, _≤_};
 ghost use lib.ListN.{length};
 ghost use Rattle.cutting.specs.Pieces.{lineEnd};
 ghost use Rattle.powerhit.specs.Program.{roomed, Shows, first, Takes, Lines, Closes, Reads, TakesSome, Ran};
-use executing::Machine;
+use executing::Mode;
 use libc::STDIN_FILENO;
 use libc::STDOUT_FILENO;
 use script::performing;
 
 // The program between two pieces of the input.
 struct Session {
-    machine: Machine,
+    mode: Mode,
     // lines performed
     lines: usize,
     // where the next line begins in the piece at hand
@@ -28,12 +28,12 @@ struct Session {
 }
 
 // No byte is read yet.
-fn started() -> Session
-    ensures { λ r. ⌜ ((image line out : List ℕ) → Shows r image line out (first image)) ⌝ }
+fn started(words: &mut [u64; 256]) -> Session
+    ensures { λ r. ⌜ ((image line out : List ℕ) → Shows r (now (words .exit)) image line out (first image)) ⌝ }
 {
-    let machine = performing::start();
+    let mode = performing::start(words);
     Session {
-        machine,
+        mode,
         lines: 0,
         start: 0,
         kept: 0,
@@ -68,8 +68,9 @@ fn left(at: usize) -> usize
 
 // Performs the lines of a piece that a newline ends, from one on that goes from byte `from` to byte `to`.
 fn perform_lines(
-    s: Session,
     image: &mut [u8],
+    words: &mut [u64; 256],
+    s: Session,
     piece: &[u8],
     from: usize,
     to: usize,
@@ -77,9 +78,10 @@ fn perform_lines(
 ) -> Session
     requires { ⌜ from ≤ to ⌝ }
     requires { ⌜ to ≡ lineEnd (now piece) to ⌝ }
-    ensures { λ r. ⌜ Lines s (now (image .entry)) (now (out .entry)) (now (piece .entry)) from to r (now (image .exit)) (now (out .exit)) ⌝ }
+    ensures { λ r. ⌜ Lines s (now (words .entry)) (now (image .entry)) (now (out .entry)) (now (piece .entry)) from to
+        r (now (words .exit)) (now (image .exit)) (now (out .exit)) ⌝ }
 {
-    let mut machine = s.machine;
+    let mut mode = s.mode;
     let mut lines = s.lines;
     let mut at = s.at;
     let mut start = from;
@@ -89,14 +91,14 @@ fn perform_lines(
         ok = write_full(out, at, ok);
         at = left(at);
         lines = std::num::wrapping_add_usize(lines, 1);
-        let p = performing::perform(machine, image, lines, &piece[start..end], out, at);
-        machine = p.machine;
+        let p = performing::perform(image, words, mode, lines, &piece[start..end], out, at);
+        mode = p.mode;
         at = p.end;
         start = end + 1;
         end = cutting::line_end(piece, start);
     }
     Session {
-        machine,
+        mode,
         lines,
         start,
         kept: 0,
@@ -107,24 +109,33 @@ fn perform_lines(
 }
 
 // Performs the line that was kept, its newline put behind it. One that fills the buffer is too long to be of any right form.
-fn perform_kept(s: Session, image: &mut [u8], line: &mut [u8], out: &mut [u8; 65536]) -> Session
+fn perform_kept(
+    image: &mut [u8],
+    words: &mut [u64; 256],
+    s: Session,
+    line: &mut [u8],
+    out: &mut [u8; 65536],
+) -> Session
     requires { ⌜ length (now line) ≡ 2048 ⌝ }
-    ensures { λ r. ⌜ Takes s (now (image .entry)) (now (line .entry)) (now (out .entry)) (10 ∷ []) r (now (image .exit)) (now (line .exit)) (now (out .exit)) ⌝ }
+    ensures { λ r. ⌜ Takes s (now (words .entry)) (now (image .entry)) (now (line .entry)) (now (out .entry)) (10 ∷ [])
+        r (now (words .exit)) (now (image .exit)) (now (line .exit)) (now (out .exit)) ⌝ }
 {
     let end = bounded::smaller(s.kept, 2047);
     line[end] = b'\n';
-    perform_lines(s, image, &line[..end + 1], 0, end, out)
+    perform_lines(image, words, s, &line[..end + 1], 0, end, out)
 }
 
 // Performs the lines of a piece. The first may have begun in an earlier piece; what stands after the last is kept.
 fn perform_piece(
-    s: Session,
     image: &mut [u8],
+    words: &mut [u64; 256],
+    s: Session,
     line: &mut [u8; 2048],
     piece: &[u8],
     out: &mut [u8; 65536],
 ) -> Session
-    ensures { λ r. ⌜ Takes s (now (image .entry)) (now (line .entry)) (now (out .entry)) (now (piece .entry)) r (now (image .exit)) (now (line .exit)) (now (out .exit)) ⌝ }
+    ensures { λ r. ⌜ Takes s (now (words .entry)) (now (image .entry)) (now (line .entry)) (now (out .entry)) (now (piece .entry))
+        r (now (words .exit)) (now (image .exit)) (now (line .exit)) (now (out .exit)) ⌝ }
 {
     let end = cutting::line_end(piece, 0);
     let mut begun = s;
@@ -132,11 +143,12 @@ fn perform_piece(
     if end == piece.len() {
         return begun;
     }
-    let next = perform_kept(begun, image, line, out);
+    let next = perform_kept(image, words, begun, line, out);
     let from = end + 1;
     let mut last = perform_lines(
-        next,
         image,
+        words,
+        next,
         piece,
         from,
         cutting::line_end(piece, from),
@@ -148,17 +160,19 @@ fn perform_piece(
 
 // Reads a piece of the input and performs its lines.
 fn read_piece(
-    s: Session,
     image: &mut [u8],
+    words: &mut [u64; 256],
+    s: Session,
     line: &mut [u8; 2048],
     input: &mut [u8],
     out: &mut [u8; 65536],
 ) -> Session
-    ensures { λ r. ⌜ Reads s (now (image .entry)) (now (line .entry)) (now (out .entry)) (now (input .exit)) r (now (image .exit)) (now (line .exit)) (now (out .exit)) ⌝ }
+    ensures { λ r. ⌜ Reads s (now (words .entry)) (now (image .entry)) (now (line .entry)) (now (out .entry)) (now (input .exit))
+        r (now (words .exit)) (now (image .exit)) (now (line .exit)) (now (out .exit)) ⌝ }
 {
     let got = libc::read(STDIN_FILENO, input);
     let n = io::count(got, input);
-    let mut next = perform_piece(s, image, line, &input[..n], out);
+    let mut next = perform_piece(image, words, s, line, &input[..n], out);
     next.more = n > 0;
     next
 }
@@ -166,18 +180,20 @@ fn read_piece(
 // Reads to the end of the input. A proved loop has to end, so this one counts its turns down from a number that no run uses
 // up.
 fn read_all(
-    s: Session,
     image: &mut [u8],
+    words: &mut [u64; 256],
+    s: Session,
     line: &mut [u8; 2048],
     input: &mut [u8],
     out: &mut [u8; 65536],
 ) -> Session
-    ensures { λ r. ⌜ TakesSome s (now (image .entry)) (now (line .entry)) (now (out .entry)) r (now (image .exit)) (now (line .exit)) (now (out .exit)) ⌝ }
+    ensures { λ r. ⌜ TakesSome s (now (words .entry)) (now (image .entry)) (now (line .entry)) (now (out .entry))
+        r (now (words .exit)) (now (image .exit)) (now (line .exit)) (now (out .exit)) ⌝ }
 {
     let mut s = s;
     let mut turns = u64::MAX;
     while turns > 0 && s.more && s.ok {
-        s = read_piece(s, image, line, input, out);
+        s = read_piece(image, words, s, line, input, out);
         turns -= 1;
     }
     s
@@ -185,42 +201,47 @@ fn read_all(
 
 // Performs a last line that no newline ends.
 fn perform_last(
-    s: Session,
     image: &mut [u8],
+    words: &mut [u64; 256],
+    s: Session,
     line: &mut [u8; 2048],
     out: &mut [u8; 65536],
 ) -> Session
-    ensures { λ r. ⌜ Closes s (now (image .entry)) (now (line .entry)) (now (out .entry)) r (now (image .exit)) (now (out .exit)) ⌝ }
+    ensures { λ r. ⌜ Closes s (now (words .entry)) (now (image .entry)) (now (line .entry)) (now (out .entry))
+        r (now (words .exit)) (now (image .exit)) (now (out .exit)) ⌝ }
 {
     let text: &mut [u8] = line;
     if s.kept == 0 {
         return s;
     }
-    perform_kept(s, image, text, out)
+    perform_kept(image, words, s, text, out)
 }
 
 // Performs the lines of the whole input. What of the output is not written yet is left to the caller.
 fn perform_input(
     image: &mut [u8],
+    words: &mut [u64; 256],
     line: &mut [u8; 2048],
     input: &mut [u8],
     out: &mut [u8; 65536],
 ) -> Session
-    ensures { λ r. ⌜ Ran (now (image .entry)) r (now (image .exit)) (now (out .exit)) ⌝ }
+    ensures { λ r. ⌜ Ran (now (image .entry)) r (now (words .exit)) (now (image .exit)) (now (out .exit)) ⌝ }
 {
-    let s = read_all(started(), image, line, input, out);
-    perform_last(s, image, line, out)
+    let first = started(words);
+    let s = read_all(image, words, first, line, input, out);
+    perform_last(image, words, s, line, out)
 }
 
 fn main() {
     let mut image = io::large_buffer();
+    let mut words = [0u64; 256];
     let mut line = [0u8; 2048];
     let mut input = io::large_buffer();
     let mut out = io::large_buffer();
     if !io::write_all(STDOUT_FILENO, b"line,call,answer,stores,byte\n") {
         return;
     }
-    let last = perform_input(&mut image, &mut line, &mut input, &mut out);
+    let last = perform_input(&mut image, &mut words, &mut line, &mut input, &mut out);
     if last.ok {
         write_out(&out, last.at);
     }

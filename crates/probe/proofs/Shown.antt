@@ -19,7 +19,7 @@ use Rattle.text.specs.Fields.{parsed}
 use Rattle.text.proofs.LongLine.{cut-line}
 use Rattle.number_text.specs.Text.{Put}
 use Rattle.probe.specs.declared.Session.{Session}
-use Rattle.probe.specs.Program.{Work, act, Stand, stand, Shows, Takes, Reads, TakesSome, Closes, benchAfter, bytesAfter, lineText, roomed}
+use Rattle.probe.specs.Program.{Work, act, Stand, stand, benchIn, Shows, Takes, Reads, TakesSome, Closes, benchAfter, bytesAfter, lineText, roomed}
 
 -- ---- a line that was kept, and its newline
 
@@ -34,9 +34,9 @@ kept-parsed p f h long = ap (parsed 20) (h .begun .bytes) ∙ cut-line 20 (lengt
 pub record Performed (p q : Stand) : Type 0 where
   pub lines : q .session .lines ≡ (p .session .lines + 1) % 2 ^ 64
   pub kept : q .session .kept ≡ 0
-  pub bench : q .session .bench ≡ benchAfter (p .session .bench) (p .buffer) (keptLine p)
-  pub buffer : q .buffer ≡ bytesAfter (p .session .bench) (p .buffer) (keptLine p)
-  pub text : Put (p .out) (roomed (p .session .at)) (lineText (p .session .bench) (p .buffer) (keptLine p) (q .session .lines)) (q .out) (q .session .at)
+  pub bench : benchIn q ≡ benchAfter (benchIn p) (p .buffer) (keptLine p)
+  pub buffer : q .buffer ≡ bytesAfter (benchIn p) (p .buffer) (keptLine p)
+  pub text : Put (p .out) (roomed (p .session .at)) (lineText (benchIn p) (p .buffer) (keptLine p) (q .session .lines)) (q .out) (q .session .at)
   pub same-size : length (q .out) ≡ length (p .out)
 
 -- what waits, once there is room
@@ -81,27 +81,27 @@ unfolding part
 part-rest l a = take-all (length l - a) (drop a l) (omega (arith, length-drop a l))
 
 -- of a line that goes on at `from` and ends at `end`, as much as fits is put behind what is kept
-pub record More (p : Stand) (piece : List ℕ) (s : Session) (buffer line out : List ℕ) (from end : ℕ) (line′ : List ℕ) (k : ℕ) : Type 0 where
+pub record More (p : Stand) (piece : List ℕ) (s : Session) (buffer words line out : List ℕ) (from end : ℕ) (line′ : List ℕ) (k : ℕ) : Type 0 where
   pub inside : from < length piece
   pub found : end ≡ lineEnd piece from
   pub laid : line′ ≡ over line (s .kept) (fitting line (s .kept) piece from end)
   pub count : k ≡ s .kept + length (fitting line (s .kept) piece from end)
-  pub before : Before p piece (stand s buffer line out) (drop from piece)
+  pub before : Before p piece (stand s buffer words line out) (drop from piece)
 
 abbrev withKept : Session → ℕ → Session
-withKept s k = record { bench = s .bench; lines = s .lines; kept = k; at = s .at; more = s .more }
+withKept s k = record { lent = s .lent; lines = s .lines; kept = k; at = s .at; more = s .more }
 
 module _
     {p : Stand}
     {piece : List ℕ}
     {s : Session}
-    {buffer line out : List ℕ}
+    {buffer words line out : List ℕ}
     {from end : ℕ}
     {line′ : List ℕ}
     {k : ℕ}
-    (m : More p piece s buffer line out from end line′ k) where
-  shows-kept : (g : Fed Work) → Shows (stand s buffer line out) g
-      → Shows (stand (withKept s k) buffer line′ out) (record { done = g .done; begun = g .begun ++ part piece from (end - from) })
+    (m : More p piece s buffer words line out from end line′ k) where
+  shows-kept : (g : Fed Work) → Shows (stand s buffer words line out) g
+      → Shows (stand (withKept s k) buffer words line′ out) (record { done = g .done; begun = g .begun ++ part piece from (end - from) })
   shows-kept g h =
       record {
         bench = h .bench;
@@ -113,7 +113,7 @@ module _
       }
 
   -- the line ends here and is performed
-  pub before-line : {q : Stand} → end < length piece → Takes (stand (withKept s k) buffer line′ out) (10 ∷ []) q
+  pub before-line : {q : Stand} → end < length piece → Takes (stand (withKept s k) buffer words line′ out) (10 ∷ []) q
       → Before p piece q (drop (end + 1) piece)
   unfolding Before fed fedByte
   before-line {q} more t f h =
@@ -125,13 +125,13 @@ module _
   less-left more = omega (arith, m .inside, m .found, end-ge piece from (omega (arith, m .inside)))
 
   -- it goes on past the piece
-  pub before-rest : length piece ≤ end → Takes p piece (stand (withKept s k) buffer line′ out)
+  pub before-rest : length piece ≤ end → Takes p piece (stand (withKept s k) buffer words line′ out)
   unfolding Before
   before-rest none f h =
       let (g, d, e) = m .before f h in
       let whole : end ≡ length piece = omega (arith, m .found, end-le piece from) in
       let rest : part piece from (end - from) ≡ drop from piece = rw whole (part-rest piece from) in
-      subst (Shows (stand (withKept s k) buffer line′ out))
+      subst (Shows (stand (withKept s k) buffer words line′ out))
       (ap (λ (l : List ℕ). record { done = g .done; begun = g .begun ++ l }) rest
       ∙ sym (fed-rest act g piece from (omega (arith, m .inside)) (sym (m .found) ∙ whole))
       ∙ e)

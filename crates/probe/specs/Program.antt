@@ -8,22 +8,34 @@ use lib.ListN.{length, take}
 use Rattle.cutting.specs.Buffers.{Holds, Ends}
 use Rattle.cutting.specs.Feeding.{Fed, fed, ended}
 use Rattle.text.specs.Fields.{parsed}
-use Rattle.workbench.specs.Turns.{firstBench}
-use Rattle.workbench.specs.declared.Bench.{Bench}
-use Rattle.probing.specs.Lines.{turnOf, bufferAfter}
+use Rattle.state.specs.State.{State}
+use Rattle.state_words.specs.Decoded.{decoded}
+use Rattle.workbench.specs.Turns.{firstState}
+use Rattle.probing.specs.Lines.{turnOf, bufferAfter, lentAfter}
 use Rattle.reporting.specs.Text.{printedOf}
 use Rattle.probe.specs.declared.Session.{Session}
 
+-- what the calls work on beside the buffer: the state, and how many of the buffer's first bytes they are lent
+pub record Bench : Type 0 where
+  pub st : State
+  pub lent : ℕ
+
+-- at first they are lent the whole buffer
+abbrev pub firstBench : Bench
+firstBench = record { st = firstState; lent = 65536 }
+
 -- the bench and the buffer after a line
 abbrev pub benchAfter : Bench → List ℕ → List ℕ → Bench
-benchAfter b buffer line = turnOf b buffer (parsed 20 line) .bench
+benchAfter b buffer line =
+    let l = parsed 20 line in
+    record { st = turnOf (b .st) (b .lent) buffer l .st; lent = lentAfter (b .lent) (length buffer) l }
 
 abbrev pub bytesAfter : Bench → List ℕ → List ℕ → List ℕ
-bytesAfter b buffer line = bufferAfter b buffer (parsed 20 line)
+bytesAfter b buffer line = bufferAfter (b .st) (b .lent) buffer (parsed 20 line)
 
 -- what input line n prints
 abbrev pub lineText : Bench → List ℕ → List ℕ → ℕ → List ℕ
-lineText b buffer line n = let l = parsed 20 line in printedOf n (l .letter) (turnOf b buffer l)
+lineText b buffer line n = let l = parsed 20 line in printedOf n (l .letter) (turnOf (b .st) (b .lent) buffer l)
 
 -- what the lines so far came to: the bench, the buffer, how many lines, all that they print, and how many of its last bytes
 -- are not yet handed to a write
@@ -55,20 +67,27 @@ act w line =
       waiting = roomed (w .waiting) + length text;
     }
 
--- the program with its three buffers
+-- the program with the state's words and its three buffers
 pub record Stand : Type 0 where
   pub session : Session
   pub buffer : List ℕ
+  pub words : List ℕ
   pub line : List ℕ
   pub out : List ℕ
 
-abbrev pub stand : Session → List ℕ → List ℕ → List ℕ → Stand
-stand s buffer line out = record { session = s; buffer = buffer; line = line; out = out }
+abbrev pub stand : Session → List ℕ → List ℕ → List ℕ → List ℕ → Stand
+stand s buffer words line out = record { session = s; buffer = buffer; words = words; line = line; out = out }
+
+abbrev pub benchAt : List ℕ → ℕ → Bench
+benchAt words lent = record { st = decoded words; lent = lent }
+
+abbrev pub benchIn : Stand → Bench
+benchIn p = benchAt (p .words) (p .session .lent)
 
 -- that it stands where the input's bytes so far have brought it: of the next line it keeps what fits, and what waits to be
 -- written stands in `out`. (What a write does with it no contract says.)
 pub record Shows (p : Stand) (f : Fed Work) : Type 0 where
-  pub bench : p .session .bench ≡ f .done .bench
+  pub bench : benchIn p ≡ f .done .bench
   pub buffer : p .buffer ≡ f .done .buffer
   pub lines : p .session .lines ≡ f .done .lines
   pub waiting : p .session .at ≡ f .done .waiting

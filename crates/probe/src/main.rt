@@ -4,20 +4,22 @@ mod lines;
 mod reading;
 
 ghost use Prim.Native.Nat.{ℕ};
+ghost use mathlib.Core.Path.{_≡_};
 ghost use mathlib.Core.List.{List};
+ghost use Rattle.state_words.specs.Decoded.{decoded};
+ghost use Rattle.workbench.specs.Turns.{firstState};
 ghost use Rattle.probe.specs.Program.{stand, Shows, first};
-use workbench::Bench;
 
-// What a printed line leaves: the bench after it, and where the next line is printed.
+// What a printed line leaves beside the state: what later calls are lent, and where the next line is printed.
 struct Printed {
-    bench: Bench,
+    lent: usize,
     next: usize,
 }
 
-// The program between two lines: how many lines it performed, how many bytes it kept of the next one, how many bytes of
-// output are not written yet, and whether there is more to read and writes go well.
+// The program between two lines: how many of the buffer's first bytes the calls are lent, how many lines it performed, how many bytes it kept of the next
+// one, how many bytes of output are not written yet, and whether there is more to read and writes go well.
 struct Session {
-    bench: Bench,
+    lent: usize,
     lines: u64,
     kept: usize,
     at: usize,
@@ -25,11 +27,10 @@ struct Session {
 }
 
 fn started() -> Session
-    ensures { λ r. ⌜ ((buffer line out : List ℕ) → Shows (stand r buffer line out) (first buffer)) ⌝ }
+    ensures { λ r. ⌜ ((buffer words line out : List ℕ) → decoded words ≡ firstState → Shows (stand r buffer words line out) (first buffer)) ⌝ }
 {
-    let bench = workbench::starting::first_bench();
     Session {
-        bench,
+        lent: 65536,
         lines: 0,
         kept: 0,
         at: 0,
@@ -39,8 +40,9 @@ fn started() -> Session
 
 fn main() {
     let mut buffer = [0u8; 65536];
+    let mut words = [0u64; 256];
     let mut line = [0u8; 2048];
     let mut input = [0u8; 65536];
     let mut out = [0u8; 65536];
-    reading::run(&mut buffer, &mut line, &mut input, &mut out);
+    reading::run(&mut buffer, &mut words, &mut line, &mut input, &mut out);
 }

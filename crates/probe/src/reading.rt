@@ -20,7 +20,7 @@ fn write_out(out: &[u8], n: usize) -> bool {
 // Room for a line of output: where little is left, all that waits is written.
 fn make_room(s: Session, out: &[u8]) -> Session
     ensures room { λ r. ⌜ r .at ≤ 60000 ⌝ }
-    ensures same { λ r. ⌜ r ≡ record { bench = s .bench; lines = s .lines; kept = s .kept; at = roomed (s .at); more = r .more } ⌝ }
+    ensures same { λ r. ⌜ r ≡ record { lent = s .lent; lines = s .lines; kept = s .kept; at = roomed (s .at); more = r .more } ⌝ }
 {
     if s.at <= 60000 {
         return s;
@@ -33,17 +33,31 @@ fn make_room(s: Session, out: &[u8]) -> Session
 
 // Performs the line that was kept, whose newline has come. A line of more than 1,450 bytes is of another form, so a buffer
 // for more keeps enough of any.
-fn perform_kept(s: Session, buffer: &mut [u8; 65536], line: &[u8], out: &mut [u8; 65536]) -> Session
+fn perform_kept(
+    s: Session,
+    buffer: &mut [u8; 65536],
+    words: &mut [u64; 256],
+    line: &[u8],
+    out: &mut [u8; 65536],
+) -> Session
     requires { ⌜ 1450 < length (now line) ⌝ }
-    ensures { λ r. ⌜ Takes (stand s (now (buffer .entry)) (now (line .entry)) (now (out .entry))) (10 ∷ []) (stand r (now (buffer .exit)) (now (line .entry)) (now (out .exit))) ⌝ }
+    ensures { λ r. ⌜ Takes (stand s (now (buffer .entry)) (now (words .entry)) (now (line .entry)) (now (out .entry))) (10 ∷ [])
+        (stand r (now (buffer .exit)) (now (words .exit)) (now (line .entry)) (now (out .exit))) ⌝ }
 {
     let mut next = make_room(s, out);
     let k = bounded::smaller(next.kept, line.len());
     next.lines = std::num::wrapping_add_u64(next.lines, 1);
     next.kept = 0;
-    let p = lines::perform(next.bench, buffer, &line[..k], next.lines, out, next.at);
-    let bench = p.bench;
-    next.bench = bench;
+    let p = lines::perform(
+        buffer,
+        words,
+        next.lent,
+        &line[..k],
+        next.lines,
+        out,
+        next.at,
+    );
+    next.lent = p.lent;
     next.at = p.next;
     next
 }
@@ -53,11 +67,13 @@ fn perform_kept(s: Session, buffer: &mut [u8; 65536], line: &[u8], out: &mut [u8
 fn perform_piece(
     s: Session,
     buffer: &mut [u8; 65536],
+    words: &mut [u64; 256],
     line: &mut [u8; 2048],
     piece: &[u8],
     out: &mut [u8; 65536],
 ) -> Session
-    ensures { λ r. ⌜ Takes (stand s (now (buffer .entry)) (now (line .entry)) (now (out .entry))) (now (piece .entry)) (stand r (now (buffer .exit)) (now (line .exit)) (now (out .exit))) ⌝ }
+    ensures { λ r. ⌜ Takes (stand s (now (buffer .entry)) (now (words .entry)) (now (line .entry)) (now (out .entry))) (now (piece .entry))
+        (stand r (now (buffer .exit)) (now (words .exit)) (now (line .exit)) (now (out .exit))) ⌝ }
 {
     let mut s = s;
     let mut from = 0;
@@ -68,7 +84,7 @@ fn perform_piece(
         if end >= piece.len() {
             return s;
         }
-        s = perform_kept(s, buffer, line, out);
+        s = perform_kept(s, buffer, words, line, out);
         from = end + 1;
     }
     s
@@ -78,11 +94,13 @@ fn perform_piece(
 fn read_piece(
     s: Session,
     buffer: &mut [u8; 65536],
+    words: &mut [u64; 256],
     line: &mut [u8; 2048],
     input: &mut [u8],
     out: &mut [u8; 65536],
 ) -> Session
-    ensures { λ r. ⌜ Reads (stand s (now (buffer .entry)) (now (line .entry)) (now (out .entry))) (now (input .exit)) (stand r (now (buffer .exit)) (now (line .exit)) (now (out .exit))) ⌝ }
+    ensures { λ r. ⌜ Reads (stand s (now (buffer .entry)) (now (words .entry)) (now (line .entry)) (now (out .entry))) (now (input .exit))
+        (stand r (now (buffer .exit)) (now (words .exit)) (now (line .exit)) (now (out .exit))) ⌝ }
 {
     let got = libc::read(STDIN_FILENO, input);
     let n = io::count(got, input);
@@ -91,7 +109,7 @@ fn read_piece(
         ended.more = false;
         return ended;
     }
-    perform_piece(s, buffer, line, &input[..n], out)
+    perform_piece(s, buffer, words, line, &input[..n], out)
 }
 
 // Reads to the end of the input. A proved loop has to end, so this one counts its turns down from a number that no run
@@ -99,52 +117,64 @@ fn read_piece(
 fn read_all(
     s: Session,
     buffer: &mut [u8; 65536],
+    words: &mut [u64; 256],
     line: &mut [u8; 2048],
     input: &mut [u8; 65536],
     out: &mut [u8; 65536],
 ) -> Session
-    ensures { λ r. ⌜ TakesSome (stand s (now (buffer .entry)) (now (line .entry)) (now (out .entry))) (stand r (now (buffer .exit)) (now (line .exit)) (now (out .exit))) ⌝ }
+    ensures { λ r. ⌜ TakesSome (stand s (now (buffer .entry)) (now (words .entry)) (now (line .entry)) (now (out .entry)))
+        (stand r (now (buffer .exit)) (now (words .exit)) (now (line .exit)) (now (out .exit))) ⌝ }
 {
     let mut s = s;
     let mut turns = u64::MAX;
     while (turns > 0) & s.more {
-        s = read_piece(s, buffer, line, input, out);
+        s = read_piece(s, buffer, words, line, input, out);
         turns -= 1;
     }
     s
 }
 
 // Performs a last line that no newline ends.
-fn perform_last(s: Session, buffer: &mut [u8; 65536], line: &[u8], out: &mut [u8; 65536]) -> Session
+fn perform_last(
+    s: Session,
+    buffer: &mut [u8; 65536],
+    words: &mut [u64; 256],
+    line: &[u8],
+    out: &mut [u8; 65536],
+) -> Session
     requires { ⌜ 1450 < length (now line) ⌝ }
-    ensures { λ r. ⌜ Closes (stand s (now (buffer .entry)) (now (line .entry)) (now (out .entry))) (stand r (now (buffer .exit)) (now (line .entry)) (now (out .exit))) ⌝ }
+    ensures { λ r. ⌜ Closes (stand s (now (buffer .entry)) (now (words .entry)) (now (line .entry)) (now (out .entry)))
+        (stand r (now (buffer .exit)) (now (words .exit)) (now (line .entry)) (now (out .exit))) ⌝ }
 {
     if s.kept == 0 {
         return s;
     }
-    perform_kept(s, buffer, line, out)
+    perform_kept(s, buffer, words, line, out)
 }
 
 // Performs all lines of the input; the end of what they print is left in `out`.
 fn perform_all(
     buffer: &mut [u8; 65536],
+    words: &mut [u64; 256],
     line: &mut [u8; 2048],
     input: &mut [u8; 65536],
     out: &mut [u8; 65536],
 ) -> Session
-    ensures { λ r. ⌜ Ran (now (buffer .entry)) (stand r (now (buffer .exit)) (now (line .exit)) (now (out .exit))) ⌝ }
+    ensures { λ r. ⌜ Ran (now (buffer .entry)) (stand r (now (buffer .exit)) (now (words .exit)) (now (line .exit)) (now (out .exit))) ⌝ }
 {
-    let s = read_all(crate::started(), buffer, line, input, out);
-    perform_last(s, buffer, line, out)
+    workbench::starting::put_first(words);
+    let s = read_all(crate::started(), buffer, words, line, input, out);
+    perform_last(s, buffer, words, line, out)
 }
 
 // Performs all lines of the input, and writes all that they print.
 pub fn run(
     buffer: &mut [u8; 65536],
+    words: &mut [u64; 256],
     line: &mut [u8; 2048],
     input: &mut [u8; 65536],
     out: &mut [u8; 65536],
 ) {
-    let s = perform_all(buffer, line, input, out);
+    let s = perform_all(buffer, words, line, input, out);
     write_out(out, s.at);
 }

@@ -2,33 +2,34 @@
 use Prim.Native.Nat.{ℕ}
 use Prim.Native.Char.{code}
 use mathlib.Core.List.{List, [], _∷_}
+use Rattle.state.specs.State.{State}
 use Rattle.text.specs.declared.Line.{Line}
-use Rattle.workbench.specs.Turns.{other, choose}
-use Rattle.workbench.specs.declared.Bench.{Bench}
-use Rattle.workbench.specs.declared.Turn.{Turn}
+use Rattle.workbench.specs.Turns.{Turn, shown, choose}
+use Rattle.workbench.specs.declared.Said.the-variants.{OtherForm}
 use Rattle.transaction_calls.specs.Calls.{beginTurn, abortTurn, commitTurn, consolidateTurn, checkpointTurn, writeTurn}
-use Rattle.image_calls.specs.Calls.{formatTurn, formatted, mountTurn, stepTurn, steppedBytes, runTurn, ranBytes}
-use Rattle.line_calls.specs.Calls.{readTurn, recallTurn}
+use Rattle.image_calls.specs.Calls.{formatTurn, formatted, mountTurn, stepTurn, steppedBytes, runTurn, ranBytes, nextSaid}
+use Rattle.line_calls.specs.Calls.{readSaid, recallSaid}
 
-unfoldable pub callTurn : Bench → List ℕ → Line → Turn
-callTurn b img line =
+unfoldable pub callTurn : State → List ℕ → Line → Turn
+callTurn st img line =
     choose (line .letter)
-    ((code "F", formatTurn b img line)
-    ∷ (code "M", mountTurn b img line)
-    ∷ (code "B", beginTurn b line)
-    ∷ (code "A", abortTurn b line)
-    ∷ (code "C", commitTurn b img line)
-    ∷ (code "D", consolidateTurn b img line)
-    ∷ (code "P", checkpointTurn b img line)
-    ∷ (code "W", writeTurn b img line)
-    ∷ (code "S", stepTurn b img line)
-    ∷ (code "N", runTurn b img line)
-    ∷ (code "R", readTurn b img line)
-    ∷ (code "E", recallTurn b img line)
+    ((code "F", formatTurn st img line)
+    ∷ (code "M", mountTurn st img line)
+    ∷ (code "B", beginTurn st line)
+    ∷ (code "A", abortTurn st line)
+    ∷ (code "C", commitTurn st img line)
+    ∷ (code "D", consolidateTurn st img line)
+    ∷ (code "P", checkpointTurn st img line)
+    ∷ (code "W", writeTurn st img line)
+    ∷ (code "S", stepTurn st img line)
+    ∷ (code "N", runTurn st img line)
+    ∷ (code "n", shown st (nextSaid st img line))
+    ∷ (code "R", shown st (readSaid st img line))
+    ∷ (code "E", shown st (recallSaid img line))
     ∷ [])
-    (other b)
+    (shown st OtherForm)
 
 -- the bytes lent after it: format, step and run write
-unfoldable pub callBytes : Bench → List ℕ → Line → List ℕ
-callBytes b img line =
-    choose (line .letter) ((code "F", formatted img line) ∷ (code "S", steppedBytes b img line) ∷ (code "N", ranBytes b img line) ∷ []) img
+unfoldable pub callBytes : State → List ℕ → Line → List ℕ
+callBytes st img line =
+    choose (line .letter) ((code "F", formatted img line) ∷ (code "S", steppedBytes st img line) ∷ (code "N", ranBytes st img line) ∷ []) img

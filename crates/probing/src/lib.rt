@@ -4,66 +4,70 @@ mod calls;
 ghost use mathlib.Core.Path.{_≡_};
 ghost use lib.ListN.{take, drop};
 ghost use mathlib.Core.List.{_++_};
+ghost use Rattle.state_words.specs.Decoded.{decoded};
+ghost use Rattle.workbench.specs.Turns.{turnAt};
 ghost use Rattle.probing.specs.Calls.{callTurn, callBytes};
-ghost use Rattle.probing.specs.Lines.{numbersTurn, hashTurn, turnOf, bufferAfter};
+ghost use Rattle.probing.specs.Lines.{numbersSaid, hashSaid, turnOf, bufferAfter, lentAfter};
 use text::Line;
-use workbench::Bench;
 use workbench::Said;
-use workbench::Turn;
 
 // G: the state's numbers are printed.
-fn show_numbers(bench: Bench, line: Line) -> Turn
-    ensures { λ r. ⌜ r ≡ numbersTurn bench line ⌝ }
+fn show_numbers(line: Line) -> Said
+    ensures { λ r. ⌜ r ≡ numbersSaid line ⌝ }
 {
     if line.count == 0 {
-        return Turn {
-            bench,
-            said: Said::Numbers,
-        };
+        return Said::Numbers;
     }
-    workbench::other(bench)
+    Said::OtherForm
 }
 
 // H: the hash of the whole buffer.
-fn show_hash(bench: Bench, buffer: &[u8], line: Line) -> Turn
-    ensures { λ r. ⌜ r ≡ hashTurn bench (now (buffer .entry)) line ⌝ }
+fn show_hash(buffer: &[u8], line: Line) -> Said
+    ensures { λ r. ⌜ r ≡ hashSaid (now (buffer .entry)) line ⌝ }
 {
     if line.count == 0 {
-        let h = hashing::hash(buffer);
-        return Turn {
-            bench,
-            said: Said::Hash(h),
-        };
+        return Said::Hash(hashing::hash(buffer));
     }
-    workbench::other(bench)
+    Said::OtherForm
 }
 
-// A call on the bytes lent; a bench is never lent more than there is.
-fn call_lent(bench: Bench, buffer: &mut [u8], line: Line) -> Turn
-    ensures turn { λ r. ⌜ r ≡ callTurn bench (take (bench .lent) (now (buffer .entry))) line ⌝ }
-    ensures bytes { λ _. ⌜ now (buffer .exit) ≡ callBytes bench (take (bench .lent) (now (buffer .entry))) line ++ drop (bench .lent) (now (buffer .entry)) ⌝ }
+// A call on the bytes lent; never are more lent than there are.
+fn call_lent(buffer: &mut [u8], words: &mut [u64; 256], lent: usize, line: Line) -> Said
+    ensures turn { λ r. ⌜ turnAt r (now (words .exit)) ≡ callTurn (decoded (now (words .entry))) (take lent (now (buffer .entry))) line ⌝ }
+    ensures bytes { λ _. ⌜ now (buffer .exit)
+        ≡ callBytes (decoded (now (words .entry))) (take lent (now (buffer .entry))) line ++ drop lent (now (buffer .entry)) ⌝ }
 {
-    let n = bench.lent;
-    if n < buffer.len() {
-        return calls::call(bench, &mut buffer[..n], line);
+    if lent < buffer.len() {
+        return calls::call(&mut buffer[..lent], words, line);
     }
-    calls::call(bench, buffer, line)
+    calls::call(buffer, words, line)
 }
 
-pub fn turn(bench: Bench, buffer: &mut [u8], line: Line) -> Turn
-    ensures turn { λ r. ⌜ r ≡ turnOf bench (now (buffer .entry)) line ⌝ }
-    ensures bytes { λ _. ⌜ now (buffer .exit) ≡ bufferAfter bench (now (buffer .entry)) line ⌝ }
+// What a line does to the state and the buffer, and what it prints.
+pub fn turn(buffer: &mut [u8], words: &mut [u64; 256], lent: usize, line: Line) -> Said
+    ensures turn { λ r. ⌜ turnAt r (now (words .exit)) ≡ turnOf (decoded (now (words .entry))) lent (now (buffer .entry)) line ⌝ }
+    ensures bytes { λ _. ⌜ now (buffer .exit) ≡ bufferAfter (decoded (now (words .entry))) lent (now (buffer .entry)) line ⌝ }
 {
     let letter = line.letter;
     match letter {
-        b'L' => buffer_edits::lend(bench, buffer.len(), line),
-        b'Y' => buffer_edits::set_byte(bench, buffer, line),
-        b'U' => buffer_edits::set_word(bench, buffer, line),
-        b'T' => state_edits::set_number(bench, line),
-        b'O' => pending_edits::set_pending(bench, line),
-        b'Q' => pending_edits::set_line_byte(bench, line),
-        b'G' => show_numbers(bench, line),
-        b'H' => show_hash(bench, buffer, line),
-        _ => call_lent(bench, buffer, line),
+        b'L' => buffer_edits::lend(buffer.len(), line),
+        b'Y' => buffer_edits::set_byte(buffer, line),
+        b'U' => buffer_edits::set_word(buffer, line),
+        b'T' => state_edits::set_number(words, line),
+        b'O' => pending_edits::set_pending(words, line),
+        b'Q' => pending_edits::set_line_byte(words, line),
+        b'G' => show_numbers(line),
+        b'H' => show_hash(buffer, line),
+        _ => call_lent(buffer, words, lent, line),
     }
+}
+
+// What the calls of later lines are lent.
+pub fn lent_after(lent: usize, size: usize, line: Line) -> usize
+    ensures { λ r. ⌜ r ≡ lentAfter lent size line ⌝ }
+{
+    if line.letter == b'L' {
+        return buffer_edits::lent_by(lent, size, line);
+    }
+    lent
 }

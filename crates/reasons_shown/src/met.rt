@@ -1,8 +1,9 @@
 // Refusals that a store gives: what the call met, as a sentence.
-use answers::Done;
+use answers::Answer;
+use call_write::Span;
 use layout::Sizes;
+use op_stores::Until;
 use reasons::Reason;
-use state::State;
 
 // Calls with their writer, page and line, an event with its kind, meter and amount. Writers 3 and 1 hold lines 5 and 6 of page 1; then 0 and 3 want
 // line 6, and 0 line 5 and another page, and pages 1 and 0 are to be consolidated and a slot freed. Then come an unknown event and bets: writer 1 is
@@ -68,34 +69,62 @@ const CALLS: [[usize; 4]; 55] = [
     [wording::WRITE, 0, 1, 5],
 ];
 
-// Makes a call.
-fn make(st: State, image: &[u8], row: &[usize; 4]) -> Done {
+// Writes a byte to the start of the row's line.
+fn write(image: &mut [u8], words: &mut [u64; 256], row: &[usize; 4]) -> Answer {
+    let span = Span {
+        page: row[2],
+        line: row[3],
+        offset: 0,
+        length: 1,
+    };
+    call_write::write(image, words, row[1], span, b"x", Until::End)
+}
+
+// Makes a call, and all its stores.
+fn make(image: &mut [u8], words: &mut [u64; 256], row: &[usize; 4]) -> Answer {
     let moduli = meters::fixed_moduli();
+    let end = Until::End;
     match row[0] {
-        wording::BEGIN => writers::begin(st, row[1]),
-        wording::BEGIN_WIDE => writers::begin_wide(st, row[1]),
-        wording::ABORT => writers::abort(st, row[1]),
-        wording::WRITE => transactions::write(st, image, row[1], row[2], row[3], 0, 1, b"x"),
-        wording::CONSOLIDATE => transactions::consolidate(st, image, row[2]),
-        wording::EVENT => events::event(st, image, row[1], row[2], row[3] as u64, &moduli),
-        wording::PREPARE => preparing::prepare(st, image, row[1]),
-        wording::CONFIRM => preparing::confirm(st, image, row[1]),
-        wording::WITHDRAW => preparing::withdraw(st, image, row[1]),
-        _ => freeing::free_slot(st, image),
+        wording::BEGIN => call_begin::begin(words, row[1]),
+        wording::BEGIN_WIDE => call_begin::begin_wide(words, row[1]),
+        wording::ABORT => call_begin::abort(words, row[1]),
+        wording::WRITE => write(image, words, row),
+        wording::CONSOLIDATE => call_consolidate::consolidate(image, words, row[2], end),
+        wording::EVENT => call_event::event(
+            image,
+            words,
+            row[1],
+            row[2],
+            row[3] as u64,
+            &moduli,
+            end,
+        ),
+        wording::PREPARE => call_prepare::prepare(image, words, row[1], end),
+        wording::CONFIRM => call_prepare::confirm(image, words, row[1], end),
+        wording::WITHDRAW => call_prepare::withdraw(image, words, row[1]),
+        _ => call_consolidate::free_slot(image, words, end),
     }
 }
 
 // What a call met that was turned back with a number.
-fn met(st: State, number: usize, row: &[usize; 4]) -> Reason {
-    refusals::reason_met(st, row[0], number, row[1], row[2], row[3], row[1], row[2])
+fn met(words: &[u64; 256], number: usize, row: &[usize; 4]) -> Reason {
+    refusals::reason_met(
+        words,
+        row[0],
+        number,
+        row[1],
+        row[2],
+        row[3],
+        row[1],
+        row[2],
+    )
 }
 
 // Writes the sentence of a call that was refused.
-fn tell(done: Done, row: &[usize; 4]) {
+fn tell(words: &[u64; 256], answer: Answer, row: &[usize; 4]) {
     let mut target = [0; 200];
-    let answer = done.answer;
     let number = answers::number_of(answer);
-    let reason = met(done.state, number, row);
+    let reason = met(words, number, row);
     let composed = reasons::compose(reason, &mut target);
     if composed.number != 0 {
         return;
@@ -104,32 +133,33 @@ fn tell(done: Done, row: &[usize; 4]) {
     crate::samples::write_both(&target[..n], b"\n");
 }
 
-fn fresh(image: &mut [u8], entries: usize) -> State {
+fn fresh(image: &mut [u8], words: &mut [u64; 256], entries: usize) {
     let z = Sizes {
         pages: 2,
         slots: 1,
         places: 2,
         entries,
     };
-    mounting::format(image, z).state
+    let _ = call_mount::format(image, words, z);
 }
 
-// Makes a call, tells why it was refused, and runs it to its end. A format starts anew with so many entries.
-fn turn(image: &mut [u8; 12552], st: State, row: &[usize; 4]) -> State {
+// Makes a call with all its stores, and tells why it was refused. A format starts anew with so many entries.
+fn turn(image: &mut [u8; 12552], words: &mut [u64; 256], row: &[usize; 4]) {
     if row[0] == wording::FORMAT {
-        return fresh(image, row[1]);
+        fresh(image, words, row[1]);
+        return;
     }
-    let done = make(st, image, row);
-    tell(done, row);
-    stepping::run(done.state, image, 13).state
+    let answer = make(image, words, row);
+    tell(words, answer, row);
 }
 
 // The calls one after the other.
 pub fn show_met() {
     let mut image = [0u8; 12552];
-    let mut st = fresh(&mut image, 0);
+    let mut words = [0u64; 256];
+    fresh(&mut image, &mut words, 0);
     for k in 0..55 {
         let row = CALLS[k];
-        st = turn(&mut image, st, &row);
+        turn(&mut image, &mut words, &row);
     }
 }

@@ -4,16 +4,32 @@ ghost use Prim.Native.Nat.{_<_, _≤_};
 ghost use lib.ListN.{length};
 ghost use Rattle.layout.specs.Layout.{Legal, imageLength};
 ghost use Rattle.words.specs.Words.{word};
+ghost use Rattle.state.specs.Slots.{slotOfPage};
 ghost use Rattle.refinement.specs.Recall.{frameOf, recallRow, recallBytes};
 use layout::Sizes;
 use replay::Table;
+
+// The slot of page p, or S where it has none.
+fn slot_of(z: Sizes, page: &[usize; 16], p: usize) -> usize
+    requires { ⌜ Legal z ⌝ }
+    ensures { λ r. ⌜ r ≡ slotOfPage z (now (page .entry)) p ⌝ }
+{
+    let mut s = 0;
+    while s < z.slots {
+        if page[s] == p {
+            return s;
+        }
+        s += 1;
+    }
+    z.slots
+}
 
 // The frame with the committed copy of a page's line.
 fn recall_frame(image: &[u8], z: Sizes, t: Table, page: usize, line: usize) -> usize
     requires { ⌜ Legal z × (page < z .pages) × (line < 64) × (imageLength z ≤ length (now image)) ⌝ }
     ensures { λ r. ⌜ r ≡ frameOf (word (now (image .entry))) z t page line ⌝ }
 {
-    let s = state::slots::slot_of(z, &t.page, page);
+    let s = slot_of(z, &t.page, page);
     if s < z.slots {
         return frames::committed_frame(replay::slot_in(t, s), line);
     }

@@ -12,7 +12,7 @@ use Rattle.bounded.proofs.Rows.{row-at, row-none}
 use Rattle.bounded.proofs.Tests.{caseOn, row-keeps}
 use Rattle.layout.specs.declared.Sizes.{Sizes}
 use Rattle.layout.specs.Layout.{imageLength}
-use Rattle.state.specs.declared.State.{State}
+use Rattle.state.specs.State.{State}
 use Rattle.state.specs.declared.Op.{Op}
 use Rattle.state.specs.declared.Op.the-variants.{Write, Log}
 use Rattle.state.specs.Wide.{isWide}

@@ -16,7 +16,7 @@ use Rattle.bounded.proofs.Tests.{caseOn}
 use Rattle.journal.specs.Records.{liveCount}
 use Rattle.replay.specs.Table.{noPosition, lastIn}
 use Rattle.journal.proofs.Ring.{live-none}
-use Rattle.state.specs.declared.State.{State}
+use Rattle.state.specs.State.{State}
 use Rattle.state.specs.declared.Op.the-variants.{Checkpoint}
 use Rattle.operations.specs.Operations.{needs}
 use Rattle.refinement.specs.Stores.{World, completed}

@@ -19,7 +19,7 @@ use Rattle.journal.specs.Records.{position}
 use Rattle.replay.specs.Table.{replay}
 use Rattle.journal.proofs.Ring.{pos-none}
 use Rattle.masks.proofs.Members.{in-none}
-use Rattle.state.specs.declared.State.{State}
+use Rattle.state.specs.State.{State}
 use Rattle.state.specs.declared.Op.{Op}
 use Rattle.state.specs.declared.Op.the-variants.{Commit}
 use Rattle.state.specs.Held.{noWriter, heldAt, heldSlots}

@@ -18,7 +18,7 @@ use Rattle.words.proofs.Bytes.{length-bytes, bytes-bytesOf}
 use Rattle.masks.proofs.Members.{in-none}
 use Rattle.meters.specs.Meters.{eventKnown, movesCredit, firstMeter, ownMeter, eventNeeds, rolled, firstNumber, amountBad}
 use Rattle.meters.proofs.MeterLaws.{first-low, own-range}
-use Rattle.state.specs.declared.State.{State}
+use Rattle.state.specs.State.{State}
 use Rattle.state.specs.declared.Op.{Op}
 use Rattle.state.specs.declared.Op.the-variants.{Write, Event}
 use Rattle.state.specs.Wide.{isWide}

@@ -12,9 +12,8 @@ use borrow.Author.Tests.{eqb-true}
 use Rattle.bounded.specs.Rows.{refusal}
 use Rattle.bounded.proofs.Rows.{none-apply, row-none}
 use Rattle.bounded.proofs.Tests.{caseOn}
-use Rattle.state.specs.declared.State.{State}
+use Rattle.state.specs.State.{State, Wide}
 use Rattle.state.specs.declared.Op.the-variants.{Prepare, Confirm}
-use Rattle.state.specs.declared.Wide.{Wide}
 use Rattle.state.specs.Wide.{someWide}
 use Rattle.operations.specs.Operations.{needs, prepareRows, confirmRows}
 use Rattle.validity.specs.Validity.{stateOk}

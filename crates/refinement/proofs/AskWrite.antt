@@ -17,7 +17,7 @@ use Rattle.image.specs.Lines.{lineBytes, merged, lineWords}
 use Rattle.words.specs.Words.{Bytes}
 use Rattle.image.proofs.LineLaws.{length-merged, getD-merged, getD-merged-other}
 use Rattle.words.proofs.Parts.{bytes-part}
-use Rattle.state.specs.declared.State.{State}
+use Rattle.state.specs.State.{State}
 use Rattle.state.specs.declared.Op.{Op}
 use Rattle.state.specs.declared.Op.the-variants.{Write, Log}
 use Rattle.state.specs.Wide.{isWide}

@@ -6,7 +6,7 @@ use mathlib.Core.Logic.{inl}
 use mathlib.Core.Path.{_≡_, refl, ap, _∙_}
 use lib.ListN.{length-set}
 use Rattle.bounded.specs.Rows.{refusal}
-use Rattle.state.specs.declared.State.{State}
+use Rattle.state.specs.State.{State}
 use Rattle.refinement.specs.Stores.{World}
 use Rattle.refinement.proofs.StateValid.{valid}
 use Rattle.refinement.specs.Calls.{beginRows, beginOf, withWriters}

@@ -8,7 +8,7 @@ use lib.ListN.{length-set}
 use Rattle.bounded.specs.Rows.{refusal}
 use Rattle.words.specs.Words.{word}
 use Rattle.entries.proofs.EntryLaws.{no-keys}
-use Rattle.state.specs.declared.State.{State}
+use Rattle.state.specs.State.{State}
 use Rattle.state.specs.declared.Op.the-variants.{Copy}
 use Rattle.refinement.specs.Stores.{World, completed}
 use Rattle.refinement.specs.Calls.{beginWideRows, beginWideOf}

@@ -15,9 +15,7 @@ use Rattle.bounded.proofs.Rows.{none-apply}
 use Rattle.bounded.proofs.Tests.{caseOn, contradicts, row-keeps}
 use Rattle.entries.specs.Entries.{noKeys}
 use Rattle.entries.proofs.EntryLaws.{Right, none-right}
-use Rattle.state.specs.declared.State.{State}
-use Rattle.state.specs.declared.Writers.{Writers}
-use Rattle.state.specs.declared.Wide.{Wide}
+use Rattle.state.specs.State.{State, Writers, Wide}
 use Rattle.state.specs.Held.{isOpen, noWriter, heldAt, someHold}
 use Rattle.state.specs.Wide.{someWide, isWide, noWide, begunWide, dropped, someOpen}
 use Rattle.operations.specs.Operations.{isIdle}

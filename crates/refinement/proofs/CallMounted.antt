@@ -8,8 +8,7 @@ use Rattle.operations.specs.Operations.{needs}
 use Rattle.state.specs.Wide.{wideOf, noWide}
 use Rattle.state.specs.declared.Op.the-variants.{Copy}
 use Rattle.state.specs.declared.Pending.{Pending}
-use Rattle.state.specs.declared.Wide.{Wide}
-use Rattle.state.specs.declared.State.{State}
+use Rattle.state.specs.State.{Wide, State}
 use Rattle.entries.proofs.EntryLaws.{length-keys, none-right, Right, entries-right}
 use Rattle.entries.specs.Entries.{noKeys}
 use Prim.Native.Nat.{ℕ, _+_, _*_, _<_, _≤_}

@@ -6,7 +6,7 @@ use Rattle.bounded.proofs.Below.{up-keeps}
 use Rattle.bounded.proofs.Tests.{row-keeps}
 use Rattle.words.specs.Words.{Bytes}
 use Rattle.words.proofs.WordLaws.{bytes-store}
-use Rattle.state.specs.declared.State.{State}
+use Rattle.state.specs.State.{State}
 use Rattle.refinement.specs.Stores.{World, storeAt, storeValue, stepped, steppedBy, left}
 use Rattle.refinement.specs.Calls.{stepRow, worldOf, stepBytes, runBytes}
 use Rattle.refinement.specs.Run.{Call, mount, checkpoint, free, step, begin, beginWide, abort, commit, prepare, confirm, withdraw, consolidate, run, write, read, recall, exec, after, event, load}

@@ -15,7 +15,7 @@ use Rattle.layout.specs.Layout.{sizesOk}
 use Rattle.words.specs.Words.{Bytes}
 use Rattle.fresh.specs.Fresh.{formatRow, formatRows}
 use Rattle.mount.specs.Mount.{mountOf}
-use Rattle.state.specs.declared.State.{State}
+use Rattle.state.specs.State.{State}
 use Rattle.state.specs.declared.Op.{Op}
 use Rattle.state.specs.declared.Op.the-variants.{Write, Consolidate, Checkpoint, Event, Prepare, Confirm, Log}
 use Rattle.state.specs.Wide.{isWide}

@@ -20,7 +20,7 @@ use Rattle.words.proofs.WordLaws.{word-lt, word-store-other}
 use Rattle.replay.specs.Table.{lastIn, noPosition}
 use Rattle.mount.proofs.Dead.{Dead, dead-slot}
 use Rattle.replay.proofs.Tables.{Sixteen}
-use Rattle.state.specs.declared.State.{State}
+use Rattle.state.specs.State.{State}
 use Rattle.state.specs.declared.Op.the-variants.{Checkpoint}
 use Rattle.operations.specs.Operations.{recordedSlots}
 use Rattle.refinement.proofs.Appended.{last-at}

@@ -8,7 +8,7 @@ use Rattle.bounded.proofs.Tab.{getD-filled}
 use Rattle.replay.specs.Table.{noPosition}
 use Rattle.journal.proofs.Ring.{live-none, positions-none}
 use Rattle.replay.proofs.Tables.{Sixteen}
-use Rattle.state.specs.declared.State.{State}
+use Rattle.state.specs.State.{State}
 use Rattle.state.specs.declared.Op.the-variants.{Checkpoint}
 use Rattle.state.proofs.Numbers.{held-le}
 use Rattle.validity.specs.Validity.{stateOk}

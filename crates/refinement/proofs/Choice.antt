@@ -16,7 +16,7 @@ use Rattle.bounded.proofs.Tests.{and-left, and-right, contradicts}
 use Rattle.journal.specs.Slots.{noPage}
 use Rattle.journal.proofs.SlotWords.{Owning, Free, shape}
 use Rattle.replay.specs.Table.{slotIn}
-use Rattle.state.specs.declared.State.{State}
+use Rattle.state.specs.State.{State}
 use Rattle.state.specs.Slots.{freeAt}
 use Rattle.state.specs.Held.{heldAt, someHold}
 use Rattle.operations.specs.Operations.{slotFor, consolidateRows}

@@ -17,7 +17,7 @@ use Rattle.layout.specs.Layout.{Legal}
 use Rattle.journal.specs.declared.Slot.{Slot}
 use Rattle.masks.specs.Lines.{disjoint}
 use Rattle.masks.proofs.Disjoint.{none-disjoint, disjoint-none}
-use Rattle.state.specs.declared.Writers.{Writers}
+use Rattle.state.specs.State.{Writers}
 use Rattle.state.specs.Held.{isOpen, heldAt}
 use Rattle.refinement.specs.Commit.{closedWriter}
 use Rattle.refinement.proofs.Records.{slots-same}

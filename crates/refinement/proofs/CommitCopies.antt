@@ -22,7 +22,7 @@ use Rattle.mount.proofs.View.{slot-none}
 use Rattle.masks.specs.Lines.{inMask, exclusiveOr}
 use Rattle.masks.proofs.Disjoint.{disjoint-at}
 use Rattle.masks.proofs.Members.{in-none, flipped, kept}
-use Rattle.state.specs.declared.State.{State}
+use Rattle.state.specs.State.{State}
 use Rattle.state.specs.Held.{heldAt, heldSlots}
 use Rattle.operations.specs.Operations.{slotFor, slotted}
 use Rattle.validity.specs.Validity.{stateOk}

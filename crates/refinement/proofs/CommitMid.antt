@@ -31,7 +31,7 @@ use Rattle.journal.proofs.SlotWords.{Owning, Free, shape, owning-shaped, shaped
 use Rattle.mount.proofs.View.{View, Shows}
 use Rattle.mount.proofs.Verdict.{Taken}
 use Rattle.masks.proofs.Members.{exclusive-or-lt}
-use Rattle.state.specs.declared.State.{State}
+use Rattle.state.specs.State.{State}
 use Rattle.state.specs.declared.Op.the-variants.{Commit, Prepare}
 use Rattle.state.specs.Held.{somePrepared, heldAt, heldSlots}
 use Rattle.operations.specs.Operations.{needs, commitRows}

@@ -19,7 +19,7 @@ use Rattle.journal.proofs.Ring.{positions-more}
 use Rattle.journal.proofs.SlotWords.{Owning, Free, shape, owning-shaped}
 use Rattle.replay.proofs.Tables.{Sixteen}
 use Rattle.replay.proofs.Latest.{Latest, latest, replay-latest, replay-kept}
-use Rattle.state.specs.declared.State.{State}
+use Rattle.state.specs.State.{State}
 use Rattle.state.specs.declared.Op.the-variants.{Commit, Prepare}
 use Rattle.state.specs.Held.{heldAt, heldSlots}
 use Rattle.state.specs.Wide.{someWide, isWide}

@@ -30,7 +30,7 @@ use Rattle.journal.proofs.SlotWords.{free-shaped}
 use Rattle.replay.proofs.Tables.{Sixteen}
 use Rattle.mount.proofs.Verdict.{Taken}
 use Rattle.mount.proofs.View.{Shows}
-use Rattle.state.specs.declared.State.{State}
+use Rattle.state.specs.State.{State}
 use Rattle.state.specs.declared.Op.the-variants.{Consolidate}
 use Rattle.operations.specs.Operations.{slotFor, copyCount}
 use Rattle.validity.specs.Validity.{stateOk}

@@ -23,7 +23,7 @@ use Rattle.mount.proofs.View.{View}
 use Rattle.masks.specs.Lines.{inMask}
 use Rattle.masks.proofs.Members.{in-none}
 use Rattle.masks.proofs.Counts.{count-lines-none}
-use Rattle.state.specs.declared.State.{State}
+use Rattle.state.specs.State.{State}
 use Rattle.state.specs.declared.Op.the-variants.{Consolidate}
 use Rattle.state.specs.Held.{heldAt}
 use Rattle.operations.specs.Operations.{slotFor, slotted, copyCount}

@@ -17,7 +17,7 @@ use Rattle.journal.specs.declared.Slot.{Slot}
 use Rattle.journal.specs.Records.{position}
 use Rattle.replay.specs.Table.{replaced, replay}
 use Rattle.journal.proofs.SlotWords.{Owning}
-use Rattle.state.specs.declared.State.{State}
+use Rattle.state.specs.State.{State}
 use Rattle.operations.specs.Operations.{Ranged, slotFor, slotted, copyCount}
 use Rattle.refinement.specs.Frames.{pageSlot}
 use Rattle.refinement.specs.Consolidate.{copyTo, copyFrom, copyLines, freeingRecord, consolidateTable}

@@ -16,7 +16,7 @@ use Rattle.journal.specs.declared.Slot.{Slot}
 use Rattle.journal.specs.Records.{wordOfRecord}
 use Rattle.replay.proofs.Tables.{Sixteen}
 use Rattle.journal.proofs.SlotWords.{Owning, record-word-lt}
-use Rattle.state.specs.declared.State.{State}
+use Rattle.state.specs.State.{State}
 use Rattle.state.specs.Held.{heldAt}
 use Rattle.operations.specs.Operations.{Ranged, live, slotFor, copyCount}
 use Rattle.validity.specs.Validity.{stateOk}

@@ -19,7 +19,7 @@ use Rattle.journal.specs.Slots.{freeSlot}
 use Rattle.journal.specs.Records.{position, wordOfRecord}
 use Rattle.masks.specs.Lines.{inMask, countLines, linesIn, linesNotIn}
 use Rattle.masks.proofs.Counts.{count-lines-not, line-chosen, line-chosen-not}
-use Rattle.state.specs.declared.State.{State}
+use Rattle.state.specs.State.{State}
 use Rattle.operations.specs.Operations.{slotFor, copyCount}
 use Rattle.refinement.specs.Frames.{pageSlot, committedFrame, otherFrame}
 use Rattle.refinement.specs.Consolidate.{isFew, copyTo, copyFrom, copyLines, copyStoreCount, freeingRecord, consolidateAt, consolidateValue}

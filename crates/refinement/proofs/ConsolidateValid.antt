@@ -19,7 +19,7 @@ use Rattle.journal.proofs.Ring.{positions-more}
 use Rattle.journal.proofs.SlotWords.{Owning, Free, shape, free-shaped}
 use Rattle.replay.proofs.Tables.{Sixteen}
 use Rattle.replay.proofs.Latest.{replay-latest, replay-kept}
-use Rattle.state.specs.declared.State.{State}
+use Rattle.state.specs.State.{State}
 use Rattle.state.specs.declared.Op.the-variants.{Consolidate}
 use Rattle.state.specs.Held.{heldAt, someHold}
 use Rattle.operations.specs.Operations.{slotFor, consolidateRows}

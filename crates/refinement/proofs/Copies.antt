@@ -21,7 +21,7 @@ use Rattle.journal.specs.Slots.{noPage}
 use Rattle.replay.specs.Table.{slotIn, slotOf, homeOf, frameNames, pagesApart}
 use Rattle.mount.proofs.View.{slot-none}
 use Rattle.masks.proofs.Members.{in-none}
-use Rattle.state.specs.declared.State.{State}
+use Rattle.state.specs.State.{State}
 use Rattle.operations.specs.Operations.{slotFor}
 use Rattle.validity.specs.Validity.{stateOk}
 use Rattle.refinement.specs.Frames.{committedFrame, otherFrame}

@@ -15,7 +15,7 @@ use Rattle.layout.specs.Layout.{entryWord, countWord}
 use Rattle.words.specs.Words.{word, store}
 use Rattle.words.proofs.WordLaws.{word-store-other}
 use Rattle.entries.proofs.EntryLaws.{Right}
-use Rattle.state.specs.declared.State.{State}
+use Rattle.state.specs.State.{State}
 use Rattle.state.specs.declared.Op.{Op}
 use Rattle.state.specs.declared.Op.the-variants.{Copy}
 use Rattle.operations.specs.Operations.{isIdle, needs}

@@ -12,7 +12,7 @@ use Rattle.words.specs.Words.{word, store}
 use Rattle.image.proofs.LineLaws.{eight-ext}
 use Rattle.entries.specs.Entries.{keyPage, keyLine, keysFrom}
 use Rattle.entries.proofs.EntryLaws.{none-right, page-of-key, line-of-key}
-use Rattle.state.specs.declared.State.{State}
+use Rattle.state.specs.State.{State}
 use Rattle.state.specs.declared.Op.the-variants.{Copy}
 use Rattle.state.specs.Wide.{noWide}
 use Rattle.operations.proofs.Taken.{copy-taken}

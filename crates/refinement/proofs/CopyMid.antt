@@ -18,7 +18,7 @@ use Rattle.image.proofs.LineLaws.{length-line}
 use Rattle.entries.specs.Entries.{keyOf, keyPage, keyLine, entryOf}
 use Rattle.entries.proofs.EntryLaws.{entry-before}
 use Rattle.mount.proofs.Dead.{Dead, dead-line}
-use Rattle.state.specs.declared.State.{State}
+use Rattle.state.specs.State.{State}
 use Rattle.state.specs.declared.Op.{Op}
 use Rattle.state.specs.declared.Op.the-variants.{Copy}
 use Rattle.operations.specs.Operations.{isIdle, needs}

@@ -9,7 +9,7 @@ use Rattle.image.specs.Lines.{lineBytes}
 use Rattle.refinement.specs.Frames.{frameOf}
 use Rattle.entries.specs.Entries.{keyOf, keyPage, keyLine, entryOf}
 use Rattle.mount.proofs.View.{View}
-use Rattle.state.specs.declared.State.{State}
+use Rattle.state.specs.State.{State}
 use Rattle.refinement.specs.Run.{mount}
 use Rattle.refinement.specs.Reference.{Reference, recallLine}
 use Rattle.refinement.specs.Wide.{entryBytes, shownLine}

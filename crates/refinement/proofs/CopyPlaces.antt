@@ -16,7 +16,7 @@ use Rattle.layout.proofs.LayoutLaws.{line-apart}
 use Rattle.words.specs.Words.{word}
 use Rattle.entries.specs.Entries.{keyOf, keyPage, keyLine}
 use Rattle.entries.proofs.EntryLaws.{Right, key-back}
-use Rattle.state.specs.declared.State.{State}
+use Rattle.state.specs.State.{State}
 use Rattle.validity.specs.Validity.{stateOk}
 use Rattle.refinement.specs.Frames.{frameOf}
 use Rattle.refinement.specs.Wide.{copyAt, copyAtOf, copyValue, copyValueOf}

@@ -20,7 +20,7 @@ use Rattle.image.proofs.LineLaws.{length-line}
 use Rattle.entries.specs.Entries.{keyOf, keyPage, keyLine, keysFrom, entryOf}
 use Rattle.entries.proofs.EntryLaws.{entry-le, entry-found, page-of-key, line-of-key}
 use Rattle.replay.specs.declared.Table.{Table}
-use Rattle.state.specs.declared.State.{State}
+use Rattle.state.specs.State.{State}
 use Rattle.state.specs.declared.Op.the-variants.{Copy}
 use Rattle.state.specs.Held.{noWriter}
 use Rattle.operations.specs.Operations.{needs}

@@ -10,7 +10,7 @@ use borrow.Author.Tests.{lt-ltb}
 use Rattle.bounded.proofs.Tests.{contradicts}
 use Rattle.words.specs.Words.{word}
 use Rattle.entries.proofs.EntryLaws.{length-keys}
-use Rattle.state.specs.declared.State.{State}
+use Rattle.state.specs.State.{State}
 use Rattle.state.specs.declared.Op.{Op}
 use Rattle.operations.specs.Operations.{isIdle}
 use Rattle.refinement.specs.Stores.{World}

@@ -15,8 +15,7 @@ use Rattle.entries.proofs.EntryLaws.{Right, right-entries}
 use Rattle.mount.proofs.View.{View, Shows, shown}
 use Rattle.mount.proofs.HeadTail.{store-count}
 use Rattle.mount.proofs.Verdict.{Taken}
-use Rattle.state.specs.declared.State.{State}
-use Rattle.state.specs.declared.Wide.{Wide}
+use Rattle.state.specs.State.{State, Wide}
 use Rattle.refinement.specs.Settled.{withWide}
 use Rattle.refinement.specs.Reference.{Reference}
 use Rattle.refinement.proofs.Copies.{durable-legal, durable-fits}

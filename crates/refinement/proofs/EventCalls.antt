@@ -10,7 +10,7 @@ use lib.Dec.{eqb, eqb·suc-zero}
 use Rattle.bounded.specs.Rows.{refusal}
 use Rattle.bounded.proofs.Rows.{none-apply}
 use Rattle.meters.specs.Meters.{eventNeeds}
-use Rattle.state.specs.declared.State.{State}
+use Rattle.state.specs.State.{State}
 use Rattle.state.specs.declared.Op.the-variants.{Event}
 use Rattle.operations.specs.Operations.{needs}
 use Rattle.refinement.specs.Settled.{withLines}

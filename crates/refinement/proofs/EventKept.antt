@@ -10,7 +10,7 @@ use Rattle.words.specs.Words.{word}
 use Rattle.replay.specs.declared.Table.{Table}
 use Rattle.mount.proofs.Dead.{Dead}
 use Rattle.mount.proofs.View.{View}
-use Rattle.state.specs.declared.State.{State}
+use Rattle.state.specs.State.{State}
 use Rattle.state.specs.declared.Op.{Op}
 use Rattle.validity.specs.Validity.{stateOk}
 use Rattle.refinement.specs.Stores.{storeAt, storeValue, storeMade}

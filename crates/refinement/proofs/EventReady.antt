@@ -26,7 +26,7 @@ use Rattle.masks.specs.Lines.{inMask, withLine}
 use Rattle.masks.proofs.Members.{in-none}
 use Rattle.meters.specs.Meters.{eventKnown, movesCredit, firstMeter, ownMeter, eventNeeds}
 use Rattle.meters.proofs.MeterLaws.{first-low, own-range}
-use Rattle.state.specs.declared.State.{State}
+use Rattle.state.specs.State.{State}
 use Rattle.state.specs.declared.Op.the-variants.{Write, Commit, Event}
 use Rattle.state.specs.Held.{isOpen, somePrepared, heldAt, heldSlots, othersHold}
 use Rattle.operations.specs.Operations.{live, slotFor, slotted, needs, lineTaken, noneFree, frameBad, writeRows, commitRows, opRows, commitNeeds}

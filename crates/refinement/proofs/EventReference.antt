@@ -10,7 +10,7 @@ use borrow.Author.Tests.{eqb-true, eqb-false, le-leb}
 use Rattle.bounded.proofs.Tab.{tab-ext}
 use Rattle.bounded.proofs.Tests.{caseOn, row-keeps}
 use Rattle.meters.specs.Meters.{movesCredit, firstMeter, ownMeter}
-use Rattle.state.specs.declared.State.{State}
+use Rattle.state.specs.State.{State}
 use Rattle.state.specs.Held.{noWriter}
 use Rattle.refinement.specs.Reference.{Reference, Cell, none, byte, laidOver, idle, withWork, written, laid, emptied, withMeter, firstMoved, moved}
 use Rattle.refinement.proofs.Invariant.{Quiet}

@@ -10,7 +10,7 @@ use Rattle.bounded.proofs.Rows.{none-apply, row-none}
 use Rattle.bounded.proofs.Tests.{row-keeps}
 use Rattle.layout.specs.declared.Sizes.{Sizes}
 use Rattle.meters.specs.Meters.{moduliOk, movesCredit, firstMeter, ownMeter, eventNeeds, amountBad}
-use Rattle.state.specs.declared.State.{State}
+use Rattle.state.specs.State.{State}
 use Rattle.state.specs.declared.Op.the-variants.{Event}
 use Rattle.operations.specs.Operations.{isIdle, needs, opRows}
 use Rattle.validity.specs.Validity.{stateOk}

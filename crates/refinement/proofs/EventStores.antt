@@ -8,7 +8,7 @@ use lib.Dec.{ltb}
 use borrow.Author.Tests.{lt-ltb, le-ltb}
 use Rattle.bounded.proofs.Tests.{caseOn, row-keeps, row-yes}
 use Rattle.meters.specs.Meters.{movesCredit, firstMeter, ownMeter}
-use Rattle.state.specs.declared.State.{State}
+use Rattle.state.specs.State.{State}
 use Rattle.refinement.specs.Write.{writeAt, writeValue}
 use Rattle.refinement.specs.Commit.{commitAt, commitValue}
 use Rattle.refinement.specs.Event.{firstAsked, secondAsked, linesDone, lineStores, eventAt, eventValue}

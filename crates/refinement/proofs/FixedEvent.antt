@@ -11,7 +11,7 @@ use Rattle.bounded.proofs.Tests.{caseOn}
 use Rattle.layout.specs.Layout.{imageLength}
 use Rattle.meters.specs.Meters.{modulusOf, fixedModulus, fixedModuli, eventKnown, movesCredit, firstMeter, ownMeter, eventNeeds, rolled, firstNumber, creditBad, amountBad}
 use Rattle.meters.proofs.MeterLaws.{fixed-ok, fixed-modulus, of-count, own-range}
-use Rattle.state.specs.declared.State.{State}
+use Rattle.state.specs.State.{State}
 use Rattle.state.specs.declared.Op.the-variants.{Event}
 use Rattle.state.specs.Wide.{someWide}
 use Rattle.operations.specs.Operations.{isIdle}

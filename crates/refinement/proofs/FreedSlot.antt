@@ -13,7 +13,7 @@ use Rattle.bounded.specs.Rows.{refusal}
 use Rattle.bounded.proofs.Rows.{none-apply, row-at}
 use Rattle.bounded.proofs.Tests.{caseOn, contradicts}
 use Rattle.layout.specs.Layout.{imageLength}
-use Rattle.state.specs.declared.State.{State}
+use Rattle.state.specs.State.{State}
 use Rattle.state.specs.declared.Op.the-variants.{Consolidate}
 use Rattle.state.specs.Held.{somePrepared}
 use Rattle.operations.specs.Operations.{isIdle, journalFull}

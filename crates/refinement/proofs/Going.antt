@@ -12,7 +12,7 @@ use Rattle.bounded.specs.Below.{upTo}
 use Rattle.bounded.specs.Rows.{refusal}
 use Rattle.entries.proofs.EntryLaws.{Right}
 use Rattle.replay.specs.Table.{slotsShaped}
-use Rattle.state.specs.declared.State.{State}
+use Rattle.state.specs.State.{State}
 use Rattle.state.specs.declared.Op.{Op}
 use Rattle.state.specs.declared.Op.the-variants.{Write, Commit, Consolidate, Checkpoint, Event, Prepare, Confirm}
 use Rattle.operations.specs.Operations.{Ranged, isIdle, opRows, needs, commitNeeds, confirmNeeds, checkpointNeeds, recordedSlots}

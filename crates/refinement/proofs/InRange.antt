@@ -27,7 +27,7 @@ use Rattle.replay.specs.declared.Table.{Table}
 use Rattle.replay.specs.Table.{noPosition, slotIn, withSlot}
 use Rattle.replay.proofs.Tables.{slot-other}
 use Rattle.masks.proofs.Members.{in-none}
-use Rattle.state.specs.declared.State.{State}
+use Rattle.state.specs.State.{State}
 use Rattle.state.specs.declared.Op.{Op}
 use Rattle.state.specs.declared.Op.the-variants.{Idle, Write, Commit, Consolidate, Checkpoint, Event, Prepare, Confirm, Log, Copy}
 use Rattle.state.specs.Wide.{entryFor, hasEntry}

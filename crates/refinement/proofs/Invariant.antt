@@ -1,5 +1,5 @@
 -- What holds of the store and the reference machine between two calls.
-use Rattle.state.specs.declared.Wide.{Wide}
+use Rattle.state.specs.State.{Wide, State}
 use Prim.Native.Nat.{ℕ, _-_, _^_, _<_, _≤_}
 use mathlib.Core.Bool.{true, false}
 use mathlib.Core.List.{List}
@@ -16,7 +16,6 @@ use Rattle.replay.specs.Table.{slotIn, lastIn, slotOf}
 use Rattle.mount.proofs.View.{View, Shows}
 use Rattle.mount.proofs.Verdict.{Taken}
 use Rattle.replay.proofs.Tables.{Sixteen}
-use Rattle.state.specs.declared.State.{State}
 use Rattle.state.specs.declared.Op.{Op}
 use Rattle.state.specs.declared.Op.the-variants.{Idle, Write, Commit, Consolidate, Checkpoint, Event, Prepare, Confirm, Log, Copy}
 use Rattle.state.specs.Held.{noWriter, heldAt}

@@ -3,8 +3,7 @@ use Prim.Native.Nat.{ℕ, _<_}
 use mathlib.Core.List.{List}
 use mathlib.Core.Path.{_≡_, ap, _∙_}
 use Rattle.bounded.proofs.Tab.{tab-ext}
-use Rattle.state.specs.declared.State.{State}
-use Rattle.state.specs.declared.Writers.{Writers}
+use Rattle.state.specs.State.{State, Writers}
 use Rattle.state.specs.declared.Pending.{Pending}
 use Rattle.refinement.proofs.StateValid.{valid}
 use Rattle.refinement.specs.Reference.{Reference, laidOver, recallLine}

@@ -14,7 +14,7 @@ use Rattle.bounded.proofs.Tests.{row-yes}
 use Rattle.words.specs.Words.{wordAt}
 use Rattle.meters.specs.Meters.{modulusOf}
 use Rattle.moduli_text.specs.Text.{moduliIn}
-use Rattle.state.specs.declared.State.{State}
+use Rattle.state.specs.State.{State}
 use Rattle.validity.specs.Validity.{stateOk}
 use Rattle.refinement.specs.Stores.{World}
 use Rattle.refinement.specs.Calls.{meterStored, loadRows, loadOf}

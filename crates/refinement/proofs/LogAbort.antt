@@ -6,7 +6,7 @@ use mathlib.Core.Logic.{inl}
 use mathlib.Core.Path.{_≡_, refl, sym, ap, subst}
 use borrow.Author.Tests.{eq-eqb}
 use Rattle.bounded.specs.Rows.{refusal}
-use Rattle.state.specs.declared.State.{State}
+use Rattle.state.specs.State.{State}
 use Rattle.state.specs.declared.Op.the-variants.{Copy}
 use Rattle.state.specs.Wide.{noWide, dropped}
 use Rattle.refinement.specs.Commit.{closedWriter}

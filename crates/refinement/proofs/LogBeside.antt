@@ -9,7 +9,7 @@ use lib.ListN.{replicate}
 use borrow.Author.Tests.{ltb-true}
 use Rattle.bounded.specs.Rows.{refusal}
 use Rattle.bounded.proofs.Rows.{none-apply, row-none}
-use Rattle.state.specs.declared.State.{State}
+use Rattle.state.specs.State.{State}
 use Rattle.state.specs.declared.Op.{Op}
 use Rattle.state.specs.declared.Op.the-variants.{Consolidate, Checkpoint, Copy}
 use Rattle.operations.specs.Operations.{isIdle, needs, opRows, slotFor, consolidateRows}

@@ -13,7 +13,7 @@ use Rattle.bounded.proofs.Rows.{none-apply, row-none}
 use Rattle.bounded.proofs.Tests.{caseOn}
 use Rattle.entries.specs.Entries.{keyOf}
 use Rattle.entries.proofs.EntryLaws.{entry-none}
-use Rattle.state.specs.declared.State.{State}
+use Rattle.state.specs.State.{State}
 use Rattle.state.specs.declared.Op.{Op}
 use Rattle.state.specs.declared.Op.the-variants.{Commit, Copy}
 use Rattle.operations.specs.Operations.{isIdle, needs, commitRows}

@@ -19,7 +19,7 @@ use Rattle.words.proofs.Runs.{words-tab}
 use Rattle.image.proofs.LineLaws.{eight-words, flat-line}
 use Rattle.entries.specs.Entries.{noKeys, keyOf, keyPage, keyLine, keysFrom, entryOf}
 use Rattle.entries.proofs.EntryLaws.{entry-le, entry-found, entry-before, entry-none, entry-own, page-of-key, line-of-key, key-back, key-apart}
-use Rattle.state.specs.declared.State.{State}
+use Rattle.state.specs.State.{State}
 use Rattle.state.specs.declared.Op.the-variants.{Log, Copy}
 use Rattle.state.specs.Wide.{hasEntry}
 use Rattle.refinement.specs.Stores.{completed}

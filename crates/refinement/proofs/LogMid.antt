@@ -17,7 +17,7 @@ use Rattle.words.proofs.WordLaws.{word-store, word-store-other, word-lt}
 use Rattle.entries.specs.Entries.{keyOf, keyPage, keyLine, keysFrom}
 use Rattle.entries.proofs.EntryLaws.{entry-le, entry-found, key-read}
 use Rattle.mount.proofs.Dead.{Dead, dead-entry}
-use Rattle.state.specs.declared.State.{State}
+use Rattle.state.specs.State.{State}
 use Rattle.state.specs.declared.Op.{Op}
 use Rattle.state.specs.declared.Op.the-variants.{Log, Copy}
 use Rattle.state.specs.Wide.{entryFor, hasEntry}

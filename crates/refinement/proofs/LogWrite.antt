@@ -16,7 +16,7 @@ use Rattle.words.proofs.Parts.{bytes-part}
 use Rattle.image.specs.Lines.{merged, mergeChanges, lineWords}
 use Rattle.image.proofs.LineLaws.{bytes-merged, merge-same}
 use Rattle.entries.specs.Entries.{keyPage, keyLine}
-use Rattle.state.specs.declared.State.{State}
+use Rattle.state.specs.State.{State}
 use Rattle.state.specs.declared.Op.{Op}
 use Rattle.state.specs.declared.Op.the-variants.{Write, Log, Copy}
 use Rattle.state.specs.Wide.{isWide, entryFor, hasEntry}

@@ -14,8 +14,7 @@ use Rattle.words.specs.Words.{Bytes, word}
 use Rattle.image.specs.Lines.{lineWords}
 use Rattle.entries.specs.Entries.{keyOf, keyPage, keyLine, keysFrom, entryOf}
 use Rattle.entries.proofs.EntryLaws.{length-keys}
-use Rattle.state.specs.declared.State.{State}
-use Rattle.state.specs.declared.Wide.{Wide}
+use Rattle.state.specs.State.{State, Wide}
 use Rattle.state.specs.declared.Op.{Op}
 use Rattle.state.specs.declared.Op.the-variants.{Idle, Write, Commit, Consolidate, Checkpoint, Event, Prepare, Confirm, Log, Copy}
 use Rattle.state.specs.Held.{isOpen}

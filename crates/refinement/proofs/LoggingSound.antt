@@ -9,7 +9,7 @@ use borrow.Author.Tests.{lt-ltb}
 use Rattle.bounded.specs.Rows.{refusal}
 use Rattle.bounded.proofs.Rows.{none-apply, row-none}
 use Rattle.bounded.proofs.Tests.{contradicts}
-use Rattle.state.specs.declared.State.{State}
+use Rattle.state.specs.State.{State}
 use Rattle.state.specs.Wide.{someWide}
 use Rattle.operations.specs.Operations.{prepareRows, confirmRows}
 use Rattle.operations.proofs.Taken.{prepare-alone, confirm-taken}

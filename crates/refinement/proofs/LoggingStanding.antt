@@ -15,7 +15,7 @@ use Rattle.image.specs.Lines.{lineBytes}
 use Rattle.entries.specs.Entries.{keyOf, keyPage, keyLine}
 use Rattle.entries.proofs.EntryLaws.{page-of-key, line-of-key, entry-le, entry-found, key-read}
 use Rattle.masks.proofs.Members.{in-none}
-use Rattle.state.specs.declared.State.{State}
+use Rattle.state.specs.State.{State}
 use Rattle.state.specs.declared.Op.{Op}
 use Rattle.state.specs.declared.Op.the-variants.{Copy}
 use Rattle.state.specs.declared.Pending.{Pending}

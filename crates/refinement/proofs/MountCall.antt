@@ -11,7 +11,7 @@ use Rattle.words.specs.Words.{word}
 use Rattle.mount.specs.declared.Mounted.{Mounted}
 use Rattle.mount.proofs.Verdict.{Taken, foundIn, taken-mount}
 use Rattle.mount.proofs.View.{View, Shows}
-use Rattle.state.specs.declared.State.{State}
+use Rattle.state.specs.State.{State}
 use Rattle.validity.specs.Validity.{stateOk}
 use Rattle.refinement.specs.Stores.{World}
 use Rattle.refinement.specs.Outcome.{answered}

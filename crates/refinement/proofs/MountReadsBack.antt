@@ -11,7 +11,7 @@ use Rattle.entries.specs.Entries.{noKeys}
 use Rattle.replay.specs.Table.{slotIn, lastIn}
 use Rattle.mount.proofs.Verdict.{foundIn}
 use Rattle.mount.proofs.View.{View}
-use Rattle.state.specs.declared.State.{State}
+use Rattle.state.specs.State.{State}
 use Rattle.refinement.specs.Mount.{mountedState, copyingState}
 use Rattle.refinement.specs.Stores.{World}
 use Rattle.refinement.specs.Wide.{shownLine}

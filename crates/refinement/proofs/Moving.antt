@@ -9,7 +9,7 @@ use lib.ListN.{length, replicate}
 use Rattle.image.specs.Lines.{lineWords}
 use Rattle.words.specs.Words.{Bytes, bytesOf}
 use Rattle.meters.specs.Meters.{movesCredit, firstMeter, ownMeter, eventNeeds, rolled, firstNumber, amountBad}
-use Rattle.state.specs.declared.State.{State}
+use Rattle.state.specs.State.{State}
 use Rattle.state.specs.declared.Op.{Op}
 use Rattle.state.specs.declared.Op.the-variants.{Commit, Event}
 use Rattle.operations.specs.Operations.{isIdle, needs}

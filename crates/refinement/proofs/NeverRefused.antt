@@ -11,7 +11,7 @@ use borrow.Author.Tests.{le-ltb}
 use Rattle.bounded.specs.Rows.{refusal}
 use Rattle.bounded.proofs.Tests.{caseOn}
 use Rattle.layout.specs.Layout.{imageLength}
-use Rattle.state.specs.declared.State.{State}
+use Rattle.state.specs.State.{State}
 use Rattle.state.specs.Wide.{isWide}
 use Rattle.operations.specs.Operations.{slotFor, frameBad, writeArgsBad, writeRows, logRows}
 use Rattle.validity.specs.Validity.{stateOk}

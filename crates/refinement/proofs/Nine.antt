@@ -9,7 +9,7 @@ use lib.ListN.{length}
 use borrow.Author.Tests.{le-ltb}
 use Rattle.bounded.proofs.Rows.{row-at}
 use Rattle.layout.specs.Layout.{imageLength}
-use Rattle.state.specs.declared.State.{State}
+use Rattle.state.specs.State.{State}
 use Rattle.operations.specs.Operations.{isIdle}
 use Rattle.validity.specs.Validity.{stateOk}
 use Rattle.refinement.specs.Stores.{World}

@@ -16,7 +16,7 @@ use Rattle.words.specs.Words.{word}
 use Rattle.journal.specs.Slots.{noPage}
 use Rattle.replay.specs.Table.{slotIn, homeOf, frameNames}
 use Rattle.journal.proofs.SlotWords.{shape}
-use Rattle.state.specs.declared.State.{State}
+use Rattle.state.specs.State.{State}
 use Rattle.state.specs.Slots.{freeAt, frameOfSlot}
 use Rattle.operations.specs.Operations.{slotFor, slotted, frameBad}
 use Rattle.validity.specs.Validity.{stateOk}

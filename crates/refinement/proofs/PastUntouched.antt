@@ -17,7 +17,7 @@ use Rattle.layout.proofs.LayoutLaws.{legal}
 use Rattle.fresh.specs.Fresh.{formatRows, formatRow, formatBytes}
 use Rattle.fresh.proofs.FreshWords.{length-formatted, drop-formatted}
 use Rattle.words.proofs.WordLaws.{length-store, drop-store}
-use Rattle.state.specs.declared.State.{State}
+use Rattle.state.specs.State.{State}
 use Rattle.operations.specs.Operations.{isIdle, needs}
 use Rattle.validity.specs.Validity.{stateOk}
 use Rattle.refinement.specs.Stores.{World, storeAt, storeValue, storeMade, storesMade, steppedBy, stepped, left}

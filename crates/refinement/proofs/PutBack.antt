@@ -10,7 +10,7 @@ use Rattle.bounded.proofs.Below.{up-keeps}
 use Rattle.words.specs.Words.{part, word, wordAt}
 use Rattle.words.proofs.WordLaws.{word-part}
 use Rattle.image.specs.Lines.{lineWords}
-use Rattle.state.specs.declared.State.{State}
+use Rattle.state.specs.State.{State}
 use Rattle.state.specs.declared.Op.{Op}
 use Rattle.operations.specs.Operations.{isIdle, needs}
 use Rattle.refinement.specs.Stores.{storeMade, storesMade, completed, steppedBy, left}

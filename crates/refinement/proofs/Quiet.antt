@@ -7,7 +7,7 @@ use borrow.Author.Tests.{ltb-false, not-false}
 use Rattle.bounded.specs.Rows.{refusal, Past}
 use Rattle.bounded.proofs.Rows.{none-apply}
 use Rattle.layout.specs.Layout.{imageLength}
-use Rattle.state.specs.declared.State.{State}
+use Rattle.state.specs.State.{State}
 use Rattle.operations.specs.Operations.{isIdle}
 use Rattle.validity.specs.Validity.{stateOk}
 use Rattle.refinement.specs.Calls.{quietRows, busyRows}

@@ -10,7 +10,7 @@ use borrow.Author.Tests.{ltb-false, leb-false}
 use Rattle.bounded.proofs.Rows.{none-apply}
 use Rattle.bounded.proofs.Tests.{or-left, or-right}
 use Rattle.words.specs.Words.{over}
-use Rattle.state.specs.declared.State.{State}
+use Rattle.state.specs.State.{State}
 use Rattle.refinement.specs.Stores.{World}
 use Rattle.refinement.specs.Calls.{readRows, readRow, readBytes}
 use Rattle.refinement.specs.Run.{Call, read, exec}

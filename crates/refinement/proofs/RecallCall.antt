@@ -16,7 +16,7 @@ use Rattle.mount.specs.declared.Mounted.{Mounted}
 use Rattle.mount.specs.Mount.{mountOf, mountRead, mountRows, sizesFrom}
 use Rattle.mount.proofs.Verdict.{taken-mount}
 use Rattle.mount.proofs.View.{View}
-use Rattle.state.specs.declared.State.{State}
+use Rattle.state.specs.State.{State}
 use Rattle.refinement.specs.Wide.{shownLine}
 use Rattle.refinement.specs.Recall.{recallRow, recallBytes}
 use Rattle.refinement.specs.Reference.{Reference, recallLine}

@@ -22,7 +22,7 @@ use Rattle.journal.specs.Records.{position, wordOfRecord}
 use Rattle.replay.specs.declared.Table.{Table}
 use Rattle.replay.specs.Table.{slotIn}
 use Rattle.masks.specs.Lines.{exclusiveOr}
-use Rattle.state.specs.declared.State.{State}
+use Rattle.state.specs.State.{State}
 use Rattle.state.specs.declared.Op.the-variants.{Commit}
 use Rattle.state.specs.Held.{heldAt, heldSlots}
 use Rattle.operations.specs.Operations.{needs}

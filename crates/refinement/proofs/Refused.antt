@@ -5,7 +5,7 @@ use mathlib.Core.List.{List, []}
 use mathlib.Core.Path.{_≡_, refl, ap, ap₂}
 use lib.Dec.{eqb}
 use borrow.Author.Tests.{ne-eqb}
-use Rattle.state.specs.declared.State.{State}
+use Rattle.state.specs.State.{State}
 use Rattle.refinement.specs.Stores.{World}
 use Rattle.refinement.specs.Outcome.{answered}
 use Rattle.refinement.specs.Calls.{beginOf, beginWideOf, abortOf, writeOf, commitOf, prepareOf, confirmOf, withdrawOf, consolidateOf, freeOf, checkpointOf, eventOf, loadOf, readBytes, stepOf, stepBytes, runOf, runBytes}

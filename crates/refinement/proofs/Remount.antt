@@ -19,7 +19,7 @@ use Rattle.mount.proofs.Verdict.{Taken}
 use Rattle.mount.proofs.View.{View, Shows}
 use Rattle.refinement.specs.Recall.{frameOf}
 use Rattle.refinement.specs.Wide.{entryBytes, shownLine}
-use Rattle.state.specs.declared.State.{State}
+use Rattle.state.specs.State.{State}
 use Rattle.refinement.specs.Mount.{copyingState}
 use Rattle.refinement.specs.Reference.{Reference, none, idle, recallLine}
 use Rattle.refinement.proofs.CallMounted.{view-names, view-sixteen, copying-valid}

@@ -9,7 +9,7 @@ use lib.ListN.{replicate}
 use borrow.Author.Tests.{eqb-true, eqb-false, not-false}
 use Rattle.bounded.specs.Rows.{refusal}
 use Rattle.bounded.proofs.Tests.{caseOn, contradicts}
-use Rattle.state.specs.declared.State.{State}
+use Rattle.state.specs.State.{State}
 use Rattle.state.specs.declared.Op.{Op}
 use Rattle.state.specs.declared.Op.the-variants.{Idle, Write, Commit, Consolidate, Checkpoint, Event, Prepare, Confirm, Log, Copy}
 use Rattle.state.specs.Wide.{isWide}
@@ -23,6 +23,7 @@ use Rattle.refinement.specs.Freeing.{freedPage}
 use Rattle.refinement.specs.Mount.{mountCall}
 use Rattle.refinement.specs.Run.{Call, mount, checkpoint, free, step, begin, beginWide, abort, commit, prepare, confirm, withdraw, consolidate, run, write, read, recall, event, load, exec}
 use Rattle.refinement.specs.Reports.{Made, Needs, Reports, StoresReported}
+use Rattle.refinement.proofs.LinesAsked.{needs-lines}
 use Rattle.refinement.proofs.Pending.{needing, pends, needs-made}
 use Rattle.refinement.proofs.PastUntouched.{Goes, goes}
 use Rattle.refinement.proofs.WriterCalls.{write-first}
@@ -50,8 +51,7 @@ idle-left st e =
     (λ t. let some : needs st op ≡ 0 → ⊥ = eqb-false (needs st op) 0 t in contradicts e (needing st op 0 (omega arith)))
 
 asked-left : (st : State) (op : Op) (line second : List ℕ) (frame : ℕ) → left (withLines st op line second frame) ≡ needs st op
-unfolding needs
-asked-left st op line second frame = omega arith
+asked-left st op line second frame = omega (arith, needs-lines st line second frame op op)
 
 -- ---- step and run
 

@@ -19,7 +19,7 @@ use Rattle.words.proofs.WordLaws.{store-same}
 use Rattle.image.specs.Lines.{lineWords, mergeChanges}
 use Rattle.image.proofs.LineLaws.{length-line, merge-same}
 use Rattle.masks.specs.Lines.{inMask, withLine}
-use Rattle.state.specs.declared.State.{State}
+use Rattle.state.specs.State.{State}
 use Rattle.state.specs.declared.Op.the-variants.{Write}
 use Rattle.state.specs.Held.{heldAt}
 use Rattle.state.specs.Wide.{isWide}

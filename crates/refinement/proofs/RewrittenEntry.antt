@@ -21,7 +21,7 @@ use Rattle.image.specs.Lines.{lineBytes, lineWords, merged, mergeChanges}
 use Rattle.image.proofs.LineLaws.{merge-same}
 use Rattle.entries.specs.Entries.{keyOf}
 use Rattle.entries.proofs.EntryLaws.{entry-found}
-use Rattle.state.specs.declared.State.{State}
+use Rattle.state.specs.State.{State}
 use Rattle.state.specs.declared.Op.the-variants.{Log}
 use Rattle.state.specs.Wide.{isWide, hasEntry, entryFor, withEntry}
 use Rattle.operations.specs.Operations.{needs, logRows}

@@ -7,7 +7,7 @@ use Rattle.bounded.proofs.Tab.{tab-ext}
 use Rattle.bounded.proofs.Tests.{caseOn}
 use Rattle.image.specs.Lines.{lineBytes}
 use Rattle.masks.specs.Lines.{inMask}
-use Rattle.state.specs.declared.State.{State}
+use Rattle.state.specs.State.{State}
 use Rattle.state.specs.Held.{heldAt}
 use Rattle.operations.specs.Operations.{slotFor, slotted}
 use Rattle.refinement.specs.Frames.{pageFrame, seenFrame}

@@ -17,7 +17,7 @@ use Rattle.replay.specs.declared.Table.{Table}
 use Rattle.journal.specs.Slots.{shaped}
 use Rattle.replay.specs.Table.{slotIn, slotsShaped}
 use Rattle.journal.proofs.SlotWords.{Owning, Free, shape}
-use Rattle.state.specs.declared.State.{State}
+use Rattle.state.specs.State.{State}
 use Rattle.state.specs.Held.{heldAt}
 use Rattle.operations.specs.Operations.{slotFor, slotted, frameBad}
 use Rattle.state.specs.Slots.{frameOfSlot}

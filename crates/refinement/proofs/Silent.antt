@@ -13,8 +13,7 @@ use Rattle.bounded.proofs.Tests.{caseOn, contradicts}
 use Rattle.layout.specs.declared.Sizes.{Sizes}
 use Rattle.layout.specs.Layout.{Legal}
 use Rattle.masks.proofs.Members.{in-none}
-use Rattle.state.specs.declared.State.{State}
-use Rattle.state.specs.declared.Writers.{Writers}
+use Rattle.state.specs.State.{State, Writers}
 use Rattle.state.specs.Held.{heldAt, someHold}
 use Rattle.operations.specs.Operations.{slotFor, slotted}
 use Rattle.refinement.specs.Commit.{closedWriter}

@@ -22,8 +22,7 @@ use Rattle.replay.proofs.Tables.{Sixteen, sixteen-slot}
 use Rattle.replay.proofs.Latest.{sixteen-replay}
 use Rattle.masks.specs.Lines.{withLine}
 use Rattle.masks.proofs.Members.{with-lt, exclusive-or-lt}
-use Rattle.state.specs.declared.State.{State}
-use Rattle.state.specs.declared.Writers.{Writers}
+use Rattle.state.specs.State.{State, Writers}
 use Rattle.state.specs.declared.Op.{Op}
 use Rattle.state.specs.declared.Op.the-variants.{Idle, Write, Commit, Consolidate, Checkpoint, Event, Prepare, Confirm, Log, Copy}
 use Rattle.entries.specs.Entries.{keyOf}

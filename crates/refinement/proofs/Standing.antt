@@ -12,7 +12,7 @@ use Rattle.layout.specs.Layout.{frames, entryWord}
 use Rattle.words.specs.Words.{word}
 use Rattle.replay.specs.Table.{frameNames}
 use Rattle.replay.proofs.Tables.{Sixteen}
-use Rattle.state.specs.declared.Wide.{Wide}
+use Rattle.state.specs.State.{Wide}
 use Rattle.state.specs.Wide.{isWide}
 use Rattle.operations.specs.Operations.{isIdle}
 use Rattle.validity.specs.Validity.{stateOk}

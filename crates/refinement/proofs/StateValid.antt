@@ -9,7 +9,7 @@ use Rattle.layout.specs.Layout.{Legal}
 use Rattle.layout.proofs.LayoutLaws.{legal, legal-ok}
 use Rattle.replay.specs.Table.{slotIn}
 use Rattle.journal.proofs.Ring.{Positions, positions, positions-ok}
-use Rattle.state.specs.declared.State.{State}
+use Rattle.state.specs.State.{State}
 use Rattle.state.specs.Held.{isOpen, heldOk}
 use Rattle.state.specs.Wide.{isWide, wideOk}
 use Rattle.entries.proofs.EntryLaws.{Right}

@@ -13,7 +13,7 @@ use Rattle.layout.specs.Layout.{entryWord}
 use Rattle.words.specs.Words.{word, store}
 use Rattle.words.proofs.WordLaws.{word-store-other}
 use Rattle.replay.proofs.Tables.{Sixteen}
-use Rattle.state.specs.declared.State.{State}
+use Rattle.state.specs.State.{State}
 use Rattle.state.specs.declared.Op.{Op}
 use Rattle.state.specs.declared.Op.the-variants.{Consolidate, Checkpoint, Copy}
 use Rattle.operations.specs.Operations.{isIdle, needs}

@@ -21,7 +21,7 @@ use Rattle.mount.proofs.LastRecords.{last-record}
 use Rattle.replay.proofs.Tables.{Sixteen, one-value}
 use Rattle.mount.proofs.Verdict.{Taken}
 use Rattle.mount.proofs.View.{Shows}
-use Rattle.state.specs.declared.State.{State}
+use Rattle.state.specs.State.{State}
 use Rattle.state.specs.declared.Op.{Op}
 use Rattle.state.specs.declared.Op.the-variants.{Checkpoint}
 use Rattle.operations.specs.Operations.{needs}

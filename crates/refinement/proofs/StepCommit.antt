@@ -25,7 +25,7 @@ use Rattle.replay.proofs.Tables.{Sixteen}
 use Rattle.mount.proofs.Verdict.{Taken, namesIn}
 use Rattle.mount.proofs.View.{View, Shows}
 use Rattle.masks.specs.Lines.{inMask}
-use Rattle.state.specs.declared.State.{State}
+use Rattle.state.specs.State.{State}
 use Rattle.state.specs.declared.Op.{Op}
 use Rattle.state.specs.declared.Op.the-variants.{Commit}
 use Rattle.state.specs.Held.{heldAt}

@@ -20,7 +20,7 @@ use Rattle.replay.proofs.Tables.{Sixteen}
 use Rattle.mount.proofs.Append.{appended}
 use Rattle.mount.proofs.View.{Shows}
 use Rattle.masks.specs.Lines.{inMask}
-use Rattle.state.specs.declared.State.{State}
+use Rattle.state.specs.State.{State}
 use Rattle.state.specs.declared.Op.{Op}
 use Rattle.state.specs.declared.Op.the-variants.{Consolidate}
 use Rattle.state.specs.Held.{heldAt}

@@ -10,7 +10,7 @@ use Rattle.bounded.proofs.Tests.{caseOn}
 use Rattle.layout.specs.Layout.{countWord, entryWord}
 use Rattle.words.specs.Words.{word, store}
 use Rattle.entries.specs.Entries.{keyPage, keyLine}
-use Rattle.state.specs.declared.State.{State}
+use Rattle.state.specs.State.{State}
 use Rattle.state.specs.declared.Op.{Op}
 use Rattle.state.specs.declared.Op.the-variants.{Copy}
 use Rattle.operations.specs.Operations.{needs}

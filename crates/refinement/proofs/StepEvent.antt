@@ -16,7 +16,7 @@ use Rattle.words.specs.Words.{Bytes, bytesOf, store}
 use Rattle.words.proofs.Bytes.{length-bytes, bytes-bytesOf}
 use Rattle.meters.specs.Meters.{movesCredit, firstMeter, ownMeter, eventNeeds, rolled}
 use Rattle.meters.proofs.MeterLaws.{of-credit, own-range}
-use Rattle.state.specs.declared.State.{State}
+use Rattle.state.specs.State.{State}
 use Rattle.state.specs.declared.Op.{Op}
 use Rattle.state.specs.declared.Op.the-variants.{Write, Commit, Event}
 use Rattle.operations.specs.Operations.{isIdle, needs}

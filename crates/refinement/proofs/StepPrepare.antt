@@ -10,7 +10,7 @@ use borrow.Author.Tests.{ltb-true, ltb-false}
 use Rattle.bounded.proofs.Tests.{caseOn, row-keeps}
 use Rattle.layout.specs.Layout.{headWord}
 use Rattle.words.specs.Words.{word, store}
-use Rattle.state.specs.declared.State.{State}
+use Rattle.state.specs.State.{State}
 use Rattle.state.specs.declared.Op.{Op}
 use Rattle.state.specs.declared.Op.the-variants.{Prepare, Confirm}
 use Rattle.operations.specs.Operations.{needs}

@@ -19,7 +19,7 @@ use Rattle.words.proofs.Runs.{words-tab}
 use Rattle.journal.specs.declared.Slot.{Slot}
 use Rattle.replay.specs.Table.{slotIn, pagesApart}
 use Rattle.masks.specs.Lines.{inMask}
-use Rattle.state.specs.declared.State.{State}
+use Rattle.state.specs.State.{State}
 use Rattle.state.specs.declared.Op.{Op}
 use Rattle.state.specs.declared.Op.the-variants.{Write}
 use Rattle.state.specs.Held.{heldAt}

@@ -13,7 +13,7 @@ use Rattle.layout.specs.Layout.{imageLength, frameWord}
 use Rattle.words.specs.Words.{word}
 use Rattle.words.proofs.WordLaws.{word-store, word-store-other}
 use Rattle.mount.proofs.Dead.{Dead}
-use Rattle.state.specs.declared.State.{State}
+use Rattle.state.specs.State.{State}
 use Rattle.state.specs.declared.Op.{Op}
 use Rattle.state.specs.declared.Op.the-variants.{Idle, Write, Commit, Consolidate, Checkpoint, Event, Prepare, Confirm, Log, Copy}
 use Rattle.operations.specs.Operations.{needs, isIdle}

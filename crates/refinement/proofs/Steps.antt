@@ -11,7 +11,7 @@ use borrow.Author.Tests.{eqb-true, eqb-false, eq-eqb, ne-eqb}
 use Rattle.bounded.specs.Below.{upTo}
 use Rattle.bounded.proofs.Tests.{caseOn, contradicts}
 use Rattle.replay.proofs.Tables.{Sixteen}
-use Rattle.state.specs.declared.State.{State}
+use Rattle.state.specs.State.{State}
 use Rattle.state.specs.declared.Op.{Op}
 use Rattle.state.specs.declared.Op.the-variants.{Idle, Write, Commit, Consolidate, Checkpoint, Event, Prepare, Confirm, Log, Copy}
 use Rattle.operations.specs.Operations.{isIdle, needs}

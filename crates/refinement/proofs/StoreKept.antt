@@ -22,7 +22,7 @@ use Rattle.replay.specs.Table.{slotIn, slotOf}
 use Rattle.mount.proofs.View.{Read, page, slot-none}
 use Rattle.mount.proofs.Verdict.{Taken}
 use Rattle.mount.proofs.Dead.{Dead, dead-view, store-old}
-use Rattle.state.specs.declared.State.{State}
+use Rattle.state.specs.State.{State}
 use Rattle.operations.specs.Operations.{slotFor}
 use Rattle.refinement.specs.Frames.{otherFrame}
 use Rattle.refinement.specs.Recall.{frameOf}

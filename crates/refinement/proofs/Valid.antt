@@ -2,7 +2,7 @@
 use mathlib.Core.Bool.{true}
 use mathlib.Core.Path.{_≡_}
 use Rattle.layout.specs.Layout.{Legal}
-use Rattle.state.specs.declared.State.{State}
+use Rattle.state.specs.State.{State}
 use Rattle.validity.specs.Validity.{stateOk}
 use Rattle.validity.proofs.Ranged.{SlotsGood, slots-good}
 use Rattle.refinement.proofs.StateValid.{parts, valid}

@@ -20,7 +20,7 @@ use Rattle.replay.specs.Table.{slotIn}
 use Rattle.journal.proofs.SlotWords.{or-cases}
 use Rattle.masks.specs.Lines.{disjoint}
 use Rattle.masks.proofs.Disjoint.{disjoint-sym, none-disjoint}
-use Rattle.state.specs.declared.Wide.{Wide}
+use Rattle.state.specs.State.{Wide}
 use Rattle.state.specs.Slots.{freeAt}
 use Rattle.state.specs.Held.{isOpen, heldAt, heldSlots, someHold, holderOk, heldOk}
 use Rattle.state.specs.Wide.{someWide, aloneOpen, noneHeld, wideOk}

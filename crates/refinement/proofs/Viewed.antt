@@ -17,8 +17,7 @@ use Rattle.entries.specs.Entries.{keyOf, entryOf}
 use Rattle.replay.specs.declared.Table.{Table}
 use Rattle.mount.proofs.Verdict.{Taken}
 use Rattle.mount.proofs.View.{View, Shows}
-use Rattle.state.specs.declared.State.{State}
-use Rattle.state.specs.declared.Wide.{Wide}
+use Rattle.state.specs.State.{State, Wide}
 use Rattle.validity.specs.Validity.{stateOk}
 use Rattle.refinement.specs.Recall.{frameOf}
 use Rattle.refinement.specs.Wide.{entryBytes, isCopy, shownLine}

@@ -15,8 +15,7 @@ use Rattle.layout.specs.declared.Sizes.{Sizes}
 use Rattle.entries.specs.Entries.{noKeys, keyOf, keyPage, entryOf}
 use Rattle.entries.proofs.EntryLaws.{Right, page-of-key, entry-le, entry-found, none-right, right-more}
 use Rattle.replay.specs.Table.{slotIn}
-use Rattle.state.specs.declared.State.{State}
-use Rattle.state.specs.declared.Wide.{Wide}
+use Rattle.state.specs.State.{State, Wide}
 use Rattle.state.specs.declared.Op.the-variants.{Log, Copy}
 use Rattle.state.specs.Wide.{entryFor, hasEntry, withEntry}
 use Rattle.operations.specs.Operations.{opRows}

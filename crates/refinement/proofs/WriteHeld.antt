@@ -18,7 +18,7 @@ use Rattle.replay.specs.Table.{pagesApart, slotIn}
 use Rattle.replay.proofs.Tables.{Sixteen, slot-other}
 use Rattle.masks.specs.Lines.{inMask, withLine}
 use Rattle.masks.proofs.Members.{in-none, in-with-same, in-with-other, with-lt}
-use Rattle.state.specs.declared.State.{State}
+use Rattle.state.specs.State.{State}
 use Rattle.state.specs.declared.Op.the-variants.{Write}
 use Rattle.state.specs.Held.{heldAt}
 use Rattle.operations.specs.Operations.{slotFor}

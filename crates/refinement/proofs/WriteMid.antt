@@ -23,7 +23,7 @@ use Rattle.journal.specs.declared.Slot.{Slot}
 use Rattle.replay.specs.Table.{slotIn}
 use Rattle.mount.proofs.Dead.{Dead, dead-line}
 use Rattle.masks.specs.Lines.{inMask}
-use Rattle.state.specs.declared.State.{State}
+use Rattle.state.specs.State.{State}
 use Rattle.state.specs.declared.Op.the-variants.{Write}
 use Rattle.state.specs.Held.{heldAt, othersHold}
 use Rattle.operations.specs.Operations.{slotFor, slotted, needs}

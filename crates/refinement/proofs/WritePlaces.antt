@@ -14,7 +14,7 @@ use Rattle.layout.specs.declared.Sizes.{Sizes}
 use Rattle.layout.specs.Layout.{Legal, frames}
 use Rattle.replay.specs.declared.Table.{Table}
 use Rattle.replay.specs.Table.{slotIn, slotsShaped}
-use Rattle.state.specs.declared.State.{State}
+use Rattle.state.specs.State.{State}
 use Rattle.state.specs.Slots.{freeAfter}
 use Rattle.refinement.proofs.SeenFrames.{slot-shaped, other-low}
 use Rattle.refinement.specs.Write.{writeSlot, slotToWrite, frameToWrite}

@@ -20,7 +20,7 @@ use Rattle.journal.proofs.SlotWords.{Owning, shape, free-is}
 use Rattle.replay.proofs.Tables.{Sixteen, sixteen-slot, slot-same, slot-other}
 use Rattle.mount.proofs.View.{slot-none}
 use Rattle.masks.proofs.Members.{in-none}
-use Rattle.state.specs.declared.State.{State}
+use Rattle.state.specs.State.{State}
 use Rattle.state.specs.Slots.{freeAt, roundSlot, freeAfter}
 use Rattle.operations.specs.Operations.{slotFor, slotted, noneFree}
 use Rattle.validity.specs.Validity.{stateOk}

@@ -22,7 +22,7 @@ use Rattle.replay.proofs.Tables.{Sixteen, slot-same, slot-other}
 use Rattle.mount.proofs.View.{slot-none}
 use Rattle.masks.specs.Lines.{inMask, withLine}
 use Rattle.masks.proofs.Members.{in-none}
-use Rattle.state.specs.declared.State.{State}
+use Rattle.state.specs.State.{State}
 use Rattle.state.specs.declared.Op.the-variants.{Write}
 use Rattle.state.specs.Slots.{freeAt, roundSlot, freeAfter, frameOfSlot}
 use Rattle.state.specs.Held.{heldAt, othersHold}

@@ -12,7 +12,7 @@ use Rattle.bounded.specs.Rows.{Row, refusal, Numbered, Past}
 use Rattle.bounded.proofs.Rows.{none-apply}
 use Rattle.bounded.proofs.Tests.{caseOn}
 use Rattle.image.specs.Lines.{lineBytes, merged, mergeChanges, lineWords}
-use Rattle.state.specs.declared.State.{State}
+use Rattle.state.specs.State.{State}
 use Rattle.state.specs.declared.Op.{Op}
 use Rattle.state.specs.declared.Op.the-variants.{Write, Commit, Log, Copy}
 use Rattle.state.specs.Wide.{isWide, someWide}

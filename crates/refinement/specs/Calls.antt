@@ -11,13 +11,13 @@ use Rattle.image.specs.Lines.{lineBytes, merged, mergeChanges, lineWords}
 use Rattle.words.specs.Words.{over, bytesOf, word, wordAt}
 use Rattle.meters.specs.Meters.{moduliOk, modulusOf, eventKnown, movesCredit, firstMeter, ownMeter, eventNeeds, rolled, firstNumber, amountBad}
 use Rattle.moduli_text.specs.Text.{textRow, moduliIn}
-use Rattle.state.specs.declared.State.{State}
-use Rattle.state.specs.declared.Writers.{Writers}
+use Rattle.state.specs.State.{State, Writers}
 use Rattle.state.specs.declared.Op.{Op}
 use Rattle.state.specs.declared.Op.the-variants.{Idle, Write, Commit, Consolidate, Checkpoint, Event, Prepare, Confirm, Log, Copy}
 use Rattle.state.specs.Held.{isOpen, noWriter, somePrepared}
 use Rattle.state.specs.Wide.{someWide, isWide, begunWide, dropped, entryFor, hasEntry, someOpen}
-use Rattle.operations.specs.Operations.{isIdle, slotFor, frameBad, journalFull, writeRows, logRows, commitRows, prepareRows, confirmRows, consolidateRows, needs, eventNextRows}
+use Rattle.operations.specs.Operations.{isIdle, slotFor, frameBad, journalFull, writeRows, logRows, commitRows, prepareRows, confirmRows, consolidateRows}
+use Rattle.operations.specs.Operations.{needs, eventNextRows}
 use Rattle.validity.specs.Validity.{stateOk}
 use Rattle.refinement.specs.Wide.{entryBytes}
 use Rattle.refinement.specs.Settled.{withPrepared, withLines}
@@ -58,7 +58,11 @@ beginRows st w = rowState st ∷ rowPending st ∷ (ltb 3 w, 11) ∷ (someWide (
 
 unfoldable pub beginOf : State → ℕ → Outcome
 beginOf st w =
-    answered (refusal (beginRows st w)) st 0 (withWriters st (record { opened = set (st .writers .opened) w true; held = st .writers .held; prepared = st .writers .prepared }))
+    answered (refusal (beginRows st w)) st 0 (withWriters st (record {
+      opened = set (st .writers .opened) w true;
+      held = st .writers .held;
+      prepared = st .writers .prepared;
+    }))
 
 -- a wide transaction (document 02, L14). 28: there are no entries; 29: a writer is open
 abbrev pub beginWideRows : State → ℕ → List Row

@@ -12,7 +12,7 @@ use Rattle.layout.specs.Layout.{tailWord, slotWord, recordWord}
 use Rattle.words.specs.Words.{word, store}
 use Rattle.replay.specs.declared.Table.{Table}
 use Rattle.replay.specs.Table.{noPosition}
-use Rattle.state.specs.declared.State.{State}
+use Rattle.state.specs.State.{State}
 use Rattle.operations.specs.Operations.{recordedSlots}
 
 -- store i, by the sizes, head and last positions, which is what these stores read of a state: slot words, then tail

@@ -15,8 +15,7 @@ use Rattle.journal.specs.Records.{position, wordOfRecord}
 use Rattle.words.specs.Words.{store}
 use Rattle.replay.specs.Table.{slotIn, replay}
 use Rattle.masks.specs.Lines.{exclusiveOr}
-use Rattle.state.specs.declared.State.{State}
-use Rattle.state.specs.declared.Writers.{Writers}
+use Rattle.state.specs.State.{State, Writers}
 use Rattle.state.specs.Held.{noWriter, heldAt, heldSlots}
 use Rattle.refinement.specs.Settled.{settled, withPrepared}
 
@@ -40,7 +39,8 @@ commitAtOf z head held w i =
 
 unfoldable pub commitValueOf : Sizes → ℕ → Table → List ℕ → ℕ → ℕ → ℕ
 commitValueOf z head t held w i =
-    cond (ltb i (4 * length (heldSlots z held w))) (wordOfRecord (commitRecordOf z head t held w (i / 4)) (i % 4)) (position z head (length (heldSlots z held w)))
+    cond (ltb i (4 * length (heldSlots z held w))) (wordOfRecord (commitRecordOf z head t held w (i / 4)) (i % 4))
+    (position z head (length (heldSlots z held w)))
 
 -- n stores from store `from` on
 abbrev pub commitStores : Sizes → ℕ → Table → List ℕ → ℕ → ℕ → ℕ → List ℕ → List ℕ

@@ -18,7 +18,7 @@ use Rattle.journal.specs.Slots.{freeSlot}
 use Rattle.journal.specs.Records.{position, wordOfRecord}
 use Rattle.replay.specs.Table.{slotsShaped, slotOf, replay}
 use Rattle.masks.specs.Lines.{countLines, linesIn, linesNotIn}
-use Rattle.state.specs.declared.State.{State}
+use Rattle.state.specs.State.{State}
 use Rattle.operations.specs.Operations.{copyCount}
 use Rattle.refinement.specs.Frames.{pageSlotIn, pageSlot}
 

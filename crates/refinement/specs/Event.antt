@@ -6,7 +6,7 @@ use mathlib.Core.Bool.{_&&_, cond}
 use mathlib.Core.List.{List}
 use lib.Dec.{ltb}
 use Rattle.meters.specs.Meters.{movesCredit, firstMeter, ownMeter}
-use Rattle.state.specs.declared.State.{State}
+use Rattle.state.specs.State.{State}
 use Rattle.state.specs.declared.Op.the-variants.{Write}
 use Rattle.refinement.specs.Settled.{withOpen, withPending}
 use Rattle.refinement.specs.Write.{writeAt, writeValue, writeDone}

@@ -7,7 +7,7 @@ use lib.Dec.{ltb, leb}
 use lib.ListN.{length, replicate}
 use Rattle.bounded.specs.Rows.{Row, refusal}
 use Rattle.meters.specs.Meters.{fixedModulus, fixedModuli, eventKnown, movesCredit, firstMeter, ownMeter, eventNeeds, adds, creditAfter}
-use Rattle.state.specs.declared.State.{State}
+use Rattle.state.specs.State.{State}
 use Rattle.state.specs.declared.Op.the-variants.{Event}
 use Rattle.state.specs.Wide.{someWide}
 use Rattle.operations.specs.Operations.{journalFull, eventNextRows}

@@ -6,7 +6,7 @@ use mathlib.Core.Path.{_≡_}
 use lib.ListN.{getD}
 use Rattle.bounded.specs.Below.{leastBelow}
 use Rattle.layout.specs.declared.Sizes.{Sizes}
-use Rattle.state.specs.declared.State.{State}
+use Rattle.state.specs.State.{State}
 use Rattle.state.specs.Slots.{freeAt}
 use Rattle.state.specs.Held.{heldAt, someHold}
 use Rattle.operations.specs.Operations.{copyCount}

@@ -11,8 +11,7 @@ use Rattle.mount.specs.declared.Mounted.{Mounted}
 use Rattle.fresh.specs.Fresh.{freshTable, formatRow}
 use Rattle.mount.specs.Mount.{noSizes, mountOf}
 use Rattle.replay.specs.Table.{emptyTable}
-use Rattle.state.specs.declared.State.{State}
-use Rattle.state.specs.declared.Writers.{Writers}
+use Rattle.state.specs.State.{State, Writers}
 use Rattle.state.specs.declared.Pending.{Pending}
 use Rattle.state.specs.declared.Op.the-variants.{Copy}
 use Rattle.state.specs.Held.{noWriter}

@@ -2,7 +2,7 @@
 use Prim.Native.Nat.{ℕ}
 use mathlib.Core.Bool.{Bool, cond}
 use lib.Dec.{eqb}
-use Rattle.state.specs.declared.State.{State}
+use Rattle.state.specs.State.{State}
 
 pub record Outcome : Type 0 where
   pub number : ℕ

@@ -7,7 +7,8 @@ use mathlib.Core.List.{List}
 use lib.Dec.{ltb, leb, eqb}
 use lib.ListN.{getD}
 use Rattle.bounded.specs.Tab.{tab}
-use Rattle.refinement.specs.Run.{Call, mount, checkpoint, free, step, begin, beginWide, abort, commit, prepare, confirm, withdraw, consolidate, run, write, read, recall, event, load}
+use Rattle.refinement.specs.Run.{Call, mount, checkpoint, free, step, begin, beginWide, abort, commit, prepare, confirm, withdraw, consolidate, run}
+use Rattle.refinement.specs.Run.{write, read, recall, event, load}
 use Rattle.words.specs.Words.{bytesOf, wordAt}
 use Rattle.state.specs.Held.{noWriter}
 use Rattle.meters.specs.Meters.{movesCredit, firstMeter, ownMeter, rolled, firstNumber}
@@ -87,7 +88,12 @@ meterOn b m = wordAt (recallLine b 0 m) 0
 -- the pages with number v there
 abbrev pub withMeter : ℕ → ℕ → Reference → Reference
 withMeter m v b =
-    record { pages = λ p l i. cond (eqb p 0 && eqb l m && ltb i 8) (getD (bytesOf 8 v) i 0) (b .pages p l i); writes = b .writes; work = b .work; wide = b .wide }
+    record {
+      pages = λ p l i. cond (eqb p 0 && eqb l m && ltb i 8) (getD (bytesOf 8 v) i 0) (b .pages p l i);
+      writes = b .writes;
+      work = b .work;
+      wide = b .wide;
+    }
 
 -- an event moves its meters on the pages
 abbrev pub firstMoved : List ℕ → ℕ → ℕ → ℕ → Reference → Reference

@@ -7,7 +7,8 @@ use Rattle.layout.specs.declared.Sizes.{Sizes}
 use Rattle.layout.specs.Layout.{imageLength}
 use Rattle.fresh.specs.Fresh.{formatBytes}
 use Rattle.refinement.specs.Stores.{World}
-use Rattle.refinement.specs.Run.{Call, Result, mount, checkpoint, free, step, begin, beginWide, abort, commit, prepare, confirm, withdraw, consolidate, run, write, read, recall, event, load, exec}
+use Rattle.refinement.specs.Run.{Call, Result, mount, checkpoint, free, step, begin, beginWide, abort, commit, prepare, confirm, withdraw}
+use Rattle.refinement.specs.Run.{consolidate, run, write, read, recall, event, load, exec}
 
 -- the target that a read or a recall is lent, and of a load the moduli that a refused one gives; no other call has one
 abbrev pub targetOf : Call → List ℕ

@@ -2,7 +2,8 @@
 use Prim.Native.Nat.{ℕ, _+_, min}
 use mathlib.Core.Path.{_≡_}
 use Rattle.refinement.specs.Stores.{World, storesMade, left}
-use Rattle.refinement.specs.Run.{Call, Result, mount, checkpoint, free, step, begin, beginWide, abort, commit, prepare, confirm, withdraw, consolidate, run, write, read, recall, event, load, exec}
+use Rattle.refinement.specs.Run.{Call, Result, mount, checkpoint, free, step, begin, beginWide, abort, commit, prepare, confirm, withdraw}
+use Rattle.refinement.specs.Run.{consolidate, run, write, read, recall, event, load, exec}
 
 -- n stores lead from world v to world u: they are the next n of the operation that is pending, and n fewer are left of it
 pub record Made (n : ℕ) (v u : World) : Type 0 where

@@ -5,10 +5,11 @@ use mathlib.Core.List.{List, [], _∷_}
 use lib.Dec.{eqb}
 use Rattle.layout.specs.declared.Sizes.{Sizes}
 use Rattle.fresh.specs.Fresh.{formatBytes}
-use Rattle.state.specs.declared.State.{State}
+use Rattle.state.specs.State.{State}
 use Rattle.refinement.specs.Stores.{World}
 use Rattle.refinement.specs.Outcome.{Outcome}
-use Rattle.refinement.specs.Calls.{beginOf, beginWideOf, abortOf, writeOf, commitOf, prepareOf, confirmOf, withdrawOf, consolidateOf, freeOf, checkpointOf, readRow, readBytes, stepOf, stepBytes, runOf, runBytes, eventOf, loadOf}
+use Rattle.refinement.specs.Calls.{beginOf, beginWideOf, abortOf, writeOf, commitOf, prepareOf, confirmOf, withdrawOf, consolidateOf, freeOf}
+use Rattle.refinement.specs.Calls.{checkpointOf, readRow, readBytes, stepOf, stepBytes, runOf, runBytes, eventOf, loadOf}
 use Rattle.refinement.specs.Mount.{mountCall, formatCall}
 use Rattle.refinement.specs.Recall.{recallRow, recallBytes}
 

@@ -4,10 +4,8 @@ use mathlib.Core.Bool.{true}
 use mathlib.Core.List.{List}
 use lib.ListN.{set, replicate}
 use Rattle.replay.specs.declared.Table.{Table}
-use Rattle.state.specs.declared.State.{State}
-use Rattle.state.specs.declared.Writers.{Writers}
+use Rattle.state.specs.State.{State, Writers, Wide}
 use Rattle.state.specs.declared.Pending.{Pending}
-use Rattle.state.specs.declared.Wide.{Wide}
 use Rattle.state.specs.declared.Op.{Op}
 use Rattle.state.specs.declared.Op.the-variants.{Idle}
 
@@ -37,12 +35,25 @@ withPrepared ws w = record { opened = ws .opened; held = ws .held; prepared = w 
 -- the state with writer w open and no operation pending
 abbrev pub withOpen : State → ℕ → State
 withOpen st w =
-    settled st (st .head) (st .tail) (st .next) (st .table) (record { opened = set (st .writers .opened) w true; held = st .writers .held; prepared = st .writers .prepared })
+    settled st (st .head) (st .tail) (st .next) (st .table) (record {
+      opened = set (st .writers .opened) w true;
+      held = st .writers .held;
+      prepared = st .writers .prepared;
+    })
 
 -- the state with an operation pending, none of its stores made; with two finished lines, and with one
 abbrev pub withLines : State → Op → List ℕ → List ℕ → ℕ → State
 withLines st op line second frame =
-    record { sizes = st .sizes; head = st .head; tail = st .tail; next = st .next; table = st .table; writers = st .writers; wide = st .wide; pending = record { op = op; made = 0; line = line; second = second; frame = frame } }
+    record {
+      sizes = st .sizes;
+      head = st .head;
+      tail = st .tail;
+      next = st .next;
+      table = st .table;
+      writers = st .writers;
+      wide = st .wide;
+      pending = record { op = op; made = 0; line = line; second = second; frame = frame };
+    }
 
 abbrev pub withPending : State → Op → List ℕ → ℕ → State
 withPending st op line frame = withLines st op line (replicate 8 0) frame

@@ -11,7 +11,8 @@ use Rattle.layout.specs.Layout.{sizesOk, imageLength}
 use Rattle.words.specs.Words.{Bytes, over}
 use Rattle.meters.specs.Meters.{modulusOf}
 use Rattle.refinement.specs.Stores.{World}
-use Rattle.refinement.specs.Run.{Call, Result, mount, checkpoint, free, step, begin, beginWide, abort, commit, prepare, confirm, withdraw, consolidate, run, write, read, recall, exec, formattedWorld, event, load}
+use Rattle.refinement.specs.Run.{Call, Result, mount, checkpoint, free, step, begin, beginWide, abort, commit, prepare, confirm, withdraw}
+use Rattle.refinement.specs.Run.{consolidate, run, write, read, recall, exec, formattedWorld, event, load}
 use Rattle.refinement.specs.Reference.{Reference, blank, turn, readLine, recallLine, meterOn}
 
 -- what one call must answer, b being the reference machine before it:

@@ -7,7 +7,7 @@ use Rattle.bounded.specs.Below.{upTo}
 use Rattle.words.specs.Words.{store}
 use Rattle.layout.specs.Layout.{headWord}
 use Rattle.journal.specs.Records.{position}
-use Rattle.state.specs.declared.State.{State}
+use Rattle.state.specs.State.{State}
 use Rattle.state.specs.declared.Op.{Op}
 use Rattle.state.specs.declared.Op.the-variants.{Idle, Write, Commit, Consolidate, Checkpoint, Event, Prepare, Confirm, Log, Copy}
 use Rattle.operations.specs.Operations.{needs}
@@ -68,7 +68,22 @@ completed st Copy = copyDone st
 -- the state with m stores made
 abbrev pub withMade : State → ℕ → State
 withMade st m =
-    record { sizes = st .sizes; head = st .head; tail = st .tail; next = st .next; table = st .table; writers = st .writers; wide = st .wide; pending = record { op = st .pending .op; made = m; line = st .pending .line; second = st .pending .second; frame = st .pending .frame } }
+    record {
+      sizes = st .sizes;
+      head = st .head;
+      tail = st .tail;
+      next = st .next;
+      table = st .table;
+      writers = st .writers;
+      wide = st .wide;
+      pending = record {
+        op = st .pending .op;
+        made = m;
+        line = st .pending .line;
+        second = st .pending .second;
+        frame = st .pending .frame;
+      };
+    }
 
 -- the state after the next n stores of the pending operation: with the last of them it is complete
 abbrev pub stateAfter : State → ℕ → State

@@ -12,7 +12,8 @@ use Rattle.layout.specs.declared.Sizes.{Sizes}
 use Rattle.layout.specs.Layout.{sizesOk, imageLength}
 use Rattle.meters.specs.Meters.{modulusOf, fixedModulus, fixedModuli, ownMeter}
 use Rattle.refinement.specs.Stores.{World}
-use Rattle.refinement.specs.Run.{Call, Result, mount, checkpoint, free, step, begin, beginWide, abort, commit, prepare, confirm, withdraw, consolidate, run, write, read, recall, event, load, exec, formattedWorld, after}
+use Rattle.refinement.specs.Run.{Call, Result, mount, checkpoint, free, step, begin, beginWide, abort, commit, prepare, confirm, withdraw}
+use Rattle.refinement.specs.Run.{consolidate, run, write, read, recall, event, load, exec, formattedWorld, after}
 use Rattle.refinement.specs.Reference.{Reference, Work, idle, under, copying, writing, committing, moving, nothing, blank, turn}
 use Rattle.refinement.specs.Statement.{AllLent}
 use Rattle.refinement.specs.Beside.{lineOf}

@@ -11,8 +11,7 @@ use Rattle.words.specs.Words.{part, word}
 use Rattle.image.specs.Lines.{lineBytes}
 use Rattle.entries.specs.Entries.{keyOf, keyPage, keyLine, entryOf}
 use Rattle.replay.specs.declared.Table.{Table}
-use Rattle.state.specs.declared.State.{State}
-use Rattle.state.specs.declared.Wide.{Wide}
+use Rattle.state.specs.State.{State, Wide}
 use Rattle.state.specs.declared.Op.{Op}
 use Rattle.state.specs.declared.Op.the-variants.{Idle, Write, Commit, Consolidate, Checkpoint, Event, Prepare, Confirm, Log, Copy}
 use Rattle.state.specs.Wide.{noWide, entryFor, withEntry}

@@ -9,7 +9,8 @@ use lib.ListN.{take, replicate}
 use Rattle.layout.specs.declared.Sizes.{Sizes}
 use Rattle.meters.specs.Meters.{fixedModuli}
 use Rattle.refinement.specs.Stores.{World}
-use Rattle.refinement.specs.Run.{Call, mount, checkpoint, free, step, begin, beginWide, abort, commit, prepare, confirm, withdraw, consolidate, run, write, read, recall, event, load, exec, formattedWorld, after}
+use Rattle.refinement.specs.Run.{Call, mount, checkpoint, free, step, begin, beginWide, abort, commit, prepare, confirm, withdraw, consolidate, run}
+use Rattle.refinement.specs.Run.{write, read, recall, event, load, exec, formattedWorld, after}
 use Rattle.refinement.specs.Reference.{blank}
 use Rattle.refinement.specs.Statement.{AllLent}
 use Rattle.refinement.specs.Totals.{Move, AllSpare, AllLend, NoLoad, found, account, history, opened}

@@ -6,7 +6,7 @@ use native.Mathlib.Omega.{arith}
 use lib.Dec.{eqb, ltb, leb}
 use Rattle.bounded.proofs.Below.{first-le}
 use Rattle.bounded.proofs.Tests.{or-left, or-right, row-keeps}
-use Rattle.state.specs.declared.State.{State}
+use Rattle.state.specs.State.{State}
 use Rattle.meters.specs.Meters.{firstMeter, ownMeter}
 use Rattle.wording.specs.Calls.{event, canReturn, takesWriter, takesPage, takesLine, meetsWriter, oneOf, oneMore}
 use Rattle.reason_reading.specs.Reading.{Composable}

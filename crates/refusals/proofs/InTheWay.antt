@@ -15,7 +15,7 @@ use Rattle.layout.specs.Layout.{sizesOk, Legal}
 use Rattle.layout.proofs.LayoutLaws.{legal}
 use Rattle.meters.specs.Meters.{eventKnown, firstMeter, ownMeter}
 use Rattle.meters.proofs.MeterLaws.{first-low, own-range}
-use Rattle.state.specs.declared.State.{State}
+use Rattle.state.specs.State.{State}
 use Rattle.state.specs.Held.{othersHold, someHold}
 use Rattle.state.specs.Wide.{isWide}
 use Rattle.operations.specs.Operations.{slotFor, slotted}

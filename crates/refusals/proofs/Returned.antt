@@ -13,7 +13,7 @@ use Rattle.layout.specs.declared.Sizes.{Sizes}
 use Rattle.words.specs.Words.{word}
 use Rattle.mount.specs.Mount.{mountRows}
 use Rattle.fresh.specs.Fresh.{formatRows}
-use Rattle.state.specs.declared.State.{State}
+use Rattle.state.specs.State.{State}
 use Rattle.state.specs.Wide.{isWide}
 use Rattle.operations.specs.Operations.{writeRows, logRows}
 use Rattle.refinement.specs.Calls.{beginRows, beginWideRows, abortRows, rowState, rowShort, rowPending, writeCallRows, commitCallRows, prepareCallRows, confirmCallRows, consolidateCallRows, freeCallRows, checkpointCallRows, readRows, stepRows, eventCallRows, loadRows}

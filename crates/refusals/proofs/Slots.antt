@@ -7,7 +7,7 @@ use borrow.Author.Tests.{lt-ltb, le-ltb, le-leb, lt-leb}
 use Rattle.bounded.specs.Below.{firstBelow}
 use Rattle.layout.specs.declared.Sizes.{Sizes}
 use Rattle.layout.specs.Layout.{sizesOk}
-use Rattle.state.specs.declared.State.{State}
+use Rattle.state.specs.State.{State}
 use Rattle.state.specs.Slots.{slotOfPage}
 use Rattle.refusals.specs.Met.{holdsLine, holdsSlot, slotMet, lineHolder, pageHolder}
 

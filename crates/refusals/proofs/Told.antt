@@ -11,7 +11,7 @@ use Rattle.bounded.specs.Rows.{refusal}
 use Rattle.bounded.proofs.Tests.{caseOn, contradicts}
 use Rattle.words.specs.Words.{word, over}
 use Rattle.mount.specs.Mount.{mountRows, mountRead, mountOf}
-use Rattle.state.specs.declared.State.{State}
+use Rattle.state.specs.State.{State}
 use Rattle.refinement.specs.Stores.{World}
 use Rattle.refinement.specs.Mount.{mountCall, formatCall}
 use Rattle.refinement.specs.Recall.{recallRow}

@@ -8,7 +8,7 @@ use Rattle.bounded.specs.Below.{firstBelow}
 use Rattle.layout.specs.declared.Sizes.{Sizes}
 use Rattle.layout.specs.Layout.{sizesOk}
 use Rattle.masks.specs.Lines.{inMask}
-use Rattle.state.specs.declared.State.{State}
+use Rattle.state.specs.State.{State}
 use Rattle.state.specs.Slots.{slotOfPage}
 use Rattle.state.specs.Held.{heldAt}
 use Rattle.meters.specs.Meters.{firstMeter, ownMeter}

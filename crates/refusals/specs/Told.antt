@@ -7,11 +7,12 @@ use mathlib.Core.Path.{_≡_}
 use lib.ListN.{length, take}
 use Rattle.layout.specs.declared.Sizes.{Sizes}
 use Rattle.meters.specs.Meters.{firstMeter, ownMeter}
-use Rattle.state.specs.declared.State.{State}
+use Rattle.state.specs.State.{State}
 use Rattle.operations.specs.Operations.{slotFor}
 use Rattle.refinement.specs.Stores.{World}
 use Rattle.refinement.specs.Mount.{formatCall}
-use Rattle.refinement.specs.Run.{Call, mount, checkpoint, free, step, begin, beginWide, abort, commit, prepare, confirm, withdraw, consolidate, run, write, read, recall, event, load, exec}
+use Rattle.refinement.specs.Run.{Call, mount, checkpoint, free, step, begin, beginWide, abort, commit, prepare, confirm, withdraw, consolidate, run, write}
+use Rattle.refinement.specs.Run.{read, recall, event, load, exec}
 use Rattle.wording.specs.Calls as named
 use Rattle.reasons.specs.declared.Reason.{Reason}
 use Rattle.reasons.specs.Sentence.{composed, composedIn}

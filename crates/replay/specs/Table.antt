@@ -26,7 +26,13 @@ slotIn t s = record { page = getD (t .page) s 0; original = getD (t .original) s
 
 abbrev pub withSlot : Table → ℕ → Slot → Table
 withSlot t s v =
-    record { page = set (t .page) s (v .page); original = set (t .original) s (v .original); spare = set (t .spare) s (v .spare); bitmap = set (t .bitmap) s (v .bitmap); last = t .last }
+    record {
+      page = set (t .page) s (v .page);
+      original = set (t .original) s (v .original);
+      spare = set (t .spare) s (v .spare);
+      bitmap = set (t .bitmap) s (v .bitmap);
+      last = t .last;
+    }
 
 -- the position of slot s's last live record, and a table with it replaced
 abbrev pub lastIn : Table → ℕ → ℕ

@@ -101,7 +101,8 @@ fn table_from(image: &[u8], z: Sizes) -> Table
 
 // The slot table with the n live records, which are right, laid over it in order.
 pub fn replayed(image: &[u8], z: Sizes, tail: usize, n: usize) -> Table
-    requires { ⌜ Legal z × (imageLength z ≤ length (now image)) × (tail < 2 * z .places) × (n ≤ z .places) × (recordsOk z tail n (liveRecord (word (now image)) z tail) ≡ true) ⌝ }
+    requires { ⌜ Legal z × (imageLength z ≤ length (now image)) × (tail < 2 * z .places) × (n ≤ z .places)
+        × (recordsOk z tail n (liveRecord (word (now image)) z tail) ≡ true) ⌝ }
     ensures { λ r. ⌜ r ≡ replay z tail n (liveRecord (word (now (image .entry))) z tail) (tableFrom (word (now (image .entry))) z) ⌝ }
 {
     let mut t = table_from(image, z);

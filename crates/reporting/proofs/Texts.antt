@@ -9,6 +9,6 @@ use Rattle.decimals.proofs.Printing.{decimal-le}
 use Rattle.number_text.specs.Text.{field}
 use Rattle.reporting.specs.Text.{shownStart}
 
-pub start-text : (n letter : ℕ) → length (shownStart n letter) ≤ 64
-start-text n letter =
-    omega (arith, length-append (decimalOf n) (code "," ∷ letter ∷ (field 0 ++ field 0)), length-append (field 0) (field 0), decimal-le n, decimal-le 0)
+pub start-text : (n letter count : ℕ) → length (shownStart n letter count) ≤ 64
+start-text n letter count =
+    omega (arith, length-append (decimalOf n) (code "," ∷ letter ∷ (field 0 ++ field count)), length-append (field 0) (field count), decimal-le n, decimal-le 0, decimal-le count)

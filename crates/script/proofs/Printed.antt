@@ -2,7 +2,7 @@
 use Prim.Native.Nat.{ℕ, _+_, _-_, _≤_}
 use mathlib.Core.Bool.{true, false}
 use mathlib.Core.List.{List}
-use mathlib.Core.Path.{_≡_, refl, sym, _∙_}
+use mathlib.Core.Path.{_≡_, sym, _∙_}
 use lib.Dec.{leb}
 use lib.ListN.{length}
 use native.Mathlib.Omega.{arith}
@@ -11,10 +11,8 @@ use Rattle.bounded.proofs.Tests.{caseOn}
 use Rattle.words.specs.Words.{over}
 use Rattle.text.specs.declared.Line.{Line}
 use Rattle.text.specs.Fields.{parsed}
-use Rattle.executing.specs.declared.Machine.{Machine}
-use Rattle.script.specs.declared.Performed.{Performed}
-use Rattle.executing.specs.declared.Turned.{Turned}
 use Rattle.printing.specs.Output.{outputLine}
+use Rattle.executing.specs.Called.{Machine, Turn}
 use Rattle.script.specs.Performed.{room, performed}
 use Rattle.script.specs.Turns.{turnOf}
 
@@ -26,18 +24,13 @@ room-left size at h =
     (λ t. t ∙ sym (lt-leb (at + room) size (omega (arith, leb-false at (size - 67) t))))
 
 module _ (m : Machine) (img : List ℕ) (n : ℕ) (line out : List ℕ) (at : ℕ) where
-  abbrev pub Is : Performed → List ℕ → List ℕ → Type 0
-  Is r after put =
-      let p = performed m img n line out at in
-      (r ≡ p .result) × ((after ≡ p .image) × (put ≡ p .out))
-
-  pub perform-none : leb (at + room) (length out) ≡ false → Is (record { machine = m; end = at }) img out
+  pub perform-none : leb (at + room) (length out) ≡ false → record { machine = m; end = at; image = img; out = out } ≡ performed m img n line out at
   unfolding performed
-  perform-none t = rw t (refl, (refl, refl))
+  perform-none t = rw t
 
-  pub perform-done : (l : Line) (t : Turned) (after put : List ℕ) (end : ℕ) → leb (at + room) (length out) ≡ true
-      → l ≡ parsed 9 line → t ≡ turnOf m img l .turned → after ≡ turnOf m img l .image
+  pub perform-done : (l : Line) (t : Turn) (put : List ℕ) (end : ℕ) → leb (at + room) (length out) ≡ true
+      → l ≡ parsed 9 line → t ≡ turnOf m img l
       → put ≡ over out at (outputLine n (t .output)) → end ≡ at + length (outputLine n (t .output))
-      → Is (record { machine = t .machine; end = end }) after put
+      → record { machine = t .machine; end = end; image = t .image; out = put } ≡ performed m img n line out at
   unfolding performed
-  perform-done l t after put end h hl ht ha hp he = rw (h, ← hl, ← ht, ← ha, ← hp, ← he) (refl, (refl, refl))
+  perform-done l t put end h hl ht hp he = rw (h, ← hl, ← ht, ← hp, ← he)

@@ -3,7 +3,7 @@ use Prim.Native.Nat.{ℕ, suc}
 use Prim.Native.Char.{code}
 use Prim.Native.String.{String, [] as none, _∷_ as _then_}
 use mathlib.Core.List.{List, [], _∷_}
-use Rattle.executing.specs.declared.Machine.{Machine}
+use Rattle.executing.specs.Called.{Machine}
 use Rattle.printing.specs.Output.{outputLine}
 use Rattle.script.specs.Performed.{lineTurn}
 
@@ -17,7 +17,7 @@ unfoldable pub printed : ℕ → Machine → List ℕ → List (List ℕ) → Li
 printed n m img [] = []
 printed n m img (line ∷ lines) =
     let t = lineTurn m img line in
-    outputLine n (t .turned .output) ∷ printed (suc n) (t .turned .machine) (t .image) lines
+    outputLine n (t .output) ∷ printed (suc n) (t .machine) (t .image) lines
 
 abbrev pub input : List (List ℕ)
 input =

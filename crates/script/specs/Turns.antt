@@ -8,7 +8,7 @@ use lib.ListN.{getD, replicate}
 use Rattle.bounded.specs.Rows.{refusal}
 use Rattle.layout.specs.declared.Sizes.{Sizes}
 use Rattle.fresh.specs.Fresh.{formatBytes}
-use Rattle.state.specs.declared.State.{State}
+use Rattle.state.specs.State.{State}
 use Rattle.refinement.specs.Calls.{worldOf}
 use Rattle.refinement.specs.Mount.{formatCall}
 use Rattle.refinement.specs.Run.{read, exec}
@@ -20,9 +20,7 @@ use Rattle.forms.specs.Forms.{first, formOf}
 use Rattle.printing.specs.declared.Output.{Output}
 use Rattle.printing.specs.declared.Output.the-variants.{Answered, Shown, Unknown}
 use Rattle.executing.specs.declared.Cut.the-variants.{After}
-use Rattle.executing.specs.declared.Machine.{Machine}
-use Rattle.executing.specs.declared.Turned.{Turned}
-use Rattle.executing.specs.Called.{Turn, turn, ready, callOf, finished}
+use Rattle.executing.specs.Called.{callOf, Machine, Turn, turn, ready, finished}
 
 abbrev pub sizesIn : List ℕ → Sizes
 sizesIn numbers = record { pages = num numbers 0; slots = num numbers 1; places = num numbers 2; entries = 0 }
@@ -44,15 +42,15 @@ abbrev pub shownBy : State → List ℕ → List ℕ → Output
 shownBy st img numbers = let n = num numbers in shown st img (n 0) (n 1) (n 2) (n 3)
 
 -- K: it takes the place of one that waits
-abbrev pub cuts : Machine → ℕ → Turned
-cuts m k = record { machine = ready (m .st) (After k); output = Answered (code "K") 0 0 }
+abbrev pub cuts : Machine → List ℕ → ℕ → Turn
+cuts m img k = turn (ready (m .st) (After k)) (Answered (code "K") 0 0) img
 
 -- each form's turn
 abbrev pub turnBy : Form → Machine → List ℕ → Line → Turn
 turnBy Formats m img line = formats m img (sizesIn (line .numbers))
 turnBy (Asks a) m img line = finished (line .letter) (m .cut) (exec (callOf a (line .count) (line .numbers)) (worldOf (m .st) img))
 turnBy Reads m img line = turn m (shownBy (m .st) img (line .numbers)) img
-turnBy Cuts m img line = record { turned = cuts m (first line); image = img }
+turnBy Cuts m img line = cuts m img (first line)
 turnBy Other m img line = turn m Unknown img
 
 unfoldable pub turnOf : Machine → List ℕ → Line → Turn

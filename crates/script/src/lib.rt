@@ -2,10 +2,10 @@
 pub mod performing;
 mod turns;
 
-use executing::Machine;
+use executing::Mode;
 
-// The machine after a line, and where the next printed line goes.
+// The mode after a line, and where the next printed line goes.
 pub struct Performed {
-    pub machine: Machine,
+    pub mode: Mode,
     pub end: usize,
 }

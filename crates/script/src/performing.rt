@@ -2,45 +2,19 @@
 ghost use mathlib.Core.Path.{_≡_};
 ghost use Prim.Native.Nat.{_+_};
 ghost use lib.Dec.{leb};
-ghost use Rattle.script.specs.Performed.{room, started, performed};
+ghost use Rattle.executing.specs.Called.{machineAt};
+ghost use Rattle.script.specs.Performed.{room, started, performed, performedTo};
 use crate::Performed;
 use crate::turns;
 use executing::Cut;
-use executing::Machine;
-use layout::Sizes;
-use state::State;
-use state::Writers;
+use executing::Mode;
 
-// The machine before the first line.
-pub fn start() -> Machine
-    ensures { λ r. ⌜ r ≡ started ⌝ }
+// The machine before the first line: every word is 0.
+pub fn start(words: &mut [u64; 256]) -> Mode
+    ensures { λ r. ⌜ machineAt r (now (words .exit)) ≡ started ⌝ }
 {
-    let sizes = Sizes {
-        pages: 0,
-        slots: 0,
-        places: 0,
-        entries: 0,
-    };
-    let writers = Writers {
-        opened: [false; 4],
-        held: [0; 64],
-        prepared: state::NO_WRITER,
-    };
-    let table = replay::empty_table();
-    let wide = settled::begun_wide(state::NO_WRITER);
-    let pending = settled::no_pending();
-    let st = State {
-        sizes,
-        head: 0,
-        tail: 0,
-        next: 0,
-        table,
-        writers,
-        wide,
-        pending,
-    };
-    Machine {
-        st,
+    *words = [0u64; 256];
+    Mode {
         formatted: false,
         cut: Cut::Unset,
     }
@@ -58,26 +32,23 @@ fn has_room(size: usize, at: usize) -> bool
 
 // Performs line number n, and puts the line that it prints into out from byte at on. Without room for 67 bytes it does nothing.
 pub fn perform(
-    m: Machine,
     image: &mut [u8],
+    words: &mut [u64; 256],
+    m: Mode,
     n: usize,
     line: &[u8],
     out: &mut [u8],
     at: usize,
 ) -> Performed
-    ensures machine { λ r. ⌜ r ≡ performed m (now (image .entry)) n (now (line .entry)) (now (out .entry)) at .result ⌝ }
-    ensures image { λ _. ⌜ now (image .exit) ≡ performed m (now (image .entry)) n (now (line .entry)) (now (out .entry)) at .image ⌝ }
-    ensures out { λ _. ⌜ now (out .exit) ≡ performed m (now (image .entry)) n (now (line .entry)) (now (out .entry)) at .out ⌝ }
+    ensures { λ r. ⌜ performedTo r (now (words .exit)) (now (image .exit)) (now (out .exit))
+        ≡ performed (machineAt m (now (words .entry))) (now (image .entry)) n (now (line .entry)) (now (out .entry)) at ⌝ }
 {
     if !has_room(out.len(), at) {
-        return Performed {
-            machine: m,
-            end: at,
-        };
+        return Performed { mode: m, end: at };
     }
-    let t = turns::turn(m, image, text::parse::parse(line, 9));
-    let machine = t.machine;
+    let t = turns::turn(image, words, m, text::parse::parse(line, 9));
+    let mode = t.mode;
     let output = t.output;
     let end = printing::put_output(out, at, n, output);
-    Performed { machine, end }
+    Performed { mode, end }
 }

@@ -1,15 +1,16 @@
 // A line's turn.
 ghost use mathlib.Core.Path.{_≡_};
-ghost use Rattle.script.specs.Turns.{sizesIn, formats, shown, shownBy, cuts, turnOf};
+ghost use Rattle.state_words.specs.Decoded.{decoded};
+ghost use Rattle.executing.specs.Called.{machineAt, turnAt};
+ghost use Rattle.script.specs.Turns.{sizesIn, formats, shown, shownBy, turnOf};
 use executing::Cut;
-use executing::Machine;
+use executing::Mode;
 use executing::Turned;
 use executing::calls;
 use executing::finishing;
 use forms::Form;
 use layout::Sizes;
 use printing::Output;
-use state::State;
 use text::Line;
 
 // The sizes that a line gives.
@@ -25,12 +26,10 @@ fn sizes_in(numbers: &[u64; 69]) -> Sizes
 }
 
 // F: a format; after a refused one the machine stays as it was.
-fn format_turn(m: Machine, image: &mut [u8], z: Sizes) -> Turned
-    ensures turned { λ r. ⌜ r ≡ formats m (now (image .entry)) z .turned ⌝ }
-    ensures bytes { λ _. ⌜ now (image .exit) ≡ formats m (now (image .entry)) z .image ⌝ }
+fn format_turn(image: &mut [u8], words: &mut [u64; 256], m: Mode, z: Sizes) -> Turned
+    ensures { λ r. ⌜ turnAt r (now (words .exit)) (now (image .exit)) ≡ formats (machineAt m (now (words .entry))) (now (image .entry)) z ⌝ }
 {
-    let d = mounting::format(image, z);
-    let answer = d.answer;
+    let answer = call_mount::format(image, words, z);
     let number = answers::number_of(answer);
     if number != 0 {
         let output = Output::Answered {
@@ -38,25 +37,25 @@ fn format_turn(m: Machine, image: &mut [u8], z: Sizes) -> Turned
             number,
             stores: 0,
         };
-        return Turned { machine: m, output };
+        return Turned { mode: m, output };
     }
     let cut = m.cut;
-    finishing::answered(d.state, cut, b'F', number, 0)
+    finishing::answered(cut, b'F', number, 0)
 }
 
 // R: the byte at an offset of a line.
 fn read_byte(
-    st: State,
     image: &[u8],
+    words: &[u64; 256],
     writer: usize,
     page: usize,
     line: usize,
     offset: usize,
 ) -> Output
-    ensures { λ r. ⌜ r ≡ shown st (now (image .entry)) writer page line offset ⌝ }
+    ensures { λ r. ⌜ r ≡ shown (decoded (now (words .entry))) (now (image .entry)) writer page line offset ⌝ }
 {
     let mut target = [0u8; 64];
-    let answer = reading::read(st, image, writer, page, line, &mut target);
+    let answer = call_read::read(image, words, writer, page, line, &mut target);
     let number = answers::number_of(answer);
     if number != 0 {
         return Output::Answered {
@@ -75,12 +74,12 @@ fn read_byte(
     Output::Shown(target[offset])
 }
 
-fn read_shown(st: State, image: &[u8], numbers: &[u64; 69]) -> Output
-    ensures { λ r. ⌜ r ≡ shownBy st (now (image .entry)) (now (numbers .entry)) ⌝ }
+fn read_shown(image: &[u8], words: &[u64; 256], numbers: &[u64; 69]) -> Output
+    ensures { λ r. ⌜ r ≡ shownBy (decoded (now (words .entry))) (now (image .entry)) (now (numbers .entry)) ⌝ }
 {
     read_byte(
-        st,
         image,
+        words,
         numbers[0] as usize,
         numbers[1] as usize,
         numbers[2] as usize,
@@ -88,35 +87,26 @@ fn read_shown(st: State, image: &[u8], numbers: &[u64; 69]) -> Output
     )
 }
 
-// K: it takes the place of one that waits.
-fn cut_turn(m: Machine, k: usize) -> Turned
-    ensures { λ r. ⌜ r ≡ cuts m k ⌝ }
-{
-    let st = m.st;
-    finishing::answered(st, Cut::After(k), b'K', 0, 0)
-}
-
-// The machine and the image after a line, and what it prints.
-pub fn turn(m: Machine, image: &mut [u8], line: Line) -> Turned
-    ensures turned { λ r. ⌜ r ≡ turnOf m (now (image .entry)) line .turned ⌝ }
-    ensures bytes { λ _. ⌜ now (image .exit) ≡ turnOf m (now (image .entry)) line .image ⌝ }
+// The machine and the image after a line, and what it prints. A K takes the place of one that waits.
+pub fn turn(image: &mut [u8], words: &mut [u64; 256], m: Mode, line: Line) -> Turned
+    ensures { λ r. ⌜ turnAt r (now (words .exit)) (now (image .exit)) ≡ turnOf (machineAt m (now (words .entry))) (now (image .entry)) line ⌝ }
 {
     let letter = line.letter;
     let count = line.count;
     match forms::form_of(m.formatted, letter, count, &line.numbers) {
-        Form::Formats => format_turn(m, image, sizes_in(&line.numbers)),
+        Form::Formats => format_turn(image, words, m, sizes_in(&line.numbers)),
         Form::Asks(a) => {
             let cut = m.cut;
-            let d = calls::ask(m.st, image, a, count, &line.numbers);
-            finishing::finish(image, cut, letter, d)
+            let answer = calls::ask(image, words, a, count, &line.numbers);
+            finishing::finish(image, words, cut, letter, answer)
         }
         Form::Reads => {
-            let output = read_shown(m.st, image, &line.numbers);
-            Turned { machine: m, output }
+            let output = read_shown(image, words, &line.numbers);
+            Turned { mode: m, output }
         }
-        Form::Cuts => cut_turn(m, line.numbers[0] as usize),
+        Form::Cuts => finishing::answered(Cut::After(line.numbers[0] as usize), b'K', 0, 0),
         Form::Other => Turned {
-            machine: m,
+            mode: m,
             output: Output::Unknown,
         },
     }

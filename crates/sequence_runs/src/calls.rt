@@ -1,37 +1,48 @@
 // The twelve calls by their numbers.
-ghost use mathlib.Core.Path.{_≡_};
 ghost use mathlib.Core.List.{[], _∷_};
-ghost use Rattle.answers.specs.Answers.{outcomeOf};
-ghost use Rattle.refinement.specs.Calls.{worldOf, writeOf};
-ghost use Rattle.refinement.specs.Run.{result, exec};
+ghost use Rattle.refinement.specs.Run.{write};
 ghost use Rattle.sequence_runs.specs.Calls.{callOf};
-use answers::Done;
-use state::State;
+ghost use Rattle.sequence_runs.specs.Turns.{CameOf};
+use answers::Answer;
+use call_write::Span;
+use op_stores::Until;
 
 // A write of one byte to the start of a line of page 0.
-fn write_first(st: State, image: &[u8], writer: usize, line: usize, byte: u8) -> Done
-    ensures { λ r. ⌜ outcomeOf r ≡ writeOf st (now (image .entry)) writer 0 line 0 1 (byte ∷ []) ⌝ }
+fn write_first(
+    image: &mut [u8],
+    words: &mut [u64; 256],
+    writer: usize,
+    line: usize,
+    byte: u8,
+) -> Answer
+    ensures { λ r. ⌜ CameOf (write writer 0 line 0 1 (byte ∷ [])) (now (words .entry)) (now (image .entry)) r (now (words .exit)) (now (image .exit)) ⌝ }
 {
     let bytes = [byte];
-    transactions::write(st, image, writer, 0, line, 0, 1, &bytes)
+    let span = Span {
+        page: 0,
+        line,
+        offset: 0,
+        length: 1,
+    };
+    call_write::write(image, words, writer, span, &bytes, Until::Asked)
 }
 
 // The call of number c, its stores not yet made.
-pub fn ask(st: State, image: &[u8], c: u64) -> Done
-    ensures { λ r. ⌜ result (outcomeOf r) (now (image .entry)) ≡ exec (callOf c) (worldOf st (now (image .entry))) ⌝ }
+pub fn ask(image: &mut [u8], words: &mut [u64; 256], c: u64) -> Answer
+    ensures { λ r. ⌜ CameOf (callOf c) (now (words .entry)) (now (image .entry)) r (now (words .exit)) (now (image .exit)) ⌝ }
 {
     match c {
-        1 => writers::begin(st, 0),
-        2 => writers::begin(st, 1),
-        3 => write_first(st, image, 0, 0, 1),
-        4 => write_first(st, image, 0, 1, 1),
-        5 => write_first(st, image, 1, 0, 2),
-        6 => write_first(st, image, 1, 1, 2),
-        7 => transactions::commit(st, image, 0),
-        8 => transactions::commit(st, image, 1),
-        9 => writers::abort(st, 0),
-        10 => writers::abort(st, 1),
-        11 => transactions::consolidate(st, image, 0),
-        _ => transactions::checkpoint(st, image),
+        1 => call_begin::begin(words, 0),
+        2 => call_begin::begin(words, 1),
+        3 => write_first(image, words, 0, 0, 1),
+        4 => write_first(image, words, 0, 1, 1),
+        5 => write_first(image, words, 1, 0, 2),
+        6 => write_first(image, words, 1, 1, 2),
+        7 => call_commit::commit(image, words, 0, Until::Asked),
+        8 => call_commit::commit(image, words, 1, Until::Asked),
+        9 => call_begin::abort(words, 0),
+        10 => call_begin::abort(words, 1),
+        11 => call_consolidate::consolidate(image, words, 0, Until::Asked),
+        _ => call_checkpoint::checkpoint(image, words, Until::Asked),
     }
 }

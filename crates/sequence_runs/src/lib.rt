@@ -39,14 +39,15 @@ pub fn play(numbers: &[u64], k: usize, answers: &mut [u64]) -> Played
     ensures answers { λ _. ⌜ now (answers .exit) ≡ ran k (now (numbers .entry)) start .answers ⌝ }
 {
     let mut image = blank();
+    let mut words = [0u64; 256];
     let sizes = Sizes {
         pages: 1,
         slots: 1,
         places: 1,
         entries: 0,
     };
-    let fresh = mounting::format(&mut image, sizes);
-    let needed = turns::perform(fresh.state, &mut image, numbers, k, answers);
+    call_mount::format(&mut image, &mut words, sizes);
+    let needed = turns::perform(&mut image, &mut words, numbers, k, answers);
     Played {
         needed,
         first: first_byte(&image, 0),

@@ -4,11 +4,9 @@ ghost use lib.ListN.{length};
 ghost use Rattle.sequence_runs.specs.Runs.{budget, ran};
 ghost use Rattle.sequence_runs.specs.Turns.{Turned, begun};
 use crate::calls;
-use state::State;
 
-// What comes of one call and its stores, the image aside.
+// The number of a call's answer, and the stores that it needs.
 struct Made {
-    state: State,
     number: usize,
     needed: usize,
 }
@@ -21,36 +19,34 @@ fn budget_of(last: bool, k: usize, needed: usize) -> usize
 }
 
 // One call, and its stores: all of them, or at most k where it is the last call.
-fn turn(st: State, image: &mut [u8], c: u64, last: bool, k: usize) -> Made
-    ensures { λ r. ⌜ Turned last k c st (now (image .entry)) r (now (image .exit)) ⌝ }
+fn turn(image: &mut [u8], words: &mut [u64; 256], c: u64, last: bool, k: usize) -> Made
+    ensures { λ r. ⌜ Turned last k c (now (words .entry)) (now (image .entry)) r (now (words .exit)) (now (image .exit)) ⌝ }
 {
-    let asked = calls::ask(st, image, c);
-    let answer = asked.answer;
+    let answer = calls::ask(image, words, c);
     let number = answers::number_of(answer);
     let needed = calling::stores_of(answer);
-    let done = stepping::run(asked.state, image, budget_of(last, k, needed));
-    let state = done.state;
-    Made {
-        state,
-        number,
-        needed,
-    }
+    call_step::run(image, words, budget_of(last, k, needed));
+    Made { number, needed }
 }
 
 // The calls of these numbers; gives the stores that the last one needs.
-pub fn perform(st: State, image: &mut [u8], numbers: &[u64], k: usize, answers: &mut [u64]) -> usize
+pub fn perform(
+    image: &mut [u8],
+    words: &mut [u64; 256],
+    numbers: &[u64],
+    k: usize,
+    answers: &mut [u64],
+) -> usize
     requires { ⌜ length (now answers) ≡ length (now numbers) ⌝ }
-    ensures needed { λ r. ⌜ r ≡ ran k (now (numbers .entry)) (begun st (now (image .entry))) .needed ⌝ }
-    ensures bytes { λ _. ⌜ now (image .exit) ≡ ran k (now (numbers .entry)) (begun st (now (image .entry))) .world .image ⌝ }
-    ensures answers { λ _. ⌜ now (answers .exit) ≡ ran k (now (numbers .entry)) (begun st (now (image .entry))) .answers ⌝ }
+    ensures needed { λ r. ⌜ r ≡ ran k (now (numbers .entry)) (begun (now (words .entry)) (now (image .entry))) .needed ⌝ }
+    ensures bytes { λ _. ⌜ now (image .exit) ≡ ran k (now (numbers .entry)) (begun (now (words .entry)) (now (image .entry))) .world .image ⌝ }
+    ensures answers { λ _. ⌜ now (answers .exit) ≡ ran k (now (numbers .entry)) (begun (now (words .entry)) (now (image .entry))) .answers ⌝ }
 {
-    let mut st = st;
     let mut needed = 0;
     let mut i = 0;
     while i < numbers.len() {
-        let t = turn(st, image, numbers[i], i + 1 == numbers.len(), k);
+        let t = turn(image, words, numbers[i], i + 1 == numbers.len(), k);
         answers[i] = t.number as u64;
-        st = t.state;
         needed = t.needed;
         i += 1;
     }

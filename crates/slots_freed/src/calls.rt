@@ -1,7 +1,8 @@
 // Calls as numbers. Their decimal digits are, from the last: four for the stores of the run that follows, two for the last line, two for the
 // first, one for the page, one for the writer, two for the call, and then the calls of the list so far.
-use answers::Done;
-use state::State;
+use answers::Answer;
+use call_write::Span;
+use op_stores::Until;
 
 // Calls, by the first digits: 1 begin, 2 abort, 3 write, 4 commit, 5 consolidate, 6 checkpoint, 7 mount, 8 free a slot, 9 the same in a buffer
 // that is a byte too short, 10 an edit of the state, 11 prepare, 12 confirm, 13 withdraw.
@@ -181,32 +182,57 @@ pub fn following(call: usize) -> usize {
         + x / 384 % 64 * 1010000
 }
 
-// Makes a call. An edit sets the next slot to try and the number of slots.
-pub fn made(st: State, image: &[u8], call: usize) -> Done {
+// The write of a byte to the start of a line.
+fn write(
+    image: &mut [u8],
+    words: &mut [u64; 256],
+    writer: usize,
+    page: usize,
+    line: usize,
+    byte: u8,
+) -> Answer {
+    let data = [byte; 1];
+    let span = Span {
+        page,
+        line,
+        offset: 0,
+        length: 1,
+    };
+    call_write::write(image, words, writer, span, &data, Until::Asked)
+}
+
+// Frees a slot in a buffer that is a byte too short.
+fn free_in_short(words: &mut [u64; 256]) -> Answer {
+    let mut short = [0u8; 41407];
+    call_consolidate::free_slot(&mut short, words, Until::Asked)
+}
+
+// An edit sets the next slot to try and the number of slots.
+fn edit(words: &mut [u64; 256], next: usize, slots: usize) -> Answer {
+    words[state_words::NEXT] = next as u64;
+    words[state_words::SIZES + 1] = slots as u64;
+    Answer::Taken(0)
+}
+
+// Makes a call, its stores not yet made.
+pub fn made(image: &mut [u8], words: &mut [u64; 256], call: usize) -> Answer {
     let writer = call / 1000000000 % 10;
     let page = call / 100000000 % 10;
     let line = call / 1000000 % 100;
+    let byte = (call / 1000000 % 251) as u8;
     match call / 10000000000 % 100 {
-        1 => writers::begin(st, writer),
-        2 => writers::abort(st, writer),
-        3 => {
-            let data = [(call / 1000000 % 251) as u8; 1];
-            transactions::write(st, image, writer, page, line, 0, 1, &data)
-        }
-        4 => transactions::commit(st, image, writer),
-        5 => transactions::consolidate(st, image, page),
-        6 => transactions::checkpoint(st, image),
-        7 => mounting::mount(image),
-        8 => freeing::free_slot(st, image),
-        9 => freeing::free_slot(st, &[0; 41407]),
-        11 => preparing::prepare(st, image, writer),
-        12 => preparing::confirm(st, image, writer),
-        13 => preparing::withdraw(st, image, writer),
-        _ => {
-            let mut edited = st;
-            edited.next = page;
-            edited.sizes.slots = line;
-            answers::taken(0, edited)
-        }
+        1 => call_begin::begin(words, writer),
+        2 => call_begin::abort(words, writer),
+        3 => write(image, words, writer, page, line, byte),
+        4 => call_commit::commit(image, words, writer, Until::Asked),
+        5 => call_consolidate::consolidate(image, words, page, Until::Asked),
+        6 => call_checkpoint::checkpoint(image, words, Until::Asked),
+        7 => call_mount::mount(image, words),
+        8 => call_consolidate::free_slot(image, words, Until::Asked),
+        9 => free_in_short(words),
+        11 => call_prepare::prepare(image, words, writer, Until::Asked),
+        12 => call_prepare::confirm(image, words, writer, Until::Asked),
+        13 => call_prepare::withdraw(image, words, writer),
+        _ => edit(words, page, line),
     }
 }

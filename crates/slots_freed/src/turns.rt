@@ -14,16 +14,14 @@ pub fn play(image: &mut [u8]) {
         places: 6,
         entries: 0,
     };
-    let mut st = mounting::format(image, z).state;
+    let mut words = [0u64; 256];
+    call_mount::format(image, &mut words, z);
     let mut sum = 0;
     let mut call = 0;
     for _turn in 0..TURNS {
         call = calls::following(call);
-        let done = calls::made(st, image, call);
-        let ran = stepping::run(done.state, image, call % 10000);
-        let answer = done.answer;
-        let after = ran.answer;
-        sum = out::shown(sum, call, answer, after, image);
-        st = ran.state;
+        let answer = calls::made(image, &mut words, call);
+        let ran = call_step::run(image, &mut words, call % 10000);
+        sum = out::shown(sum, call, answer, ran, image);
     }
 }

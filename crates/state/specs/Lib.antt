@@ -1,3 +1,4 @@
+pub mod State
 pub mod Slots
 pub mod Held
 pub mod Wide

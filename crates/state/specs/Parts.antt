@@ -3,11 +3,11 @@ use Prim.Native.Nat.{ℕ}
 use mathlib.Core.Bool.{Bool}
 use mathlib.Core.List.{List}
 use Rattle.layout.specs.declared.Sizes.{Sizes}
-use Rattle.state.specs.declared.State.{State}
+use Rattle.state.specs.State.{State, Wide}
 use Rattle.state.specs.declared.Pending.{Pending}
-use Rattle.state.specs.declared.Wide.{Wide}
 
--- sizes, head, tail and next slot; the slots' pages, originals, spares, bitmaps and last positions; the writers, with the one that is prepared; the wide transaction; what is pending
+-- sizes, head, tail and next slot; the slots' pages, originals, spares, bitmaps and last positions; the writers, with the one that is prepared; the
+-- wide transaction; what is pending
 abbrev pub stateOf : Sizes → ℕ → ℕ → ℕ → List ℕ → List ℕ → List ℕ → List ℕ → List ℕ → List Bool → List ℕ → ℕ → Wide → Pending → State
 stateOf z head tail next page original spare bitmap last opened held prepared wide pending =
     record {

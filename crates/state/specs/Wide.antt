@@ -7,7 +7,7 @@ use lib.ListN.{set}
 use Rattle.bounded.specs.Below.{allBelow, someBelow}
 use Rattle.layout.specs.declared.Sizes.{Sizes}
 use Rattle.entries.specs.Entries.{noKeys, keyOf, entryOf, entriesOk}
-use Rattle.state.specs.declared.Wide.{Wide}
+use Rattle.state.specs.State.{Wide}
 use Rattle.state.specs.Held.{isOpen, noWriter, someHold}
 
 -- of its parts; begun by writer w; and none

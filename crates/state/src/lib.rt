@@ -1,10 +1,6 @@
-// The state that the host keeps, its held lines and its slots.
-pub mod beside;
+// Operations, and the numbers of a state that go by value.
 pub mod held;
 pub mod slots;
-
-use layout::Sizes;
-use replay::Table;
 
 // An operation that has been asked for, with its arguments. `Log` and `Copy` are the wide writer's write and commit.
 pub enum Op {
@@ -46,20 +42,6 @@ pub enum Op {
 // What stands for no writer where one is prepared or wide; so does any other number above 3.
 pub const NO_WRITER: usize = 4;
 
-// Four writers: open or not, the lines that each holds of each slot, at 16 × writer + slot, and the one that is prepared, or none.
-pub struct Writers {
-    pub opened: [bool; 4],
-    pub held: [u64; 64],
-    pub prepared: usize,
-}
-
-// A wide transaction: its writer, how many entries it uses, and their keys, page × 64 + line. A writer above 3 is none.
-pub struct Wide {
-    pub writer: usize,
-    pub count: usize,
-    pub keys: [u64; 64],
-}
-
 // The pending operation, how many of its stores are made, and for a write the finished line's words and the page's
 // frame. An event has the same of page 0, and the second line's words where it has two.
 pub struct Pending {
@@ -78,15 +60,4 @@ pub struct Places {
     pub prepared: usize,
     pub wide: usize,
     pub count: usize,
-}
-
-pub struct State {
-    pub sizes: Sizes,
-    pub head: usize,
-    pub tail: usize,
-    pub next: usize,
-    pub table: Table,
-    pub writers: Writers,
-    pub wide: Wide,
-    pub pending: Pending,
 }

@@ -1,133 +1,127 @@
 // T: a number of the state becomes v, by the field's number f and the place i.
 ghost use mathlib.Core.Path.{_≡_};
-ghost use Prim.Native.Nat.{_<_};
-ghost use Rattle.state_edits.specs.Edits.{newest, withHeader, withSlotNumber, headerTurn, slotTurn, openTurn, heldTurn, fieldTurn, numberTurn};
-use layout::Sizes;
-use replay::Table;
-use state::State;
+ghost use Prim.Native.Nat.{_<_, _≤_};
+ghost use Rattle.state_words.specs.Decoded.{decoded, withTable};
+ghost use Rattle.workbench.specs.Turns.{turnAt};
+ghost use Rattle.state_edits.specs.Edits.{withHeader, withSlotNumber, headerTurn, slotTurn, openTurn, heldTurn, fieldTurn, numberTurn};
+use state_words::BITMAP;
+use state_words::LAST;
+use state_words::ORIGINAL;
+use state_words::PAGE;
+use state_words::SIZES;
+use state_words::SPARE;
 use text::Line;
-use workbench::Bench;
-use workbench::Turn;
+use workbench::Said;
 
-// v where field k is the one that is set, else what was there.
-fn newest(f: usize, k: usize, v: usize, old: usize) -> usize
-    ensures { λ r. ⌜ r ≡ newest f k v old ⌝ }
+// Fields 0 to 2: P, S, J.
+fn put_size(words: &mut [u64; 256], f: usize, v: usize)
+    requires { ⌜ f ≤ 2 ⌝ }
+    ensures { λ _. ⌜ decoded (now (words .exit)) ≡ withHeader (decoded (now (words .entry))) f v ⌝ }
 {
-    if f == k { v } else { old }
+    let _ = state_words::all_words(*words);
+    words[SIZES + f] = v as u64;
 }
 
-// Fields 0 to 5: P, S, J, head, tail, next slot.
-fn with_header(st: State, f: usize, v: usize) -> State
-    ensures { λ r. ⌜ r ≡ withHeader st f v ⌝ }
+// Fields 0 to 5: those, head, tail, next slot.
+fn put_header(words: &mut [u64; 256], f: usize, v: usize)
+    requires { ⌜ f ≤ 5 ⌝ }
+    ensures { λ _. ⌜ decoded (now (words .exit)) ≡ withHeader (decoded (now (words .entry))) f v ⌝ }
 {
-    let z = st.sizes;
-    let sizes = Sizes {
-        pages: newest(f, 0, v, z.pages),
-        slots: newest(f, 1, v, z.slots),
-        places: newest(f, 2, v, z.places),
-        entries: z.entries,
-    };
-    let mut next = st;
-    next.sizes = sizes;
-    next.head = newest(f, 3, v, st.head);
-    next.tail = newest(f, 4, v, st.tail);
-    next.next = newest(f, 5, v, st.next);
-    next
+    match f {
+        3 => state_words::put_head(words, v),
+        4 => state_words::put_tail(words, v),
+        5 => state_words::put_next(words, v),
+        _ => put_size(words, f, v),
+    }
 }
 
 // Fields 6 to 10 of slot i: page, original, spare, bitmap, last position.
-fn with_slot_number(t: Table, f: usize, i: usize, v: usize) -> Table
-    requires { ⌜ i < 16 ⌝ }
-    ensures { λ r. ⌜ r ≡ withSlotNumber t f i v ⌝ }
+fn put_slot_number(words: &mut [u64; 256], f: usize, i: usize, v: usize)
+    requires { ⌜ (5 < f) × (f ≤ 10) × (i < 16) ⌝ }
+    ensures { λ _. ⌜ decoded (now (words .exit)) ≡ withTable (decoded (now (words .entry))) (withSlotNumber (decoded (now (words .entry)) .table) f i v) ⌝ }
 {
-    let mut u = t;
-    u.page[i] = newest(f, 6, v, t.page[i]);
-    u.original[i] = newest(f, 7, v, t.original[i]);
-    u.spare[i] = newest(f, 8, v, t.spare[i]);
-    u.bitmap[i] = newest(f, 9, v, t.bitmap[i] as usize) as u64;
-    u.last[i] = newest(f, 10, v, t.last[i]);
-    u
+    match f {
+        6 => words[PAGE + i] = v as u64,
+        7 => words[ORIGINAL + i] = v as u64,
+        8 => words[SPARE + i] = v as u64,
+        9 => words[BITMAP + i] = v as u64,
+        _ => words[LAST + i] = v as u64,
+    }
 }
 
-fn set_header(bench: Bench, f: usize, i: usize, v: usize) -> Turn
-    ensures { λ r. ⌜ r ≡ headerTurn bench f i v ⌝ }
+fn set_header(words: &mut [u64; 256], f: usize, i: usize, v: usize) -> Said
+    requires { ⌜ f ≤ 5 ⌝ }
+    ensures { λ r. ⌜ turnAt r (now (words .exit)) ≡ headerTurn (decoded (now (words .entry))) f i v ⌝ }
 {
     if i == 0 {
-        let next = with_header(bench.st, f, v);
-        return workbench::edited(workbench::with_state(bench, next));
+        put_header(words, f, v);
+        return workbench::edited();
     }
-    workbench::other(bench)
+    Said::OtherForm
 }
 
 // An original and a spare have 32 bits.
-fn set_slot(bench: Bench, f: usize, i: usize, v: usize) -> Turn
-    ensures { λ r. ⌜ r ≡ slotTurn bench f i v ⌝ }
+fn set_slot(words: &mut [u64; 256], f: usize, i: usize, v: usize) -> Said
+    requires { ⌜ (5 < f) × (f ≤ 10) ⌝ }
+    ensures { λ r. ⌜ turnAt r (now (words .exit)) ≡ slotTurn (decoded (now (words .entry))) f i v ⌝ }
 {
     if (i <= 15) & ((f < 7) | (8 < f) | (v < 4294967296)) {
-        let mut next = bench.st;
-        let t = with_slot_number(next.table, f, i, v);
-        next.table = t;
-        return workbench::edited(workbench::with_state(bench, next));
+        put_slot_number(words, f, i, v);
+        return workbench::edited();
     }
-    workbench::other(bench)
+    Said::OtherForm
 }
 
 // Field 11: writer i open or not.
-fn set_open(bench: Bench, i: usize, v: usize) -> Turn
-    ensures { λ r. ⌜ r ≡ openTurn bench i v ⌝ }
+fn set_open(words: &mut [u64; 256], i: usize, v: usize) -> Said
+    ensures { λ r. ⌜ turnAt r (now (words .exit)) ≡ openTurn (decoded (now (words .entry))) i v ⌝ }
 {
     if (i <= 3) & (v <= 1) {
-        let mut next = bench.st;
-        let mut ws = next.writers;
-        ws.opened[i] = v == 1;
-        next.writers = ws;
-        return workbench::edited(workbench::with_state(bench, next));
+        state_words::put_open(words, i, v == 1);
+        return workbench::edited();
     }
-    workbench::other(bench)
+    Said::OtherForm
 }
 
 // Field 12: held lines, at 16 × writer + slot.
-fn set_held(bench: Bench, i: usize, v: usize) -> Turn
-    ensures { λ r. ⌜ r ≡ heldTurn bench i v ⌝ }
+fn set_held(words: &mut [u64; 256], i: usize, v: usize) -> Said
+    ensures { λ r. ⌜ turnAt r (now (words .exit)) ≡ heldTurn (decoded (now (words .entry))) i v ⌝ }
 {
     if i <= 63 {
-        let mut next = bench.st;
-        let mut ws = next.writers;
-        ws.held[i] = v as u64;
-        next.writers = ws;
-        return workbench::edited(workbench::with_state(bench, next));
+        state_words::put_held(words, i / 16, i % 16, v as u64);
+        return workbench::edited();
     }
-    workbench::other(bench)
+    Said::OtherForm
 }
 
-fn set_field(bench: Bench, f: usize, i: usize, v: usize) -> Turn
-    ensures { λ r. ⌜ r ≡ fieldTurn bench f i v ⌝ }
+fn set_field(words: &mut [u64; 256], f: usize, i: usize, v: usize) -> Said
+    ensures { λ r. ⌜ turnAt r (now (words .exit)) ≡ fieldTurn (decoded (now (words .entry))) f i v ⌝ }
 {
     if f <= 5 {
-        return set_header(bench, f, i, v);
+        return set_header(words, f, i, v);
     }
     if f <= 10 {
-        return set_slot(bench, f, i, v);
+        return set_slot(words, f, i, v);
     }
     if f == 11 {
-        return set_open(bench, i, v);
+        return set_open(words, i, v);
     }
     if f == 12 {
-        return set_held(bench, i, v);
+        return set_held(words, i, v);
     }
-    workbench::other(bench)
+    Said::OtherForm
 }
 
-pub fn set_number(bench: Bench, line: Line) -> Turn
-    ensures { λ r. ⌜ r ≡ numberTurn bench line ⌝ }
+pub fn set_number(words: &mut [u64; 256], line: Line) -> Said
+    ensures { λ r. ⌜ turnAt r (now (words .exit)) ≡ numberTurn (decoded (now (words .entry))) line ⌝ }
 {
     if line.count == 3 {
         return set_field(
-            bench,
+            words,
             line.numbers[0] as usize,
             line.numbers[1] as usize,
             line.numbers[2] as usize,
         );
     }
-    workbench::other(bench)
+    Said::OtherForm
 }

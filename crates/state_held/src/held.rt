@@ -68,7 +68,8 @@ fn slot_held_ok(words: &[u64; 256], free: bool, s: usize) -> bool
 // Whether no line is held twice, for a closed writer or in a free slot.
 pub fn held_ok(z: Sizes, words: &[u64; 256]) -> bool
     requires { ⌜ Legal z ⌝ }
-    ensures { λ r. ⌜ r ≡ heldOk z (decoded (now (words .entry)) .table .page) (decoded (now (words .entry)) .writers .opened) (decoded (now (words .entry)) .writers .held) ⌝ }
+    ensures { λ r. ⌜ r ≡ heldOk z (decoded (now (words .entry)) .table .page) (decoded (now (words .entry)) .writers .opened)
+        (decoded (now (words .entry)) .writers .held) ⌝ }
 {
     let mut s = 0;
     while s < z.slots {
@@ -189,7 +190,8 @@ fn entries_ok(z: Sizes, words: &[u64; 256], n: usize) -> bool
 // Whether the entries are right, and a wide writer is open, not prepared, and beside no held line and no other open writer.
 pub fn wide_ok(z: Sizes, at: Places, words: &[u64; 256]) -> bool
     requires { ⌜ Legal z ⌝ }
-    ensures { λ r. ⌜ r ≡ wideOk z (decoded (now (words .entry)) .writers .opened) (decoded (now (words .entry)) .writers .held) (at .prepared) (wideOf (at .wide) (at .count) (decoded (now (words .entry)) .wide .keys)) ⌝ }
+    ensures { λ r. ⌜ r ≡ wideOk z (decoded (now (words .entry)) .writers .opened) (decoded (now (words .entry)) .writers .held)
+        (at .prepared) (wideOf (at .wide) (at .count) (decoded (now (words .entry)) .wide .keys)) ⌝ }
 {
     if !entries_ok(z, words, at.count) {
         return false;

@@ -42,7 +42,8 @@ pub fn free_after(z: Sizes, words: &[u64; 256], next: usize) -> usize
 // Whether f is a frame of a slot.
 pub fn frame_of_slot(z: Sizes, words: &[u64; 256], f: usize) -> bool
     requires { ⌜ Legal z ⌝ }
-    ensures { λ r. ⌜ r ≡ frameOfSlot z (decoded (now (words .entry)) .table .page) (decoded (now (words .entry)) .table .original) (decoded (now (words .entry)) .table .spare) f ⌝ }
+    ensures { λ r. ⌜ r ≡ frameOfSlot z (decoded (now (words .entry)) .table .page) (decoded (now (words .entry)) .table .original)
+        (decoded (now (words .entry)) .table .spare) f ⌝ }
 {
     let mut s = 0;
     while s < z.slots {

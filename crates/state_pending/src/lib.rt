@@ -1,6 +1,7 @@
 // Puts what is pending into a state in words.
 ghost use mathlib.Core.Path.{_≡_};
 ghost use mathlib.Core.Bool.{true, false};
+ghost use mathlib.Core.List.{[], _∷_};
 ghost use Prim.Native.Nat.{_+_, _≤_};
 ghost use lib.ListN.{getD, length};
 ghost use Rattle.operations.specs.Operations.{isIdle};
@@ -9,6 +10,31 @@ ghost use Rattle.state_words.specs.Decoded.{decoded};
 ghost use Rattle.state_pending.specs.Put.{eight, opIn, withPending};
 use state::Op;
 use state::Pending;
+
+// The numbers of an operation with five arguments, here a write's, or fewer.
+fn written(
+    code: u64,
+    a: usize,
+    b: usize,
+    c: usize,
+    d: usize,
+    e: usize,
+    made: u64,
+    frame: u64,
+) -> [u64; 8]
+    ensures { λ r. ⌜ r ≡ code ∷ a ∷ b ∷ c ∷ d ∷ e ∷ made ∷ frame ∷ [] ⌝ }
+{
+    [
+        code,
+        a as u64,
+        b as u64,
+        c as u64,
+        d as u64,
+        e as u64,
+        made,
+        frame,
+    ]
+}
 
 // The numbers of what is pending.
 fn op_words(op: Op, made: usize, frame: usize) -> [u64; 8]
@@ -26,16 +52,7 @@ fn op_words(op: Op, made: usize, frame: usize) -> [u64; 8]
             line,
             offset,
             length,
-        } => [
-            1,
-            writer as u64,
-            page as u64,
-            line as u64,
-            offset as u64,
-            length as u64,
-            m,
-            f,
-        ],
+        } => written(1, writer, page, line, offset, length, m, f),
         Op::Commit { writer } => [2, writer as u64, 0, 0, 0, 0, m, f],
         Op::Consolidate { page } => [3, page as u64, 0, 0, 0, 0, m, f],
         Op::Checkpoint => [4, 0, 0, 0, 0, 0, m, f],
@@ -51,16 +68,7 @@ fn op_words(op: Op, made: usize, frame: usize) -> [u64; 8]
             line,
             offset,
             length,
-        } => [
-            8,
-            page as u64,
-            line as u64,
-            offset as u64,
-            length as u64,
-            0,
-            m,
-            f,
-        ],
+        } => written(8, page, line, offset, length, 0, m, f),
         Op::Copy => [9, 0, 0, 0, 0, 0, m, f],
     }
 }

@@ -84,7 +84,8 @@ fn lasts_ok(z: Sizes, head: usize, tail: usize, words: &[u64; 256]) -> bool
 // Whether a prepared writer is open and its records fit.
 fn prepared_ok(z: Sizes, at: Places, words: &[u64; 256]) -> bool
     requires { ⌜ Legal z × (at .head < 2 * z .places) × (at .tail < 2 * z .places) × (liveCount z (at .head) (at .tail) ≤ z .places) ⌝ }
-    ensures { λ r. ⌜ r ≡ preparedOk z (at .head) (at .tail) (decoded (now (words .entry)) .writers .opened) (decoded (now (words .entry)) .writers .held) (at .prepared) ⌝ }
+    ensures { λ r. ⌜ r ≡ preparedOk z (at .head) (at .tail) (decoded (now (words .entry)) .writers .opened)
+        (decoded (now (words .entry)) .writers .held) (at .prepared) ⌝ }
 {
     if 4 <= at.prepared {
         return true;

@@ -28,7 +28,8 @@ fn free_apart(words: &[u64; 256], s: usize) -> bool
 // Whether slot s, an owning one, names no page and no frame of a slot below it.
 fn owning_apart(words: &[u64; 256], s: usize) -> bool
     requires { ⌜ s < 16 ⌝ }
-    ensures { λ r. ⌜ r ≡ allBelow s (owningApart (decoded (now (words .entry)) .table .page) (decoded (now (words .entry)) .table .original) (decoded (now (words .entry)) .table .spare) s) ⌝ }
+    ensures { λ r. ⌜ r ≡ allBelow s (owningApart (decoded (now (words .entry)) .table .page) (decoded (now (words .entry)) .table .original)
+        (decoded (now (words .entry)) .table .spare) s) ⌝ }
 {
     let a = slot_at(words, s);
     let mut k = 0;

@@ -9,8 +9,7 @@ use Rattle.bounded.specs.Below.{one}
 use Rattle.bounded.proofs.Tab.{length-tab}
 use Rattle.words.specs.Words.{part}
 use Rattle.replay.specs.declared.Table.{Table}
-use Rattle.state.specs.declared.State.{State}
-use Rattle.state.specs.declared.Writers.{Writers}
+use Rattle.state.specs.State.{State, Writers}
 use Rattle.decimals.proofs.Printing.{decimal-le}
 use Rattle.number_text.specs.Text.{each, blanked, field}
 use Rattle.number_text.proofs.Puts.{length-each, length-blanked}
@@ -25,13 +24,6 @@ slots-long t n = length-each 5 (slotNumbers t) (λ j. omega arith) n
 
 pub length-open : (ws : Writers) → length (openNumbers ws) ≡ 4
 length-open ws = length-tab 4 (λ w. one (getD (ws .opened) w false))
-
--- a part that is lent, said by its place and length
-pub part-lent : (l : List ℕ) (a n : ℕ) → take (a + n - a) (drop a l) ≡ part l a n
-unfolding part
-part-lent l a n =
-    let e : a + n - a ≡ n = omega arith in
-    ap (λ (k : ℕ). take k (drop a l)) e
 
 pub held-short : (held : List ℕ) (n : ℕ) → n ≤ 16 → (w : ℕ) → length (heldNumbers held n w) ≤ 16
 unfolding part

@@ -1,1 +1,2 @@
 pub mod Lengths
+mod Rows

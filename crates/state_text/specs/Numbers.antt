@@ -7,8 +7,7 @@ use Rattle.bounded.specs.Below.{one}
 use Rattle.bounded.specs.Tab.{tab}
 use Rattle.words.specs.Words.{part}
 use Rattle.replay.specs.declared.Table.{Table}
-use Rattle.state.specs.declared.State.{State}
-use Rattle.state.specs.declared.Writers.{Writers}
+use Rattle.state.specs.State.{State, Writers}
 use Rattle.number_text.specs.Text.{each, blanked, field}
 use Rattle.pending_text.specs.Numbers.{pendingNumbers}
 

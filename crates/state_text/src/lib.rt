@@ -1,38 +1,38 @@
-// The state's numbers, parted by blanks.
+// The state's numbers, parted by blanks, read from its words.
 ghost use mathlib.Core.Path.{_≡_};
 ghost use Prim.Native.Nat.{_+_, _*_, _<_, _≤_};
 ghost use lib.ListN.{length};
 ghost use Rattle.number_text.specs.Text.{Put, blanked, each};
+ghost use Rattle.words.specs.Words.{part};
+ghost use Rattle.state_words.specs.Decoded.{decoded};
 ghost use Rattle.state_text.specs.Numbers.{slotNumbers, openNumbers, heldNumbers, writerNumbers, headerNumbers, stateField};
-use replay::Table;
-use state::State;
-use state::Writers;
 use state::held::one_if;
 
 // ---- slots
 
-fn slot_numbers(t: Table, i: usize) -> [u64; 5]
+fn slot_numbers(words: &[u64; 256], i: usize) -> [u64; 5]
     requires { ⌜ i < 16 ⌝ }
-    ensures { λ r. ⌜ r ≡ slotNumbers t i ⌝ }
+    ensures { λ r. ⌜ r ≡ slotNumbers (decoded (now (words .entry)) .table) i ⌝ }
 {
+    let slot = state_words::slot_at(words, i);
     [
-        t.page[i] as u64,
-        t.original[i] as u64,
-        t.spare[i] as u64,
-        t.bitmap[i],
-        t.last[i] as u64,
+        slot.page as u64,
+        slot.original as u64,
+        slot.spare as u64,
+        slot.bitmap,
+        state_words::last_at(words, i) as u64,
     ]
 }
 
 // The first n slots.
-fn put_slots(out: &mut [u8], at: usize, t: Table, n: usize) -> usize
+fn put_slots(out: &mut [u8], at: usize, words: &[u64; 256], n: usize) -> usize
     requires { ⌜ (n ≤ 16) × (at + 1680 ≤ length (now out)) ⌝ }
-    ensures { λ r. ⌜ Put (now (out .entry)) at (blanked (each n (slotNumbers t))) (now (out .exit)) r ⌝ }
+    ensures { λ r. ⌜ Put (now (out .entry)) at (blanked (each n (slotNumbers (decoded (now (words .entry)) .table)))) (now (out .exit)) r ⌝ }
 {
     let mut next = at;
     let mut i = 0;
     while i < n {
-        let slot = slot_numbers(t, i);
+        let slot = slot_numbers(words, i);
         next = number_text::put_numbers(out, next, &slot);
         i += 1;
     }
@@ -41,68 +41,84 @@ fn put_slots(out: &mut [u8], at: usize, t: Table, n: usize) -> usize
 
 // ---- writers
 
-fn open_numbers(ws: Writers) -> [u64; 4]
-    ensures { λ r. ⌜ r ≡ openNumbers ws ⌝ }
+fn open_numbers(words: &[u64; 256]) -> [u64; 4]
+    ensures { λ r. ⌜ r ≡ openNumbers (decoded (now (words .entry)) .writers) ⌝ }
 {
-    let opened = ws.opened;
     [
-        one_if(opened[0]) as u64,
-        one_if(opened[1]) as u64,
-        one_if(opened[2]) as u64,
-        one_if(opened[3]) as u64,
+        one_if(state_words::open_at(words, 0)) as u64,
+        one_if(state_words::open_at(words, 1)) as u64,
+        one_if(state_words::open_at(words, 2)) as u64,
+        one_if(state_words::open_at(words, 3)) as u64,
     ]
 }
 
+// The lines that writer w holds, slot by slot.
+fn held_by(words: &[u64; 256], w: usize) -> [u64; 16]
+    requires { ⌜ w < 4 ⌝ }
+    ensures row { λ r. ⌜ r ≡ part (decoded (now (words .entry)) .writers .held) (16 * w) 16 ⌝ }
+    ensures long { λ r. ⌜ length r ≡ 16 ⌝ }
+{
+    let _ = state_words::all_words(*words);
+    let mut row = [0u64; 16];
+    let mut s = 0;
+    while s < 16 {
+        row[s] = state_words::held_at(words, w, s);
+        s += 1;
+    }
+    row
+}
+
 // Each writer's held lines of the first n slots.
-fn put_held(out: &mut [u8], at: usize, held: [u64; 64], n: usize) -> usize
+fn put_held(out: &mut [u8], at: usize, words: &[u64; 256], n: usize) -> usize
     requires { ⌜ (n ≤ 16) × (at + 1344 ≤ length (now out)) ⌝ }
-    ensures { λ r. ⌜ Put (now (out .entry)) at (blanked (each 4 (heldNumbers held n))) (now (out .exit)) r ⌝ }
+    ensures { λ r. ⌜ Put (now (out .entry)) at (blanked (each 4 (heldNumbers (decoded (now (words .entry)) .writers .held) n))) (now (out .exit)) r ⌝ }
 {
     let mut next = at;
     let mut w = 0;
     while w < 4 {
-        let from = 16 * w;
-        let to = from + n;
-        next = number_text::put_numbers(out, next, &held[from..to]);
+        let row = held_by(words, w);
+        next = number_text::put_numbers(out, next, &row[..n]);
         w += 1;
     }
     next
 }
 
-fn put_writers(out: &mut [u8], at: usize, ws: Writers, n: usize) -> usize
+fn put_writers(out: &mut [u8], at: usize, words: &[u64; 256], n: usize) -> usize
     requires { ⌜ (n ≤ 16) × (at + 1428 ≤ length (now out)) ⌝ }
-    ensures { λ r. ⌜ Put (now (out .entry)) at (blanked (writerNumbers ws n)) (now (out .exit)) r ⌝ }
+    ensures { λ r. ⌜ Put (now (out .entry)) at (blanked (writerNumbers (decoded (now (words .entry)) .writers) n)) (now (out .exit)) r ⌝ }
 {
-    let opened = open_numbers(ws);
+    let opened = open_numbers(words);
     let next = number_text::put_numbers(out, at, &opened);
-    let held = ws.held;
-    put_held(out, next, held, n)
+    put_held(out, next, words, n)
 }
 
 // ---- all of it
 
-fn header_numbers(st: State) -> [u64; 5]
-    ensures { λ r. ⌜ r ≡ headerNumbers st ⌝ }
+fn header_numbers(words: &[u64; 256]) -> [u64; 5]
+    ensures { λ r. ⌜ r ≡ headerNumbers (decoded (now (words .entry))) ⌝ }
 {
+    let z = state_words::sizes_in(words);
+    let at = state_words::places_in(words);
     [
-        st.sizes.slots as u64,
-        st.sizes.places as u64,
-        st.head as u64,
-        st.tail as u64,
-        st.next as u64,
+        z.slots as u64,
+        z.places as u64,
+        at.head as u64,
+        at.tail as u64,
+        at.next as u64,
     ]
 }
 
 // At most 226 numbers.
-pub fn put_state(out: &mut [u8], at: usize, st: State) -> usize
+pub fn put_state(out: &mut [u8], at: usize, words: &[u64; 256]) -> usize
     requires { ⌜ at + 4746 ≤ length (now out) ⌝ }
-    ensures { λ r. ⌜ Put (now (out .entry)) at (stateField st) (now (out .exit)) r ⌝ }
+    ensures { λ r. ⌜ Put (now (out .entry)) at (stateField (decoded (now (words .entry)))) (now (out .exit)) r ⌝ }
 {
-    let n = bounded::smaller(st.sizes.slots, 16);
-    let next = number_text::put_after(out, at, b',', st.sizes.pages as u64);
-    let header = header_numbers(st);
+    let z = state_words::sizes_in(words);
+    let n = bounded::smaller(z.slots, 16);
+    let next = number_text::put_after(out, at, b',', z.pages as u64);
+    let header = header_numbers(words);
     let next = number_text::put_numbers(out, next, &header);
-    let next = put_slots(out, next, st.table, n);
-    let next = put_writers(out, next, st.writers, n);
-    pending_text::put_pending(out, next, st.pending)
+    let next = put_slots(out, next, words, n);
+    let next = put_writers(out, next, words, n);
+    pending_text::put_pending(out, next, words)
 }

@@ -15,7 +15,7 @@ use Rattle.bounded.proofs.Below.{all-at}
 use Rattle.bounded.proofs.Tests.{caseOn}
 use Rattle.journal.specs.declared.Slot.{Slot}
 use Rattle.replay.specs.Table.{slotIn, withSlot, withLast}
-use Rattle.state.specs.declared.State.{State}
+use Rattle.state.specs.State.{State}
 use Rattle.state.specs.Held.{isOpen, heldAt}
 use Rattle.state_words.specs.Decoded.{start, size, part, flags, fromParts, decoded, placesOf, withTable, withWriters, withHead, withTail, withNext, withWide, withNothing, withBitmap, withOpened, withHeld, withPrepared}
 

@@ -5,10 +5,8 @@ use mathlib.Core.List.{List, [], _∷_}
 use lib.Dec.{eqb}
 use lib.ListN.{getD, set, take, drop, replicate}
 use Rattle.replay.specs.declared.Table.{Table}
-use Rattle.state.specs.declared.State.{State}
-use Rattle.state.specs.declared.Writers.{Writers}
+use Rattle.state.specs.State.{State, Writers, Wide}
 use Rattle.state.specs.declared.Places.{Places}
-use Rattle.state.specs.declared.Wide.{Wide}
 use Rattle.state.specs.declared.Pending.{Pending}
 use Rattle.state.specs.declared.Op.{Op}
 use Rattle.state.specs.declared.Op.the-variants.{Idle, Write, Commit, Consolidate, Checkpoint, Event, Prepare, Confirm, Log, Copy}
@@ -42,7 +40,13 @@ nothing = record { op = Idle; made = 0; line = replicate 8 0; second = replicate
 abbrev pub pendingFrom : List ℕ → List ℕ → List ℕ → Pending
 pendingFrom n line second =
     cond (eqb (getD n 0 0) 0) nothing
-    (record { op = opBy (getD n 0 0) (getD n 1 0) (getD n 2 0) (getD n 3 0) (getD n 4 0) (getD n 5 0); made = getD n 6 0; line = line; second = second; frame = getD n 7 0 })
+    (record {
+      op = opBy (getD n 0 0) (getD n 1 0) (getD n 2 0) (getD n 3 0) (getD n 4 0) (getD n 5 0);
+      made = getD n 6 0;
+      line = line;
+      second = second;
+      frame = getD n 7 0;
+    })
 
 abbrev pub fromParts : (ℕ → List ℕ) → State
 fromParts p =
@@ -94,11 +98,35 @@ withWide st d =
 -- a state with m stores of what is pending made
 abbrev pub withMade : State → ℕ → State
 withMade st m =
-    record { sizes = st .sizes; head = st .head; tail = st .tail; next = st .next; table = st .table; writers = st .writers; wide = st .wide; pending = record { op = st .pending .op; made = m; line = st .pending .line; second = st .pending .second; frame = st .pending .frame } }
+    record {
+      sizes = st .sizes;
+      head = st .head;
+      tail = st .tail;
+      next = st .next;
+      table = st .table;
+      writers = st .writers;
+      wide = st .wide;
+      pending = record {
+        op = st .pending .op;
+        made = m;
+        line = st .pending .line;
+        second = st .pending .second;
+        frame = st .pending .frame;
+      };
+    }
 
 abbrev pub withNothing : State → State
 withNothing st =
-    record { sizes = st .sizes; head = st .head; tail = st .tail; next = st .next; table = st .table; writers = st .writers; wide = st .wide; pending = nothing }
+    record {
+      sizes = st .sizes;
+      head = st .head;
+      tail = st .tail;
+      next = st .next;
+      table = st .table;
+      writers = st .writers;
+      wide = st .wide;
+      pending = nothing;
+    }
 
 -- a table with one bitmap or one last position replaced; writers with one open or closed, other held lines, another one prepared
 abbrev pub withBitmap : Table → ℕ → ℕ → Table

@@ -7,7 +7,8 @@ ghost use lib.ListN.{getD, set, length};
 ghost use Rattle.bounded.specs.Below.{one};
 ghost use Rattle.replay.specs.Table.{slotIn, withSlot, withLast};
 ghost use Rattle.state.specs.Held.{isOpen, heldAt};
-ghost use Rattle.state_words.specs.Decoded.{decoded, placesOf, withTable, withWriters, withHead, withTail, withNext, withWide, withNothing, withBitmap, withOpened, withHeld, withPrepared};
+ghost use Rattle.state_words.specs.Decoded.{decoded, placesOf, withTable, withWriters, withHead, withTail, withNext, withWide, withNothing};
+ghost use Rattle.state_words.specs.Decoded.{withBitmap, withOpened, withHeld, withPrepared};
 use journal::Slot;
 use layout::Sizes;
 use state::Places;
@@ -47,6 +48,9 @@ pub const LAST: usize = 104;
 pub const HELD: usize = 120;
 
 pub const KEYS: usize = 184;
+
+// What stands for a writer where there is none, as a word.
+pub const NO_WRITER: u64 = 4;
 
 // The sizes.
 pub fn sizes_in(words: &[u64; 256]) -> Sizes
@@ -165,7 +169,8 @@ pub fn put_last(words: &mut [u64; 256], s: usize, q: usize)
 // Replaces the lines of slot s that writer w holds.
 pub fn put_held(words: &mut [u64; 256], w: usize, s: usize, m: u64)
     requires { ⌜ (w < 4) × (s < 16) ⌝ }
-    ensures { λ _. ⌜ decoded (now (words .exit)) ≡ withWriters (decoded (now (words .entry))) (withHeld (decoded (now (words .entry)) .writers) (set (decoded (now (words .entry)) .writers .held) (16 * w + s) m)) ⌝ }
+    ensures { λ _. ⌜ decoded (now (words .exit)) ≡ withWriters (decoded (now (words .entry)))
+        (withHeld (decoded (now (words .entry)) .writers) (set (decoded (now (words .entry)) .writers .held) (16 * w + s) m)) ⌝ }
 {
     words[HELD + 16 * w + s] = m;
 }
@@ -173,7 +178,8 @@ pub fn put_held(words: &mut [u64; 256], w: usize, s: usize, m: u64)
 // Opens or closes writer w. No other word changes.
 pub fn put_open(words: &mut [u64; 256], w: usize, b: bool)
     requires { ⌜ w < 4 ⌝ }
-    ensures state { λ _. ⌜ decoded (now (words .exit)) ≡ withWriters (decoded (now (words .entry))) (withOpened (decoded (now (words .entry)) .writers) (set (decoded (now (words .entry)) .writers .opened) w b)) ⌝ }
+    ensures state { λ _. ⌜ decoded (now (words .exit)) ≡ withWriters (decoded (now (words .entry)))
+        (withOpened (decoded (now (words .entry)) .writers) (set (decoded (now (words .entry)) .writers .opened) w b)) ⌝ }
     ensures words { λ _. ⌜ now (words .exit) ≡ set (now (words .entry)) (10 + w) (one b) ⌝ }
 {
     words[OPENED + w] = state::held::one_if(b) as u64;
@@ -212,7 +218,8 @@ pub fn put_next(words: &mut [u64; 256], next: usize)
 
 // Sets the wide writer, and how many entries it uses.
 pub fn put_wide(words: &mut [u64; 256], writer: usize, count: usize)
-    ensures { λ _. ⌜ decoded (now (words .exit)) ≡ withWide (decoded (now (words .entry))) (record { writer = writer; count = count; keys = decoded (now (words .entry)) .wide .keys }) ⌝ }
+    ensures { λ _. ⌜ decoded (now (words .exit)) ≡ withWide (decoded (now (words .entry)))
+        (record { writer = writer; count = count; keys = decoded (now (words .entry)) .wide .keys }) ⌝ }
 {
     let _ = all_words(*words);
     words[WIDE] = writer as u64;
@@ -222,7 +229,12 @@ pub fn put_wide(words: &mut [u64; 256], writer: usize, count: usize)
 // Replaces the key of entry e.
 pub fn put_key(words: &mut [u64; 256], e: usize, key: u64)
     requires { ⌜ e < 64 ⌝ }
-    ensures { λ _. ⌜ decoded (now (words .exit)) ≡ withWide (decoded (now (words .entry))) (record { writer = decoded (now (words .entry)) .wide .writer; count = decoded (now (words .entry)) .wide .count; keys = set (decoded (now (words .entry)) .wide .keys) e key }) ⌝ }
+    ensures { λ _. ⌜ decoded (now (words .exit)) ≡ withWide (decoded (now (words .entry)))
+        (record {
+          writer = decoded (now (words .entry)) .wide .writer;
+          count = decoded (now (words .entry)) .wide .count;
+          keys = set (decoded (now (words .entry)) .wide .keys) e key;
+        }) ⌝ }
 {
     words[KEYS + e] = key;
 }

@@ -18,7 +18,7 @@ use Rattle.layout.specs.Layout.{imageLength}
 use Rattle.masks.specs.Lines.{inMask}
 use Rattle.masks.proofs.Bits.{in-none}
 use Rattle.journal.proofs.Ring.{live-none}
-use Rattle.state.specs.declared.State.{State}
+use Rattle.state.specs.State.{State}
 use Rattle.state.specs.Held.{isOpen, noWriter, heldAt, othersHold, heldSlots}
 use Rattle.state.specs.Slots.{freeAt, roundSlot, freeAfter}
 use Rattle.operations.specs.Operations.{isIdle, live, slotFor, lineTaken, noneFree, frameBad, journalFull, writeArgsBad, writeRows}

@@ -14,10 +14,9 @@ use Rattle.layout.specs.declared.Sizes.{Sizes}
 use Rattle.layout.specs.Layout.{imageLength}
 use Rattle.journal.specs.declared.Slot.{Slot}
 use Rattle.journal.specs.Slots.{noPage}
-use Rattle.state.specs.declared.State.{State}
+use Rattle.state.specs.State.{State, Wide}
 use Rattle.state.specs.declared.Op.{Op}
 use Rattle.state.specs.declared.Op.the-variants.{Write, Commit, Consolidate, Checkpoint}
-use Rattle.state.specs.declared.Wide.{Wide}
 use Rattle.state.specs.Held.{isOpen}
 use Rattle.state.specs.Slots.{freeAt, freeAfter}
 use Rattle.state.specs.Wide.{isWide}

@@ -7,12 +7,12 @@ use native.Mathlib.Omega.{arith}
 use lib.ListN.{length, take}
 use Rattle.bounded.proofs.Tests.{row-keeps}
 use Rattle.text.specs.declared.Line.{Line}
-use Rattle.trials.specs.Trials.{Tried, formatted, asAbandoned, played}
+use Rattle.trials.specs.Trials.{Tried, asAbandoned, played}
 use Rattle.trial_lines.specs.Lines.{Work, first, numbersOf, sizesOf, isRound, withRound, act}
 use Rattle.trial_laws.specs.Pages.{after}
 use Rattle.trial_laws.specs.Counts.{RoundsCounted}
 use Rattle.trial_laws.proofs.Round.{abandoned-more, played-more}
-use Rattle.trial_laws.proofs.Theorem.{Taken, first-taken, Left, left-line}
+use Rattle.trial_laws.proofs.Theorem.{fresh, first-taken, Left, left-line}
 
 -- rounds so far
 abbrev total : Work → ℕ
@@ -37,9 +37,8 @@ after-counted (line ∷ lines) w h e =
     subst (λ (u : Work). total (after lines u) + 1 ≡ w .lines + length (line ∷ lines)) (sym (n .0)) (omega (arith, ih))
 
 pub rounds-counted : RoundsCounted
-unfolding formatted
 rounds-counted buffer setting rounds taken few =
     let t = first-taken buffer setting taken in
-    let w : Work = record { tried = formatted (sizesOf (numbersOf setting)) buffer; lines = 1; set = true } in
+    let w = fresh (sizesOf (numbersOf setting)) buffer in
     let n = after-counted rounds w (record { set = refl; some = omega arith; few = omega arith }) refl in
     subst (λ (u : Work). total (after rounds u) ≡ length rounds) (sym (t .same)) (omega (arith, n))

@@ -16,18 +16,18 @@ use Rattle.words.specs.Words.{Bytes}
 use Rattle.state.specs.Slots.{freeAfter}
 use Rattle.fresh.specs.Fresh.{formatRows}
 use Rattle.refinement.specs.Mount.{formatCall}
-use Rattle.refinement.specs.Run.{commit}
+use Rattle.refinement.specs.Run.{commit, formattedWorld}
 use Rattle.refinement.specs.Reference.{blank}
 use Rattle.refinement.proofs.Reached.{reached-first}
 use Rattle.trials.specs.declared.Ask.the-variants.{Begin, Write, Free, Checkpoint, Commit, Abort}
-use Rattle.trials.specs.Trials.{Tried, formatted, made, withRoom, put, putAll, committed, asDone, asAbandoned, played}
+use Rattle.trials.specs.Trials.{Tried, made, withRoom, put, putAll, committed, asDone, asAbandoned, played}
 use Rattle.trial_lines.specs.Lines.{Work, first, numbersOf, sizesOf, isRound, withRound, acted, act}
 use Rattle.trial_laws.specs.Pages.{after}
 use Rattle.trial_laws.specs.Ends.{lastOf, Stopped, by-write, by-freeing, Ends, RoundsEnd}
 use Rattle.trial_laws.proofs.Alone.{Alone, begin-taken, abort-taken, checkpoint-taken, commit-known, commit-room, free-known, free-room, write-known, write-outside, write-inside, write-taken}
 use Rattle.trial_laws.proofs.Complete.{begin-alone, abort-alone, checkpoint-ends, checkpoint-alone, free-alone, free-some, commit-alone, write-alone, refused-alone}
 use Rattle.trial_laws.proofs.Round.{row-splits, byte-lent}
-use Rattle.trial_laws.proofs.Theorem.{first-taken}
+use Rattle.trial_laws.proofs.Theorem.{fresh, first-taken}
 
 -- a number that is one of two or three
 one-of-two : (n k : ℕ) → not (eqb n 0 || eqb n k) ≡ false → eqb n k ≡ false → n ≡ 0
@@ -242,9 +242,9 @@ module _ (z : Sizes) (past : List ℕ) where
   after-closed (line ∷ lines) w some a = let n = act-closed w line some a in after-closed lines (act w line) (n .0) (n .1)
 
 -- a format that is taken
-format-alone : (z : Sizes) (buffer : List ℕ) → Bytes buffer → formatted z buffer .number ≡ 0
-    → Alone z (drop (imageLength z) buffer) false (formatted z buffer .world)
-unfolding formatted formatCall
+format-alone : (z : Sizes) (buffer : List ℕ) → Bytes buffer → formatCall z buffer .number ≡ 0
+    → Alone z (drop (imageLength z) buffer) false (formattedWorld z buffer)
+unfolding formatCall
 format-alone z buffer bytes e =
     let none = none-apply (formatRows z (length buffer)) (omega arith, (omega arith, tt)) e in
     record {
@@ -258,7 +258,7 @@ pub rounds-end : RoundsEnd
 rounds-end buffer setting rounds bytes taken ps b low =
     let z = sizesOf (numbersOf setting) in
     let t = first-taken buffer setting taken in
-    let w : Work = record { tried = formatted z buffer; lines = 1; set = true } in
+    let w = fresh z buffer in
     let past = drop (imageLength z) buffer in
     let a = after-closed z past rounds w (omega arith) (format-alone z buffer bytes (t .number)) in
     subst (λ (u : Work). Ends (z .pages) ps b (after rounds u .tried)) (sym (t .same)) (round-ends z past b low ps (after rounds w .tried) a)

@@ -11,19 +11,20 @@ use Rattle.bounded.specs.Rows.{refusal}
 use Rattle.bounded.proofs.Tests.{caseOn, row-keeps, or-right}
 use Rattle.layout.specs.declared.Sizes.{Sizes}
 use Rattle.fresh.specs.Fresh.{formatRow}
-use Rattle.state.specs.declared.State.{State}
+use Rattle.state.specs.State.{State}
 use Rattle.state.specs.declared.Op.{Op}
 use Rattle.state.specs.declared.Op.the-variants.{Consolidate, Commit as CommitOp, Checkpoint as CheckpointOp, Copy}
 use Rattle.state.specs.Wide.{isWide}
 use Rattle.operations.specs.Operations.{needs}
 use Rattle.validity.specs.Validity.{stateOk}
 use Rattle.refinement.specs.Stores.{World, completed, left}
-use Rattle.refinement.specs.Mount.{noState, freshState, formatCall}
+use Rattle.refinement.specs.Mount.{formatCall}
 use Rattle.refinement.specs.Freeing.{freedPage}
 use Rattle.refinement.specs.Calls.{beginRows, beginOf, abortRows, abortOf, writeCallRows, changesNothing, writeOf, commitCallRows, commitOp, commitOf, freeCallRows, freeOf, checkpointCallRows, checkpointOf, asked, stepRows, runOf}
 use Rattle.refinement.specs.Run.{run, exec}
 use Rattle.refinement.proofs.StepCall.{steppedBy-sizes}
 use Rattle.refinement.proofs.Valid.{legal-sizes}
+use Rattle.state_words.specs.Decoded.{start, size, part, decoded}
 use Rattle.text.specs.declared.Line.{Line}
 use Rattle.trials.specs.declared.Ask.{Ask}
 use Rattle.trials.specs.declared.Ask.the-variants.{Begin, Write, Free, Checkpoint, Commit, Abort}
@@ -160,10 +161,10 @@ made-low a t h =
       no-entries = ap (λ (z : Sizes). z .entries) (run-sizes (d .stores) (d .world) ∙ asked-sizes a v) ∙ h .no-entries;
     }
 
-formatted-low : (b : ℕ) (z : Sizes) (img : List ℕ) → z .entries ≡ 0 → Low b (formatted z img)
+formatted-low : (b : ℕ) (z : Sizes) (v : World) → z .entries ≡ 0 → v .st .sizes .entries ≡ 0 → Low b (formatted z v)
 unfolding formatted formatCall
-formatted-low b z img e =
-    record { counts = none-low b; no-entries = row-keeps (λ (s : State). s .sizes .entries ≡ 0) (eqb (formatRow z img) 0) (freshState z) noState e refl }
+formatted-low b z v e none =
+    record { counts = none-low b; no-entries = caseOn (eqb (formatRow z (v .image)) 0) (λ t. rw t e) (λ t. rw t none) }
 
 -- ---- a round
 
@@ -218,8 +219,8 @@ setting-low : (b : ℕ) (q : Line) (w : Work) → LowIn b w → LowIn b (withSet
 unfolding withSetting
 setting-low b q w h =
     row-keeps (LowIn b) (eqb (q .count) 3)
-    (record { tried = formatted (sizesOf q) (w .tried .world .image); lines = 1; set = eqb (formatted (sizesOf q) (w .tried .world .image) .number) 0 })
-    (record { tried = w .tried; lines = 1; set = false }) (formatted-low b (sizesOf q) (w .tried .world .image) refl) h
+    (record { tried = formatted (sizesOf q) (w .tried .world); lines = 1; set = eqb (formatted (sizesOf q) (w .tried .world) .number) 0 })
+    (record { tried = w .tried; lines = 1; set = false }) (formatted-low b (sizesOf q) (w .tried .world) refl (h .no-entries)) h
 
 pub round-low : (b : ℕ) (q : Line) (w : Work) → LowIn b w → LowIn (b + 85150) (withRound q w)
 unfolding withRound asAbandoned
@@ -244,9 +245,8 @@ after-low b [] w h = low-more h (omega arith)
 after-low b (line ∷ lines) w h = low-more (after-low (b + 85150) lines (act w line) (act-low b w line h)) (omega arith)
 
 pub first-low : (img setting : List ℕ) → LowIn 0 (act (first img) setting)
-unfolding acted first
-first-low img setting =
-    setting-low 0 (numbersOf setting) (first img) (formatted-low 0 (record { pages = 0; slots = 0; places = 0; entries = 0 }) img refl)
+unfolding acted first decoded part start size
+first-low img setting = setting-low 0 (numbersOf setting) (first img) (record { counts = none-low 0; no-entries = refl })
 
 pub counts-low : (buffer setting : List ℕ) (rounds : List (List ℕ)) → length rounds ≤ 1000 → Within 85150000 (after rounds (act (first buffer) setting) .tried .spent)
 counts-low buffer setting rounds few = within-more (after-low 0 rounds (act (first buffer) setting) (first-low buffer setting) .counts) (omega arith)

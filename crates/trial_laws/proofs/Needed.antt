@@ -14,7 +14,7 @@ use Rattle.bounded.proofs.Tests.{caseOn}
 use Rattle.layout.specs.declared.Sizes.{Sizes}
 use Rattle.masks.specs.Lines.{countLines}
 use Rattle.replay.specs.Table.{noPosition}
-use Rattle.state.specs.declared.State.{State}
+use Rattle.state.specs.State.{State}
 use Rattle.state.specs.declared.Op.the-variants.{Commit, Consolidate, Checkpoint, Copy}
 use Rattle.state.specs.Held.{heldAt, heldSlots}
 use Rattle.state.specs.Slots.{slotOfPage}

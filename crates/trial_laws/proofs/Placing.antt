@@ -13,7 +13,7 @@ use Rattle.bounded.proofs.Tests.{caseOn}
 use Rattle.layout.specs.declared.Sizes.{Sizes}
 use Rattle.layout.specs.Layout.{Legal, headWord, tailWord, pageWord, slotWord, recordWord, paddingWord, lineWord}
 use Rattle.journal.specs.Records.{position}
-use Rattle.state.specs.declared.State.{State}
+use Rattle.state.specs.State.{State}
 use Rattle.state.specs.declared.Op.the-variants.{Write, Commit, Consolidate, Checkpoint}
 use Rattle.state.specs.Held.{heldSlots}
 use Rattle.operations.specs.Operations.{needs, copyCount, recordedSlots}

@@ -14,14 +14,14 @@ use Rattle.cutting.specs.Feeding.{Fed, fedByte, fed, ended}
 use Rattle.decimals.specs.Decimal.{decimalOf}
 use Rattle.number_text.specs.Text.{field}
 use Rattle.trials.specs.declared.Spent.{Spent}
-use Rattle.trials.specs.Trials.{nothing, formatted}
+use Rattle.trials.specs.Trials.{nothing}
 use Rattle.trial_lines.specs.Lines.{Work, first, numbersOf, sizesOf, withSetting, withRound, acted, act, spentText, response}
 use Rattle.trial_laws.specs.Pages.{lineShown, after, leftBy, zeros, Given, Has}
 use Rattle.trial_laws.specs.Inputs.{worked, linesFrom, settingOf, roundsOf, GivenInput, EqualInputs}
 use Rattle.trial_laws.specs.Counts.{Within, exactly, ofLines, doneIn, abandonedIn, plainText, CountsPlain}
 use Rattle.trial_laws.proofs.Low.{LowIn, first-low, counts-low}
 use Rattle.trial_laws.proofs.Sums.{lines-sum, lines-ticks}
-use Rattle.trial_laws.proofs.Theorem.{first-taken, Left, left-line, shown-by-rounds}
+use Rattle.trial_laws.proofs.Theorem.{fresh, first-taken, Left, left-line, shown-by-rounds}
 
 -- ---- bytes are lines
 
@@ -148,10 +148,9 @@ same-text w d a s t e f g = rw (t, e, f, g)
 
 rounds-plain : (buffer setting : List ℕ) (rounds : List (List ℕ)) → act (first buffer) setting .set ≡ true → length rounds ≤ 1000
     → let w = act (first buffer) setting in (response (after rounds w) ≡ plainText rounds w) × Within 85150000 (ofLines rounds w)
-unfolding formatted
 rounds-plain buffer setting rounds taken few =
     let t = first-taken buffer setting taken in
-    let u : Work = record { tried = formatted (sizesOf (numbersOf setting)) buffer; lines = 1; set = true } in
+    let u = fresh (sizesOf (numbersOf setting)) buffer in
     let w = act (first buffer) setting in
     let same : w ≡ u = t .same in
     let left : Left u rounds = record { set = refl; some = omega arith; few = omega arith } in

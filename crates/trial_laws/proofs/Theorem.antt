@@ -19,7 +19,7 @@ use Rattle.mount.proofs.View.{View}
 use Rattle.fresh.specs.Fresh.{formatRows}
 use Rattle.refinement.specs.Mount.{formatCall}
 use Rattle.refinement.specs.Stores.{World}
-use Rattle.refinement.specs.Run.{recall, exec}
+use Rattle.refinement.specs.Run.{recall, exec, formattedWorld}
 use Rattle.refinement.specs.Recall.{recallRow}
 use Rattle.refinement.specs.Reference.{blank, recallLine}
 use Rattle.refinement.proofs.Cases.{standing-of}
@@ -28,7 +28,7 @@ use Rattle.refinement.proofs.Reached.{reached-first}
 use Rattle.refinement.proofs.RecallCall.{row-is}
 use Rattle.refinement.proofs.Viewed.{Viewed}
 use Rattle.text.specs.declared.Line.{Line}
-use Rattle.trials.specs.Trials.{formatted, played}
+use Rattle.trials.specs.Trials.{untried, formatted, played}
 use Rattle.trial_lines.specs.Lines.{Work, first, numbersOf, sizesOf, withSetting, isRound, withRound, acted, act}
 use Rattle.trial_laws.specs.Pages.{lineShown, after, pagesOf, marked, leftBy, zeros, ShownByRounds, EqualBytes}
 use Rattle.trial_laws.proofs.Standing.{Stands, noWrites}
@@ -36,23 +36,24 @@ use Rattle.trial_laws.proofs.Round.{abandoned-some, round-done, round-s
 
 -- ---- the setting
 
-first-image : (img : List ℕ) → first img .tried .world .image ≡ img
-unfolding first formatted
-first-image img = refl
+-- a store of these sizes, just formatted
+abbrev pub fresh : Sizes → List ℕ → Work
+fresh z img = record { tried = untried (formattedWorld z img); lines = 1; set = true }
 
 -- the first line gives sizes that format takes
 pub record Taken (img setting : List ℕ) : Type 0 where
-  pub number : formatted (sizesOf (numbersOf setting)) img .number ≡ 0
-  pub same : act (first img) setting ≡ record { tried = formatted (sizesOf (numbersOf setting)) img; lines = 1; set = true }
+  pub number : formatCall (sizesOf (numbersOf setting)) img .number ≡ 0
+  pub same : act (first img) setting ≡ fresh (sizesOf (numbersOf setting)) img
 
 setting-taken : (q : Line) (img : List ℕ) → withSetting q (first img) .set ≡ true
-    → (formatted (sizesOf q) img .number ≡ 0) × (withSetting q (first img) ≡ record { tried = formatted (sizesOf q) img; lines = 1; set = true })
-unfolding withSetting
+    → (formatCall (sizesOf q) img .number ≡ 0) × (withSetting q (first img) ≡ fresh (sizesOf q) img)
+unfolding withSetting first formatted
 setting-taken q img =
     caseOn (eqb (q .count) 3)
     (λ e h.
-    let k : eqb (formatted (sizesOf q) img .number) 0 ≡ true = rw (e, first-image img) at h in
-    (eqb-true (formatted (sizesOf q) img .number) 0 k, rw (e, first-image img, k)))
+    let k : eqb (formatCall (sizesOf q) img .number) 0 ≡ true = rw e at h in
+    let n = eqb-true (formatCall (sizesOf q) img .number) 0 k in
+    (n, rw (e, n)))
     (λ e h. let k : false ≡ true = rw e at h in contradicts k refl)
 
 pub first-taken : (img setting : List ℕ) → act (first img) setting .set ≡ true → Taken img setting
@@ -62,9 +63,9 @@ first-taken img setting h =
     record { number = t .0; same = t .1 }
 
 -- sizes that format takes, on a fresh image
-format-stands : (z : Sizes) (img : List ℕ) → Bytes img → formatted z img .number ≡ 0
-    → Stands z (drop (imageLength z) img) (formatted z img .world) zeros noWrites
-unfolding formatted formatCall
+format-stands : (z : Sizes) (img : List ℕ) → Bytes img → formatCall z img .number ≡ 0
+    → Stands z (drop (imageLength z) img) (formattedWorld z img) zeros noWrites
+unfolding formatCall
 format-stands z img bytes e =
     let none = none-apply (formatRows z (length img)) (omega arith, (omega arith, tt)) e in
     record {
@@ -166,7 +167,7 @@ pub shown-by-rounds : ShownByRounds
 shown-by-rounds buffer setting rounds given p l has low =
     let z = sizesOf (numbersOf setting) in
     let t = first-taken buffer setting (given .taken) in
-    let w : Work = record { tried = formatted z buffer; lines = 1; set = true } in
+    let w = fresh z buffer in
     let few = given .few in
     let none : after rounds w .tried .abandoned ≡ 0 = subst (λ (u : Work). after rounds u .tried .abandoned ≡ 0) (t .same) (given .done) in
     let st = after-stands rounds w zeros (record { set = refl; some = omega arith; few = omega arith }) (format-stands z buffer (given .bytes) (t .number)) none in

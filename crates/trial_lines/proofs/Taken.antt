@@ -5,19 +5,20 @@ use mathlib.Core.List.{List, [], _∷_, _++_}
 use mathlib.Core.Path.{_≡_, refl}
 use native.Mathlib.Omega.{arith}
 use lib.Dec.{ltb, leb, eqb}
-use lib.ListN.{length, take, length-append, length-take, length-replicate}
+use lib.ListN.{length, take, replicate, length-append, length-take, length-replicate}
 use borrow.Author.Tests.{eq-eqb, ne-eqb, ltb-false}
 use Rattle.bounded.proofs.Tests.{caseOn, or-right}
+use Rattle.refinement.specs.Calls.{worldOf}
+use Rattle.state_words.specs.Decoded.{decoded}
 use Rattle.text.specs.declared.Line.{Line}
 use Rattle.text.specs.Fields.{fields, allNumbers, lineOf, parsed}
 use Rattle.decimals.proofs.Printing.{decimal-le}
 use Rattle.number_text.specs.Text.{field}
 use Rattle.trials.specs.declared.Spent.{Spent}
-use Rattle.trials.specs.Trials.{Tried, formatted, asAbandoned, played}
+use Rattle.trials.specs.Trials.{Tried, untried, formatted, asAbandoned, played}
 use Rattle.trial_lines.specs.Lines.{Work, first, sizesOf, withSetting, withRound, acted, spentText}
 
-pub first-told : (t : Tried) (img : List ℕ) → t ≡ formatted (record { pages = 0; slots = 0; places = 0; entries = 0 }) img
-    → record { tried = t; lines = 0; set = false } ≡ first img
+pub first-told : (t : Tried) (img : List ℕ) → t ≡ untried (worldOf (decoded (replicate 256 0)) img) → record { tried = t; lines = 0; set = false } ≡ first img
 unfolding first
 first-told t img e = rw e
 
@@ -28,7 +29,7 @@ module _ (q q′ : Line) (w : Work) (e : q ≡ q′) where
   unfolding withSetting
   setting-none h = rw (← e, ne-eqb (q .count) 3 h)
 
-  pub setting-given : q .count ≡ 3 → (t : Tried) → t ≡ formatted (sizesOf q) (w .tried .world .image)
+  pub setting-given : q .count ≡ 3 → (t : Tried) → t ≡ formatted (sizesOf q) (w .tried .world)
       → record { tried = t; lines = 1; set = eqb (t .number) 0 } ≡ withSetting q′ w
   unfolding withSetting
   setting-given h t f = rw (← e, eq-eqb (q .count) 3 h, ← f)

@@ -4,15 +4,17 @@ use Prim.Native.Char.{code}
 use mathlib.Core.Bool.{Bool, false, not, cond, _||_}
 use mathlib.Core.List.{List, [], _∷_, _++_}
 use lib.Dec.{ltb, eqb}
-use lib.ListN.{getD, take}
+use lib.ListN.{getD, take, replicate}
 use Rattle.layout.specs.declared.Sizes.{Sizes}
+use Rattle.refinement.specs.Calls.{worldOf}
+use Rattle.state_words.specs.Decoded.{decoded}
 use Rattle.text.specs.declared.Line.{Line}
 use Rattle.text.specs.Fields.{parsed}
 use Rattle.decimals.specs.Decimal.{decimalOf}
 use Rattle.number_text.specs.Text.{Put, field}
 use Rattle.trials.specs.declared.Spent.{Spent}
 use Rattle.trials.specs.declared.Trial.{Trial}
-use Rattle.trials.specs.Trials.{Tried, trialOf, formatted, asAbandoned, played}
+use Rattle.trials.specs.Trials.{Tried, trialOf, untried, formatted, asAbandoned, played}
 use Rattle.trial_lines.specs.declared.Session.{Session}
 
 -- what the lines so far came to; a taken setting is set
@@ -21,13 +23,13 @@ pub record Work : Type 0 where
   pub lines : ℕ
   pub set : Bool
 
--- the code keeps the image apart
-abbrev pub workOf : Session → List ℕ → Work
-workOf s img = record { tried = trialOf (s .trial) img; lines = s .lines; set = s .set }
+-- the code keeps the state's words and the image apart
+abbrev pub workOf : Session → List ℕ → List ℕ → Work
+workOf s words img = record { tried = trialOf (s .trial) words img; lines = s .lines; set = s .set }
 
--- before the first line there is no store: sizes 0 are none that format takes
+-- before the first line there is no store: its words are 0
 unfoldable pub first : List ℕ → Work
-first img = record { tried = formatted (record { pages = 0; slots = 0; places = 0; entries = 0 }) img; lines = 0; set = false }
+first img = record { tried = untried (worldOf (decoded (replicate 256 0)) img); lines = 0; set = false }
 
 -- a line's numbers, as powerhit reads them after a letter and a comma; a line of another form has none
 abbrev pub prefixed : List ℕ → List ℕ
@@ -44,7 +46,7 @@ sizesOf q = record { pages = getD (q .numbers) 0 0; slots = getD (q .numbers) 1 
 -- the first: three numbers, which format takes in the buffer as it is
 unfoldable pub withSetting : Line → Work → Work
 withSetting q w =
-    let t = formatted (sizesOf q) (w .tried .world .image) in
+    let t = formatted (sizesOf q) (w .tried .world) in
     cond (eqb (q .count) 3) (record { tried = t; lines = 1; set = eqb (t .number) 0 }) (record { tried = w .tried; lines = 1; set = false })
 
 -- 1 to 64 pages
@@ -80,9 +82,9 @@ countsText t = decimalOf (t .done) ++ (field (t .abandoned) ++ (spentText (t .sp
 unfoldable pub response : Work → List ℕ
 response w = cond (w .set) (countsText (w .tried)) (code "?" ∷ code "\n" ∷ [])
 
--- it does not depend on the image: put at the start of a buffer
+-- it depends on neither state nor image: put at the start of a buffer
 pub record PutCounts (t : Trial) (out out′ : List ℕ) (n : ℕ) : Type 0 where
-  pub text : (img : List ℕ) → Put out 0 (countsText (trialOf t img)) out′ n
+  pub text : (words img : List ℕ) → Put out 0 (countsText (trialOf t words img)) out′ n
 
 pub record PutResponse (s : Session) (out out′ : List ℕ) (n : ℕ) : Type 0 where
-  pub text : (img : List ℕ) → Put out 0 (response (workOf s img)) out′ n
+  pub text : (words img : List ℕ) → Put out 0 (response (workOf s words img)) out′ n

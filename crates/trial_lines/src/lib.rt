@@ -2,7 +2,9 @@
 pub mod output;
 
 ghost use mathlib.Core.Path.{_≡_};
-ghost use Prim.Native.Nat.{_≤_};
+ghost use mathlib.Core.List.{List};
+ghost use Prim.Native.Nat.{ℕ, _≤_};
+ghost use lib.ListN.{replicate};
 ghost use Rattle.text.specs.Fields.{parsed};
 ghost use Rattle.trial_lines.specs.Lines.{workOf, first, withSetting, withRound, acted};
 use layout::Sizes;
@@ -15,17 +17,11 @@ pub struct Session {
     pub set: bool,
 }
 
-// No line is read yet.
-pub fn start(image: &mut [u8]) -> Session
-    ensures { λ r. ⌜ workOf r (now (image .exit)) ≡ first (now (image .entry)) ⌝ }
+// No line is read yet, and the words are 0.
+pub fn start() -> Session
+    ensures { λ r. ⌜ ((img : List ℕ) → workOf r (replicate 256 0) img ≡ first img) ⌝ }
 {
-    let none = Sizes {
-        pages: 0,
-        slots: 0,
-        places: 0,
-        entries: 0,
-    };
-    let trial = trials::start(image, none);
+    let trial = trials::nothing_tried();
     Session {
         trial,
         lines: 0,
@@ -34,8 +30,9 @@ pub fn start(image: &mut [u8]) -> Session
 }
 
 // The first line.
-fn take_setting(s: Session, image: &mut [u8], text: &[u8]) -> Session
-    ensures { λ r. ⌜ workOf r (now (image .exit)) ≡ withSetting (parsed 9 (now (text .entry))) (workOf s (now (image .entry))) ⌝ }
+fn take_setting(s: Session, image: &mut [u8], words: &mut [u64; 256], text: &[u8]) -> Session
+    ensures { λ r. ⌜ workOf r (now (words .exit)) (now (image .exit))
+        ≡ withSetting (parsed 9 (now (text .entry))) (workOf s (now (words .entry)) (now (image .entry))) ⌝ }
 {
     let q = text::parse::parse(text, 9);
     let mut next = s;
@@ -51,16 +48,17 @@ fn take_setting(s: Session, image: &mut [u8], text: &[u8]) -> Session
         places: numbers[2] as usize,
         entries: 0,
     };
-    let trial = trials::start(image, sizes);
+    let trial = trials::start(image, words, sizes);
     next.trial = trial;
     next.set = trial.number == 0;
     next
 }
 
 // Another line.
-fn take_round(s: Session, image: &mut [u8], text: &[u8]) -> Session
+fn take_round(s: Session, image: &mut [u8], words: &mut [u64; 256], text: &[u8]) -> Session
     requires { ⌜ s .lines ≤ 1000 ⌝ }
-    ensures { λ r. ⌜ workOf r (now (image .exit)) ≡ withRound (parsed 9 (now (text .entry))) (workOf s (now (image .entry))) ⌝ }
+    ensures { λ r. ⌜ workOf r (now (words .exit)) (now (image .exit))
+        ≡ withRound (parsed 9 (now (text .entry))) (workOf s (now (words .entry)) (now (image .entry))) ⌝ }
 {
     let q = text::parse::parse(text, 9);
     let mut next = s;
@@ -73,19 +71,20 @@ fn take_round(s: Session, image: &mut [u8], text: &[u8]) -> Session
     }
     let numbers = q.numbers;
     let byte = (s.lines % 256) as u8;
-    next.trial = trials::rounds::play(trial, image, &numbers[..count], byte);
+    next.trial = trials::rounds::play(trial, image, words, &numbers[..count], byte);
     next
 }
 
 // One line more, which stands after a letter and a comma.
-pub fn take_line(s: Session, image: &mut [u8], text: &[u8]) -> Session
-    ensures { λ r. ⌜ workOf r (now (image .exit)) ≡ acted (parsed 9 (now (text .entry))) (workOf s (now (image .entry))) ⌝ }
+pub fn take_line(s: Session, image: &mut [u8], words: &mut [u64; 256], text: &[u8]) -> Session
+    ensures { λ r. ⌜ workOf r (now (words .exit)) (now (image .exit))
+        ≡ acted (parsed 9 (now (text .entry))) (workOf s (now (words .entry)) (now (image .entry))) ⌝ }
 {
     if s.lines == 0 {
-        return take_setting(s, image, text);
+        return take_setting(s, image, words, text);
     }
     if !s.set | (s.lines > 1000) {
         return s;
     }
-    take_round(s, image, text)
+    take_round(s, image, words, text)
 }

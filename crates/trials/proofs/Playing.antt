@@ -8,54 +8,53 @@ use lib.Seq.{drop-cons}
 use borrow.Author.Tests.{eq-eqb, ne-eqb}
 use Rattle.layout.specs.declared.Sizes.{Sizes}
 use Rattle.fresh.specs.Fresh.{formatBytes}
-use Rattle.answers.specs.declared.Done.{Done}
-use Rattle.answers.specs.Answers.{numberOf, storesOf, outcomeOf}
+use Rattle.answers.specs.declared.Answer.{Answer}
+use Rattle.answers.specs.Answers.{numberOf, storesOf, answeredAt}
+use Rattle.state_words.specs.Decoded.{decoded}
+use Rattle.call_mount.specs.Replacing.{replacing}
 use Rattle.refinement.specs.Outcome.{Outcome}
 use Rattle.refinement.specs.Mount.{formatCall}
-use Rattle.refinement.specs.Calls.{worldOf, runOf, runBytes}
-use Rattle.refinement.specs.Run.{Result, result, exec, run}
+use Rattle.refinement.specs.Calls.{worldOf}
+use Rattle.refinement.specs.Run.{Result}
 use Rattle.trials.specs.declared.Ask.{Ask}
 use Rattle.trials.specs.declared.Ask.the-variants.{Begin, Write, Free, Checkpoint, Commit, Abort}
 use Rattle.trials.specs.declared.Spent.{Spent}
 use Rattle.trials.specs.declared.Trial.{Trial}
-use Rattle.trials.specs.Trials.{callOf, nothing, storesFor, plus, Tried, trialOf, formatted, made, withRoom, put, putAll, committed, counted, asDone, asAbandoned, played}
+use Rattle.trials.specs.Trials.{callOf, Finishes, nothing, storesFor, plus, Tried, trialOf, untried, formatted, made, withRoom, put, putAll, committed}
+use Rattle.trials.specs.Trials.{counted, asDone, asAbandoned, played}
 
--- ---- a format, a call
+-- ---- a format
 
-pub format-told : (z : Sizes) (d : Done) (img img′ : List ℕ) (number : ℕ)
-    → outcomeOf d ≡ formatCall z img → img′ ≡ formatBytes z img → number ≡ numberOf (d .answer)
-    → trialOf (record { state = d .state; number = number; spent = nothing; done = 0; abandoned = 0 }) img′ ≡ formatted z img
+pub format-told : (z : Sizes) (a : Answer) (words img words′ img′ : List ℕ) (number : ℕ) (t : Trial)
+    → ((ws is : List ℕ) → trialOf t ws is ≡ untried (worldOf (decoded ws) is))
+    → answeredAt a (decoded words′) ≡ replacing (decoded words) (formatCall z img) → img′ ≡ formatBytes z img → number ≡ numberOf a
+    → trialOf (record { number = number; spent = t .spent; done = t .done; abandoned = t .abandoned }) words′ img′
+    ≡ formatted z (worldOf (decoded words) img)
 unfolding formatted
-format-told z d img img′ number e b n =
-    let s : d .state ≡ formatCall z img .state = ap (λ (o : Outcome). o .state) e in
-    let m : numberOf (d .answer) ≡ formatCall z img .number = ap (λ (o : Outcome). o .number) e in
-    rw (s, b, n, m)
+format-told z a words img words′ img′ number t first e b n =
+    let s : decoded words′ ≡ replacing (decoded words) (formatCall z img) .state = ap (λ (o : Outcome). o .state) e in
+    let m : numberOf a ≡ formatCall z img .number = ap (λ (o : Outcome). o .number) e in
+    let counts : trialOf t words img ≡ untried (worldOf (decoded words) img) = first words img in
+    let spent : t .spent ≡ nothing = ap (λ (x : Tried). x .spent) counts in
+    let done : t .done ≡ 0 = ap (λ (x : Tried). x .done) counts in
+    let abandoned : t .abandoned ≡ 0 = ap (λ (x : Tried). x .abandoned) counts in
+    rw (s, b, n, m, spent, done, abandoned)
 
--- a call that came to what is defined
-pub outcome-told : (d : Done) (o : Outcome) (img : List ℕ) → outcomeOf d ≡ o → result (outcomeOf d) img ≡ result o img
-outcome-told d o img e = ap (λ (x : Outcome). result x img) e
+-- ---- a call
 
--- what a call asked for comes to, its stores made
-abbrev finished : Ask → Tried → Result → Tried
-finished a t d =
-    record {
-      world = exec (run (d .stores)) (d .world) .world;
-      number = d .number;
-      spent = plus (t .spent) (storesFor a (d .stores));
-      done = t .done;
-      abandoned = t .abandoned;
-    }
+-- what is counted of a call
+abbrev counts : Ask → Tried → Result → Tried
+counts a t d =
+    record { world = d .world; number = d .number; spent = plus (t .spent) (storesFor a (d .stores)); done = t .done; abandoned = t .abandoned }
 
-pub call-made : (a : Ask) (t : Trial) (img : List ℕ) (x y : Done) (img′ : List ℕ) (number needed : ℕ) (kinds spent : Spent)
-    → result (outcomeOf x) img ≡ exec (callOf a) (worldOf (t .state) img)
-    → number ≡ numberOf (x .answer) → needed ≡ storesOf (x .answer)
-    → outcomeOf y ≡ runOf (x .state) img needed → img′ ≡ runBytes (x .state) img needed
-    → kinds ≡ storesFor a needed → spent ≡ plus (t .spent) kinds
-    → trialOf (record { state = y .state; number = number; spent = spent; done = t .done; abandoned = t .abandoned }) img′ ≡ made a (trialOf t img)
-unfolding made exec
-call-made a t img x y img′ number needed kinds spent e hn hs ho hi hk hp =
-    let state : y .state ≡ runOf (x .state) img needed .state = ap (λ (o : Outcome). o .state) ho in
-    rw (state, hi, hn, hp, hk, hs) (ap (finished a (trialOf t img)) e)
+pub call-made : (a : Ask) (t : Trial) (words img : List ℕ) (answer : Answer) (words′ img′ : List ℕ) (number stores : ℕ) (kinds spent : Spent)
+    → Finishes (callOf a) words img answer words′ img′
+    → number ≡ numberOf answer → stores ≡ storesOf answer
+    → kinds ≡ storesFor a stores → spent ≡ plus (t .spent) kinds
+    → trialOf (record { number = number; spent = spent; done = t .done; abandoned = t .abandoned }) words′ img′ ≡ made a (trialOf t words img)
+unfolding made
+call-made a t words img answer words′ img′ number stores kinds spent e hn hs hk hp =
+    rw (hn, hp, hk, hs) (ap (counts a (trialOf t words img)) e)
 
 -- ---- room in the journal
 

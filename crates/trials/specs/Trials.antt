@@ -2,12 +2,18 @@
 use Prim.Native.Nat.{ℕ, _+_, _-_, _%_, _^_}
 use mathlib.Core.Bool.{cond}
 use mathlib.Core.List.{List, [], _∷_}
+use mathlib.Core.Path.{_≡_}
 use lib.Dec.{ltb, eqb}
 use Rattle.layout.specs.declared.Sizes.{Sizes}
+use Rattle.fresh.specs.Fresh.{formatBytes}
 use Rattle.refinement.specs.Stores.{World}
 use Rattle.refinement.specs.Calls.{worldOf}
 use Rattle.refinement.specs.Mount.{formatCall}
-use Rattle.refinement.specs.Run.{Call, checkpoint, free, begin, abort, commit, run, write, exec, formattedWorld}
+use Rattle.refinement.specs.Run.{Call, checkpoint, free, begin, abort, commit, run, write, Result, result, exec}
+use Rattle.answers.specs.declared.Answer.{Answer}
+use Rattle.answers.specs.Answers.{answeredAt}
+use Rattle.state_words.specs.Decoded.{decoded}
+use Rattle.call_mount.specs.Replacing.{replacing}
 use Rattle.trials.specs.declared.Ask.{Ask}
 use Rattle.trials.specs.declared.Ask.the-variants.{Begin, Write, Free, Checkpoint, Commit, Abort}
 use Rattle.trials.specs.declared.Spent.{Spent}
@@ -21,6 +27,14 @@ callOf Free = free
 callOf Checkpoint = checkpoint
 callOf Commit = commit 0
 callOf Abort = abort 0
+
+-- a call with all the stores that it needs made
+abbrev pub toEnd : Result → Result
+toEnd d = record { number = d .number; stores = d .stores; world = exec (run (d .stores)) (d .world) .world; target = d .target }
+
+-- that an answer, with the words and the image after it, is what such a call comes to
+abbrev pub Finishes : Call → List ℕ → List ℕ → Answer → List ℕ → List ℕ → Type 0
+Finishes c words img a words′ img′ = result (answeredAt a (decoded words′)) img′ ≡ toEnd (exec c (worldOf (decoded words) img))
 
 -- ---- stores by what they are for
 
@@ -62,22 +76,33 @@ pub record Tried : Type 0 where
   pub done : ℕ
   pub abandoned : ℕ
 
--- the code keeps the image apart
-abbrev pub trialOf : Trial → List ℕ → Tried
-trialOf t img =
-    record { world = worldOf (t .state) img; number = t .number; spent = t .spent; done = t .done; abandoned = t .abandoned }
+-- the code keeps the state's words and the image apart
+abbrev pub trialOf : Trial → List ℕ → List ℕ → Tried
+trialOf t words img =
+    record { world = worldOf (decoded words) img; number = t .number; spent = t .spent; done = t .done; abandoned = t .abandoned }
 
--- a format; its stores are not counted
-unfoldable pub formatted : Sizes → List ℕ → Tried
-formatted z buffer =
-    record { world = formattedWorld z buffer; number = formatCall z buffer .number; spent = nothing; done = 0; abandoned = 0 }
+-- before the first call
+abbrev pub untried : World → Tried
+untried v = record { world = v; number = 0; spent = nothing; done = 0; abandoned = 0 }
+
+-- a format; its stores are not counted. Where it is refused the world stays
+unfoldable pub formatted : Sizes → World → Tried
+formatted z v =
+    let o = formatCall z (v .image) in
+    record {
+      world = worldOf (replacing (v .st) o .state) (formatBytes z (v .image));
+      number = o .number;
+      spent = nothing;
+      done = 0;
+      abandoned = 0;
+    }
 
 -- one call, and all the stores that it needs
 unfoldable pub made : Ask → Tried → Tried
 made a t =
-    let d = exec (callOf a) (t .world) in
+    let d = toEnd (exec (callOf a) (t .world)) in
     record {
-      world = exec (run (d .stores)) (d .world) .world;
+      world = d .world;
       number = d .number;
       spent = plus (t .spent) (storesFor a (d .stores));
       done = t .done;

@@ -1,32 +1,36 @@
-// The calls of a round.
-ghost use mathlib.Core.Path.{_≡_};
+// The calls of a round, each run to its end.
 ghost use mathlib.Core.List.{[], _∷_};
-ghost use Rattle.answers.specs.Answers.{outcomeOf};
-ghost use Rattle.refinement.specs.Calls.{worldOf, writeOf};
-ghost use Rattle.refinement.specs.Run.{result, exec};
-ghost use Rattle.trials.specs.Trials.{callOf};
+ghost use Rattle.refinement.specs.Run.{write};
+ghost use Rattle.trials.specs.Trials.{callOf, Finishes};
 use crate::Ask;
-use answers::Done;
-use state::State;
+use answers::Answer;
+use call_write::Span;
+use op_stores::Until;
 
 // A write of one byte to the start of a page.
-fn write_first(st: State, image: &[u8], page: usize, byte: u8) -> Done
-    ensures { λ r. ⌜ outcomeOf r ≡ writeOf st (now (image .entry)) 0 page 0 0 1 (byte ∷ []) ⌝ }
+fn write_first(image: &mut [u8], words: &mut [u64; 256], page: usize, byte: u8) -> Answer
+    ensures { λ r. ⌜ Finishes (write 0 page 0 0 1 (byte ∷ [])) (now (words .entry)) (now (image .entry)) r (now (words .exit)) (now (image .exit)) ⌝ }
 {
     let bytes = [byte];
-    transactions::write(st, image, 0, page, 0, 0, 1, &bytes)
+    let span = Span {
+        page,
+        line: 0,
+        offset: 0,
+        length: 1,
+    };
+    call_write::write(image, words, 0, span, &bytes, Until::End)
 }
 
-// The call, its stores not yet made.
-pub fn ask(st: State, image: &[u8], a: Ask) -> Done
-    ensures { λ r. ⌜ result (outcomeOf r) (now (image .entry)) ≡ exec (callOf a) (worldOf st (now (image .entry))) ⌝ }
+// The call, and all the stores that it needs.
+pub fn call(image: &mut [u8], words: &mut [u64; 256], a: Ask) -> Answer
+    ensures { λ r. ⌜ Finishes (callOf a) (now (words .entry)) (now (image .entry)) r (now (words .exit)) (now (image .exit)) ⌝ }
 {
     match a {
-        Ask::Begin => writers::begin(st, 0),
-        Ask::Write { page, byte } => write_first(st, image, page, byte),
-        Ask::Free => freeing::free_slot(st, image),
-        Ask::Checkpoint => transactions::checkpoint(st, image),
-        Ask::Commit => transactions::commit(st, image, 0),
-        Ask::Abort => writers::abort(st, 0),
+        Ask::Begin => call_begin::begin(words, 0),
+        Ask::Write { page, byte } => write_first(image, words, page, byte),
+        Ask::Free => call_consolidate::free_slot(image, words, Until::End),
+        Ask::Checkpoint => call_checkpoint::checkpoint(image, words, Until::End),
+        Ask::Commit => call_commit::commit(image, words, 0, Until::End),
+        Ask::Abort => call_begin::abort(words, 0),
     }
 }

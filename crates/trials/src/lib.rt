@@ -6,9 +6,10 @@ pub mod rounds;
 ghost use mathlib.Core.Path.{_≡_};
 ghost use mathlib.Core.List.{List};
 ghost use Prim.Native.Nat.{ℕ};
-ghost use Rattle.trials.specs.Trials.{trialOf, formatted, asAbandoned};
+ghost use Rattle.refinement.specs.Calls.{worldOf};
+ghost use Rattle.state_words.specs.Decoded.{decoded};
+ghost use Rattle.trials.specs.Trials.{trialOf, untried, formatted, asAbandoned};
 use layout::Sizes;
-use state::State;
 
 // The calls that a round makes, all by writer 0; a write puts a byte at the start of a page.
 pub enum Ask {
@@ -28,23 +29,18 @@ pub struct Spent {
     pub tables: u64,
 }
 
-// The store's state, the number of the last call's answer, the stores made and the rounds so far.
+// The number of the last call's answer, the stores made and the rounds so far. The store's state and image are lent beside it.
 pub struct Trial {
-    pub state: State,
     pub number: usize,
     pub spent: Spent,
     pub done: u64,
     pub abandoned: u64,
 }
 
-// A store of these sizes, formatted; where format refuses them, its number.
-pub fn start(image: &mut [u8], z: Sizes) -> Trial
-    ensures { λ r. ⌜ trialOf r (now (image .exit)) ≡ formatted z (now (image .entry)) ⌝ }
+// No call is made yet.
+pub fn nothing_tried() -> Trial
+    ensures { λ r. ⌜ ((words img : List ℕ) → trialOf r words img ≡ untried (worldOf (decoded words) img)) ⌝ }
 {
-    let fresh = mounting::format(image, z);
-    let answer = fresh.answer;
-    let number = answers::number_of(answer);
-    let state = fresh.state;
     let spent = Spent {
         written: 0,
         journal: 0,
@@ -52,17 +48,26 @@ pub fn start(image: &mut [u8], z: Sizes) -> Trial
         tables: 0,
     };
     Trial {
-        state,
-        number,
+        number: 0,
         spent,
         done: 0,
         abandoned: 0,
     }
 }
 
+// A store of these sizes, formatted; where format refuses them, its number, and the words stay.
+pub fn start(image: &mut [u8], words: &mut [u64; 256], z: Sizes) -> Trial
+    ensures { λ r. ⌜ trialOf r (now (words .exit)) (now (image .exit)) ≡ formatted z (worldOf (decoded (now (words .entry))) (now (image .entry))) ⌝ }
+{
+    let answer = call_mount::format(image, words, z);
+    let mut t = nothing_tried();
+    t.number = answers::number_of(answer);
+    t
+}
+
 // A round that is abandoned unbegun.
 pub fn abandon(t: Trial) -> Trial
-    ensures { λ r. ⌜ ((img : List ℕ) → trialOf r img ≡ asAbandoned (trialOf t img)) ⌝ }
+    ensures { λ r. ⌜ ((words img : List ℕ) → trialOf r words img ≡ asAbandoned (trialOf t words img)) ⌝ }
 {
     let mut next = t;
     next.abandoned = counts::one_more(t.abandoned);

@@ -5,7 +5,7 @@ use mathlib.Core.List.{List, [], _∷_, _++_}
 use mathlib.Core.Path.{_≡_, sym, ap, _∙_}
 use native.Mathlib.Numerals.{add-one}
 use native.Mathlib.Omega.{arith}
-use lib.ListN.{length, take, getD, set, length-append, length-set}
+use lib.ListN.{length, take, getD, set, replicate, length-append, length-set}
 use lib.Seq.{take-all, take-take, take-append-le, take-suc, take-suc-set}
 use borrow.Author.Tests.{eq-eqb, ne-eqb}
 use Rattle.cutting.specs.Buffers.{Holds}
@@ -67,25 +67,25 @@ module _ {line : List ℕ} {kept : ℕ} {begun : List ℕ} (h : Holds line kept 
   line-told : parsed 9 (take kept line) ≡ numbersOf begun
   line-told = ap (parsed 9) (h .bytes) ∙ rw size (cut-line 9 1024 (prefixed begun) (omega arith))
 
-module _ {s : Reading} {img line : List ℕ} (size : length line ≡ 1024) where
+module _ {s : Reading} {ws img line : List ℕ} (size : length line ≡ 1024) where
   -- a line that ends is taken by what the buffer has of it
-  acts : (r : Session) (img′ : List ℕ) → workOf r img′ ≡ acted (parsed 9 (take (s .kept) line)) (workOf (s .session) img)
-      → (f : Fed Work) → Shows s img line f → workOf r img′ ≡ act (f .done) (f .begun)
-  acts r img′ e f shows = e ∙ ap (λ (q : Line). acted q (workOf (s .session) img)) (line-told (shows .next) size) ∙ rw (shows .done)
+  acts : (r : Session) (ws′ img′ : List ℕ) → workOf r ws′ img′ ≡ acted (parsed 9 (take (s .kept) line)) (workOf (s .session) ws img)
+      → (f : Fed Work) → Shows s ws img line f → workOf r ws′ img′ ≡ act (f .done) (f .begun)
+  acts r ws′ img′ e f shows = e ∙ ap (λ (q : Line). acted q (workOf (s .session) ws img)) (line-told (shows .next) size) ∙ rw (shows .done)
 
 -- ---- a byte
 
-module _ {s : Reading} {img line : List ℕ} (size : length line ≡ 1024) (b : ℕ) where
-  pub takes-newline : b ≡ 10 → (r : Session) (img′ : List ℕ) → workOf r img′ ≡ acted (parsed 9 (take (s .kept) line)) (workOf (s .session) img)
-      → Takes s img line (b ∷ []) (record { session = r; kept = 2; more = s .more }) img′ line
+module _ {s : Reading} {ws img line : List ℕ} (size : length line ≡ 1024) (b : ℕ) where
+  pub takes-newline : b ≡ 10 → (r : Session) (ws′ img′ : List ℕ) → workOf r ws′ img′ ≡ acted (parsed 9 (take (s .kept) line)) (workOf (s .session) ws img)
+      → Takes s ws img line (b ∷ []) (record { session = r; kept = 2; more = s .more }) ws′ img′ line
   unfolding fed fedByte
-  takes-newline n r img′ e =
+  takes-newline n r ws′ img′ e =
       record {
-        shows = λ f shows. rw n (record { done = acts size r img′ e f shows; next = holds-again (shows .next) size });
+        shows = λ f shows. rw n (record { done = acts size r ws′ img′ e f shows; next = holds-again (shows .next) size });
         fits = omega arith;
       }
 
-  pub takes-full : (b ≡ 10 → ⊥) → 1024 ≤ s .kept → s .kept ≤ 1024 → Takes s img line (b ∷ []) s img line
+  pub takes-full : (b ≡ 10 → ⊥) → 1024 ≤ s .kept → s .kept ≤ 1024 → Takes s ws img line (b ∷ []) s ws img line
   unfolding fed fedByte
   takes-full n full fits =
       record {
@@ -93,7 +93,7 @@ module _ {s : Reading} {img line : List ℕ} (size : length line ≡ 1024) (b : 
         fits = fits;
       }
 
-  pub takes-byte : (b ≡ 10 → ⊥) → s .kept < 1024 → Takes s img line (b ∷ []) (record { session = s .session; kept = s .kept + 1; more = s .more }) img (set line (s .kept) b)
+  pub takes-byte : (b ≡ 10 → ⊥) → s .kept < 1024 → Takes s ws img line (b ∷ []) (record { session = s .session; kept = s .kept + 1; more = s .more }) ws img (set line (s .kept) b)
   unfolding fed fedByte
   takes-byte n some =
       record {
@@ -103,14 +103,14 @@ module _ {s : Reading} {img line : List ℕ} (size : length line ≡ 1024) (b : 
 
 -- ---- more bytes
 
-module _ {s : Reading} {img line : List ℕ} where
-  pub takes-none : s .kept ≤ 1024 → Takes s img line [] s img line
+module _ {s : Reading} {ws img line : List ℕ} where
+  pub takes-none : s .kept ≤ 1024 → Takes s ws img line [] s ws img line
   unfolding fed
   takes-none h = record { shows = λ f shows. shows; fits = h }
 
   -- whether there is more to read is no part of it
-  pub takes-more : {bytes : List ℕ} {r : Reading} {img′ line′ : List ℕ} (more : Bool) → Takes s img line bytes r img′ line′
-      → Takes s img line bytes (record { session = r .session; kept = r .kept; more = more }) img′ line′
+  pub takes-more : {bytes : List ℕ} {r : Reading} {ws′ img′ line′ : List ℕ} (more : Bool) → Takes s ws img line bytes r ws′ img′ line′
+      → Takes s ws img line bytes (record { session = r .session; kept = r .kept; more = more }) ws′ img′ line′
   takes-more more g =
       record {
         shows = λ f shows.
@@ -118,22 +118,22 @@ module _ {s : Reading} {img line : List ℕ} where
         fits = g .fits;
       }
 
-  pub takes-then : {a b : List ℕ} {q r : Reading} {img′ line′ img″ line″ : List ℕ}
-      → Takes s img line a q img′ line′ → Takes q img′ line′ b r img″ line″ → Takes s img line (a ++ b) r img″ line″
+  pub takes-then : {a b : List ℕ} {q r : Reading} {ws′ img′ line′ ws″ img″ line″ : List ℕ}
+      → Takes s ws img line a q ws′ img′ line′ → Takes q ws′ img′ line′ b r ws″ img″ line″ → Takes s ws img line (a ++ b) r ws″ img″ line″
   takes-then {a = a} g h = record { shows = λ f shows. rw fed-append (h .shows (fed act f a) (g .shows f shows)); fits = h .fits }
 
-  module _ (piece : List ℕ) (i : ℕ) {q : Reading} {img′ line′ : List ℕ} (g : Takes s img line (take i piece) q img′ line′) where
-    pub takes-next : i < length piece → {r : Reading} {img″ line″ : List ℕ} → Takes q img′ line′ (getD piece i 0 ∷ []) r img″ line″
-        → Takes s img line (take (i + 1) piece) r img″ line″
+  module _ (piece : List ℕ) (i : ℕ) {q : Reading} {ws′ img′ line′ : List ℕ} (g : Takes s ws img line (take i piece) q ws′ img′ line′) where
+    pub takes-next : i < length piece → {r : Reading} {ws″ img″ line″ : List ℕ} → Takes q ws′ img′ line′ (getD piece i 0 ∷ []) r ws″ img″ line″
+        → Takes s ws img line (take (i + 1) piece) r ws″ img″ line″
     takes-next some h = rw (add-one, take-suc piece i 0 some) (takes-then g h)
 
-    pub takes-all : length piece ≤ i → Takes s img line piece q img′ line′
+    pub takes-all : length piece ≤ i → Takes s ws img line piece q ws′ img′ line′
     takes-all end = rw (take-all i piece end) at g
 
 -- ---- the input's end
 
-module _ {s : Reading} {img line : List ℕ} (size : length line ≡ 1024) where
-  pub closes-none : s .kept ≤ 2 → Closes s img line (s .session) img
+module _ {s : Reading} {ws img line : List ℕ} (size : length line ≡ 1024) where
+  pub closes-none : s .kept ≤ 2 → Closes s ws img line (s .session) ws img
   unfolding ended
   closes-none h =
       record {
@@ -142,23 +142,23 @@ module _ {s : Reading} {img line : List ℕ} (size : length line ≡ 1024) where
             rw (eq-eqb (length (f .begun)) 0 none) (shows .done);
       }
 
-  pub closes-some : 2 < s .kept → (r : Session) (img′ : List ℕ) → workOf r img′ ≡ acted (parsed 9 (take (s .kept) line)) (workOf (s .session) img)
-      → Closes s img line r img′
+  pub closes-some : 2 < s .kept → (r : Session) (ws′ img′ : List ℕ) → workOf r ws′ img′ ≡ acted (parsed 9 (take (s .kept) line)) (workOf (s .session) ws img)
+      → Closes s ws img line r ws′ img′
   unfolding ended
-  closes-some h r img′ e =
+  closes-some h r ws′ img′ e =
       record {
         done = λ f shows.
-            rw (ne-eqb (length (f .begun)) 0 (λ none. omega (arith, holds-length (shows .next)))) (acts size r img′ e f shows);
+            rw (ne-eqb (length (f .begun)) 0 (λ none. omega (arith, holds-length (shows .next)))) (acts size r ws′ img′ e f shows);
       }
 
-pub shows-first : (s : Session) (img img′ line : List ℕ) (more : Bool) → length line ≡ 1024 → workOf s img′ ≡ first img
-    → Shows (record { session = s; kept = 2; more = more }) img′ (set (set line 0 82) 1 44) (nothingRead img)
-shows-first s img img′ line more size e = record { done = e; next = holds-first line size }
+pub shows-first : (s : Session) (img line : List ℕ) (more : Bool) → length line ≡ 1024 → workOf s (replicate 256 0) img ≡ first img
+    → Shows (record { session = s; kept = 2; more = more }) (replicate 256 0) img (set (set line 0 82) 1 44) (nothingRead img)
+shows-first s img line more size e = record { done = e; next = holds-first line size }
 
-pub responds : {s q : Reading} {r : Session} {img img₁ line₁ img₂ line₂ img₃ out out′ : List ℕ} {n : ℕ} → Shows s img₁ line₁ (nothingRead img)
-    → TakesSome s img₁ line₁ q img₂ line₂ → Closes q img₂ line₂ r img₃ → PutResponse r out out′ n → Responds img out out′ n
-responds {img = img} {img₃ = img₃} shows reads ends put =
+pub responds : {s q : Reading} {r : Session} {ws₁ img line₁ ws₂ img₂ line₂ ws₃ img₃ out out′ : List ℕ} {n : ℕ} → Shows s ws₁ img line₁ (nothingRead img)
+    → TakesSome s ws₁ img line₁ q ws₂ img₂ line₂ → Closes q ws₂ img₂ line₂ r ws₃ img₃ → PutResponse r out out′ n → Responds img out out′ n
+responds {img = img} {ws₃ = ws₃} {img₃ = img₃} shows reads ends put =
     record {
       input = reads .bytes;
-      text = put-as (ap response (ends .done (fed act (nothingRead img) (reads .bytes)) (reads .goes .shows (nothingRead img) shows))) (put .text img₃);
+      text = put-as (ap response (ends .done (fed act (nothingRead img) (reads .bytes)) (reads .goes .shows (nothingRead img) shows))) (put .text ws₃ img₃);
     }

@@ -31,8 +31,8 @@ fed-unread w h begun (b ∷ bytes) =
 
 pub not-read : NotRead
 unfolding ended
-not-read s image h begun bytes =
-    let w = workOf s image in
+not-read s words image h begun bytes =
+    let w = workOf s words image in
     let f = fed act (record { done = w; begun = begun }) bytes in
     let e = fed-unread w h begun bytes in
     row-keeps (λ (u : Work). u ≡ w) (eqb (length (f .begun)) 0) (f .done) (act (f .done) (f .begun)) e (rw e (line-unread w (f .begun) h))

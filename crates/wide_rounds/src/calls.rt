@@ -1,8 +1,8 @@
 // Calls as rows: the call, its writer, page and line, and the stores of the run that follows it.
-use answers::Done;
+use answers::Answer;
+use call_write::Span;
 use layout::Sizes;
-use state::State;
-use state::Wide;
+use op_stores::Until;
 
 const BEGIN: usize = 1;
 
@@ -196,50 +196,53 @@ pub fn row_at(place: usize) -> [usize; 5] {
 }
 
 // A fresh store of 4 pages, 2 slots, 3 journal places and 5 entries.
-pub fn fresh(image: &mut [u8]) -> State {
+pub fn fresh(image: &mut [u8], words: &mut [u64; 256]) {
     let z = Sizes {
         pages: 4,
         slots: 2,
         places: 3,
         entries: 5,
     };
-    mounting::format(image, z).state
+    let _ = call_mount::format(image, words, z);
 }
 
-// The state with another wide transaction.
-fn edited(st: State, row: [usize; 5]) -> Done {
-    let mut keys = st.wide.keys;
-    keys[0] = row[3] as u64;
-    let wide = Wide {
-        writer: row[1],
-        count: row[2],
-        keys,
+// Writes a byte to the start of the row's line.
+fn write(image: &mut [u8], words: &mut [u64; 256], row: [usize; 5], byte: u8) -> Answer {
+    let data = [byte; 1];
+    let span = Span {
+        page: row[2],
+        line: row[3],
+        offset: 0,
+        length: 1,
     };
-    let mut after = st;
-    after.wide = wide;
-    answers::taken(0, after)
+    call_write::write(image, words, row[1], span, &data, Until::Asked)
 }
 
-// Makes a call; a write writes the byte.
-pub fn made(st: State, image: &[u8], row: [usize; 5], byte: u8) -> Done {
+// Replaces the wide transaction.
+fn edit(words: &mut [u64; 256], row: [usize; 5]) -> Answer {
+    state_words::put_wide(words, row[1], row[2]);
+    state_words::put_key(words, 0, row[3] as u64);
+    Answer::Taken(0)
+}
+
+// Makes a call; a write writes the byte. An operation is asked for, its stores not yet made.
+pub fn made(image: &mut [u8], words: &mut [u64; 256], row: [usize; 5], byte: u8) -> Answer {
     let moduli = meters::fixed_moduli();
+    let asked = Until::Asked;
     match row[0] {
-        BEGIN => writers::begin(st, row[1]),
-        ABORT => writers::abort(st, row[1]),
-        WRITE => {
-            let data = [byte; 1];
-            transactions::write(st, image, row[1], row[2], row[3], 0, 1, &data)
-        }
-        COMMIT => transactions::commit(st, image, row[1]),
-        CONSOLIDATE => transactions::consolidate(st, image, row[2]),
-        CHECKPOINT => transactions::checkpoint(st, image),
-        MOUNT => mounting::mount(image),
-        FREE_SLOT => freeing::free_slot(st, image),
-        PREPARE => preparing::prepare(st, image, row[1]),
-        CONFIRM => preparing::confirm(st, image, row[1]),
-        WITHDRAW => preparing::withdraw(st, image, row[1]),
-        EVENT => events::event(st, image, row[2], 23, 1, &moduli),
-        BEGIN_WIDE => writers::begin_wide(st, row[1]),
-        _ => edited(st, row),
+        BEGIN => call_begin::begin(words, row[1]),
+        ABORT => call_begin::abort(words, row[1]),
+        WRITE => write(image, words, row, byte),
+        COMMIT => call_commit::commit(image, words, row[1], asked),
+        CONSOLIDATE => call_consolidate::consolidate(image, words, row[2], asked),
+        CHECKPOINT => call_checkpoint::checkpoint(image, words, asked),
+        MOUNT => call_mount::mount(image, words),
+        FREE_SLOT => call_consolidate::free_slot(image, words, asked),
+        PREPARE => call_prepare::prepare(image, words, row[1], asked),
+        CONFIRM => call_prepare::confirm(image, words, row[1], asked),
+        WITHDRAW => call_prepare::withdraw(image, words, row[1]),
+        EVENT => call_event::event(image, words, row[2], 23, 1, &moduli, asked),
+        BEGIN_WIDE => call_begin::begin_wide(words, row[1]),
+        _ => edit(words, row),
     }
 }

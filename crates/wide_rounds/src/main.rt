@@ -10,6 +10,7 @@ mod turns;
 
 fn main() {
     let mut image = [0u8; 25192];
-    cuts::show_cuts(&mut image);
-    turns::play(&mut image);
+    let mut words = [0u64; 256];
+    cuts::show_cuts(&mut image, &mut words);
+    turns::play(&mut image, &mut words);
 }

@@ -1,6 +1,5 @@
 // What calls give, as numbers.
 use answers::Answer;
-use state::State;
 
 // A refused call's number, 1,000 times.
 fn refused(number: usize) -> u64 {
@@ -26,9 +25,9 @@ pub fn recalled(image: &[u8], page: usize, line: usize) -> u64 {
 }
 
 // The first word of a line that a writer reads.
-pub fn read(st: State, image: &[u8], writer: usize, page: usize, line: usize) -> u64 {
+pub fn read(image: &[u8], words: &[u64; 256], writer: usize, page: usize, line: usize) -> u64 {
     let mut target = [0u8; 64];
-    let answer = reading::read(st, image, writer, page, line, &mut target);
+    let answer = call_read::read(image, words, writer, page, line, &mut target);
     let number = answers::number_of(answer);
     if number != 0 {
         return refused(number);

@@ -1,20 +1,25 @@
 -- The turn of a line that has its letter's form, and of one that has not.
 use mathlib.Core.Bool.{Bool, true, false}
-use mathlib.Core.Path.{_≡_, ap, _∙_}
+use mathlib.Core.Path.{_≡_, ap, ap₂, _∙_}
+use Rattle.state.specs.State.{State}
 use Rattle.refinement.specs.Outcome.{Outcome}
-use Rattle.workbench.specs.Turns.{other, formed, called, replacing}
-use Rattle.workbench.specs.declared.Bench.{Bench}
-use Rattle.workbench.specs.declared.Turn.{Turn}
+use Rattle.answers.specs.declared.Answer.{Answer}
+use Rattle.answers.specs.Answers.{answeredAt}
+use Rattle.workbench.specs.declared.Said.{Said}
+use Rattle.workbench.specs.declared.Said.the-variants.{OtherForm}
+use Rattle.workbench.specs.Turns.{Turn, done, edited, shown, formed, called, answerSaid}
 
-pub has-form : (r : Turn) (ok : Bool) (b : Bench) (t : Turn) → ok ≡ true → r ≡ t → r ≡ formed ok b t
-has-form r ok b t e h = rw e h
+pub has-form : (r : Turn) (ok : Bool) (st : State) (t : Turn) → ok ≡ true → r ≡ t → r ≡ formed ok st t
+has-form r ok st t e h = rw e h
 
--- the turn of a call, and of a format or a mount, by what the call came to
-pub has-called : (r : Turn) (ok : Bool) (b : Bench) (d : Outcome) (o : Outcome) → ok ≡ true → d ≡ o → r ≡ called b d → r ≡ formed ok b (called b o)
-has-called r ok b d o e k h = has-form r ok b (called b o) e (h ∙ ap (called b) k)
+pub has-not : (r : Said) (ok : Bool) (st : State) (t : Turn) → ok ≡ false → r ≡ OtherForm → shown st r ≡ formed ok st t
+has-not r ok st t e h = rw e (ap (shown st) h)
 
-pub has-replaced : (r : Turn) (ok : Bool) (b : Bench) (d : Outcome) (o : Outcome) → ok ≡ true → d ≡ o → r ≡ replacing b d → r ≡ formed ok b (replacing b o)
-has-replaced r ok b d o e k h = has-form r ok b (replacing b o) e (h ∙ ap (replacing b) k)
+-- the turn of an edit, by the state that it leaves
+pub has-edited : (r : Said) (ok : Bool) (st after next : State) → ok ≡ true → after ≡ next → r ≡ done → shown after r ≡ formed ok st (edited next)
+has-edited r ok st after next e k h = has-form (shown after r) ok st (edited next) e (ap₂ shown k h)
 
-pub has-not : (r : Turn) (ok : Bool) (b : Bench) (t : Turn) → ok ≡ false → r ≡ other b → r ≡ formed ok b t
-has-not r ok b t e h = rw e h
+-- the turn of a call, by its answer and the state that it leaves
+pub has-called : (r : Said) (ok : Bool) (st after : State) (a : Answer) (o : Outcome) → ok ≡ true → answeredAt a after ≡ o → r ≡ answerSaid a
+    → shown after r ≡ formed ok st (called o)
+has-called r ok st after a o e k h = has-form (shown after r) ok st (called o) e (ap (shown after) h ∙ ap called k)

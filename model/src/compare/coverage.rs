@@ -6,7 +6,7 @@ use std::fmt;
 use super::Kind;
 
 /// Lines of these letters are calls of the store; the others set or show something.
-const CALLS: &str = "FMXBACDPWSNRE";
+const CALLS: &str = "FMXBACDPWSNREn";
 
 #[derive(Default)]
 pub struct Coverage {
@@ -75,6 +75,7 @@ fn reachable(kind: Kind) -> &'static [(char, &'static [u8])] {
             ('R', &[0, 8, 4, 9, 11, 16]),
             ('S', &[0, 8, 4, 10]),
             ('N', &[0, 8, 4, 10]),
+            ('n', &[0, 8, 4, 10]),
         ],
     }
 }

@@ -113,7 +113,7 @@ pub(super) fn finish(scribe: &mut Scribe) {
         return;
     }
     for _ in 0..scribe.rng.below(4) {
-        let line = scribe.rng.pick(&["S", "S", "S", "N,0", "N,1", "N,2", "N,4", "N,7", "N,8"]);
+        let line = scribe.rng.pick(&["n", "S", "S", "S", "N,0", "N,1", "N,2", "N,4", "N,7", "N,8"]);
         scribe.say(line);
         if scribe.rng.percent(10) {
             look(scribe);
@@ -145,6 +145,7 @@ pub(super) fn any_call(scribe: &mut Scribe) -> String {
         (3, b'M'),
         (4, b'S'),
         (4, b'N'),
+        (3, b'n'),
         (7, b'G'),
         (3, b'H'),
     ];

@@ -73,6 +73,7 @@ impl Session {
             b'G' | b'H' => self.print(letter, numbers).map(|last| Ok((0, last))),
             b'F' | b'M' => self.replace_state(letter, numbers).map(plain),
             b'R' | b'E' => self.show(letter, numbers),
+            b'n' => self.tell(numbers),
             _ => self.call(letter, numbers).map(plain),
         }
     }
@@ -124,6 +125,12 @@ impl Session {
             _ => return None,
         };
         Some(answer.map(|()| (0, print::hash(&target[..64]).to_string())))
+    }
+
+    /// Next store: its word's number, and 1 where it decides.
+    fn tell(&self, numbers: &[u64]) -> Option<Answer<Printed>> {
+        let told = numbers.is_empty().then(|| calls::next_store(&self.state, &self.buffer[..self.lent]))?;
+        Some(told.map(|(word, decides)| (word, u64::from(decides).to_string())))
     }
 
     /// The other calls: the stores needed or, for step and run, made.

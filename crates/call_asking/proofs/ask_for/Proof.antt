@@ -3,7 +3,7 @@ use mathlib.Core.List.{List, _++_}
 use mathlib.Core.Path.{_≡_, refl, ap}
 use lib.ListN.{length}
 use Rattle.bounded.specs.Rows.{Row}
-use Rattle.state.specs.declared.State.{State}
+use Rattle.state.specs.State.{State}
 use Rattle.operations.specs.Operations.{opRows}
 use Rattle.refinement.specs.Calls.{quietRows}
 use Rattle.answers.specs.Answers.{numberOf}

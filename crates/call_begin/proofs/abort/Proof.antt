@@ -1,13 +1,12 @@
 use borrow.Author.Needs.{needs}
 use mathlib.Core.Path.{_≡_, refl, sym, ap, _∙_}
 use native.Mathlib.Omega.{arith}
-use Rattle.state.specs.declared.State.{State}
+use Rattle.state.specs.State.{State}
 use Rattle.state.specs.declared.Places.{Places}
 use Rattle.refinement.specs.Calls.{abortRows, abortOf}
 use Rattle.refinement.proofs.Begun.{AbortTaken, abort-taken, aborting}
 use Rattle.refinement.proofs.Going.{ranges-of}
-use Rattle.answers.proofs.Answered.{row-known}
-use Rattle.writers_in_place.proofs.WriterCalls.{writer-refused, writer-taken}
+use Rattle.answers.proofs.Answered.{row-known, row-refused, row-taken}
 use Rattle.state_words.specs.Decoded.{decoded}
 use Rattle.call_begin.proofs.CallLaws.{narrow-aborted, wide-aborted}
 use Rattle.call_begin.proofs.abort.Statement.{statement}
@@ -32,7 +31,7 @@ returns c =
     let r = c .before .before in
     let s = start r in
     let rs = abortRows (st s) (s .args .writer) in
-    (writer-refused (st s) (aborting (st s) (s .args .writer)) rs _ (r .abort-row .ensures) _ (c .before .if1 .taken) (row-known rs (omega arith)) (c .answer-of .ensures), λ n. refl)
+    (row-refused (st s) (aborting (st s) (s .args .writer)) rs _ (r .abort-row .ensures) _ (c .before .if1 .taken) (row-known rs (omega arith)) (c .answer-of .ensures), λ n. refl)
 
 put-open-requires : tie.Need-put-open-requires
 put-open-requires c κs = may (c .before) .writer-low
@@ -51,7 +50,7 @@ returns-2 c =
     let e = o .before .before in
     let r = e .before in
     let s = start r in (
-      writer-taken (st s) (aborting (st s) (s .args .writer)) (abortRows (st s) (s .args .writer)) _ (r .abort-row .ensures) _ (e .if1 .left)
+      row-taken (st s) (aborting (st s) (s .args .writer)) (abortRows (st s) (s .args .writer)) _ (r .abort-row .ensures) _ (e .if1 .left)
           (narrow-aborted (st s) _ _ _ (s .args .writer) (r .before .before .before .before .sizes-in .ensures) (o .put-open .ensures .0) (l .let-go .ensures) (λ q. c .if2 .taken (wide r ∙ q))),
       λ n. absurd (n refl),
     )
@@ -65,7 +64,7 @@ returns-3 c =
     let e = o .before .before in
     let r = e .before in
     let s = start r in (
-      writer-taken (st s) (aborting (st s) (s .args .writer)) (abortRows (st s) (s .args .writer)) _ (r .abort-row .ensures) _ (e .if1 .left)
+      row-taken (st s) (aborting (st s) (s .args .writer)) (abortRows (st s) (s .args .writer)) _ (r .abort-row .ensures) _ (e .if1 .left)
           (wide-aborted (st s) _ _ _ (s .args .writer) (r .before .before .before .before .sizes-in .ensures) (o .put-open .ensures .0) (l .let-go .ensures) _ (sym (wide r) ∙ i .if2 .left) (c .put-no-wide .ensures)),
       λ n. absurd (n refl),
     )

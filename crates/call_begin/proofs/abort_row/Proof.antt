@@ -8,7 +8,7 @@ use lib.Dec.{eqb}
 use borrow.Author.Tests.{eq-eqb, ne-eqb}
 use Rattle.bounded.specs.Rows.{Row, refusal, Past}
 use Rattle.bounded.proofs.Rows.{row-at, row-none, rows-first, rows-then}
-use Rattle.state.specs.declared.State.{State}
+use Rattle.state.specs.State.{State}
 use Rattle.state.specs.declared.Places.{Places}
 use Rattle.state.specs.Held.{isOpen}
 use Rattle.refinement.specs.Calls.{abortRows}

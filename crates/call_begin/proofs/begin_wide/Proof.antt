@@ -1,11 +1,10 @@
 use borrow.Author.Needs.{needs}
 use mathlib.Core.Path.{_≡_, refl, sym, _∙_}
 use native.Mathlib.Omega.{arith}
-use Rattle.state.specs.declared.State.{State}
+use Rattle.state.specs.State.{State}
 use Rattle.refinement.specs.Calls.{beginWideRows, beginWideOf}
 use Rattle.refinement.proofs.Begun.{begin-wide-taken, beginningWide}
-use Rattle.answers.proofs.Answered.{row-known}
-use Rattle.writers_in_place.proofs.WriterCalls.{writer-refused, writer-taken}
+use Rattle.answers.proofs.Answered.{row-known, row-refused, row-taken}
 use Rattle.state_words.specs.Decoded.{decoded}
 use Rattle.call_begin.proofs.CallLaws.{wide-begun}
 use Rattle.call_begin.proofs.begin_wide.Statement.{statement}
@@ -20,7 +19,7 @@ returns c =
     let r = c .before .before in
     let s = r .before .before in
     let rs = beginWideRows (st s) (s .args .writer) in
-    (writer-refused (st s) (beginningWide (st s) (s .args .writer)) rs _ (r .wide-row .ensures) _ (c .before .if1 .taken) (row-known rs (omega arith)) (c .answer-of .ensures), λ n. refl)
+    (row-refused (st s) (beginningWide (st s) (s .args .writer)) rs _ (r .wide-row .ensures) _ (c .before .if1 .taken) (row-known rs (omega arith)) (c .answer-of .ensures), λ n. refl)
 
 put-open-requires : tie.Need-put-open-requires
 put-open-requires c κs =
@@ -36,7 +35,7 @@ returns-2 c =
     let e = o .before .before in
     let r = e .before in
     let s = r .before .before in (
-      writer-taken (st s) (beginningWide (st s) (s .args .writer)) (beginWideRows (st s) (s .args .writer)) _ (r .wide-row .ensures) _ (e .if1 .left)
+      row-taken (st s) (beginningWide (st s) (s .args .writer)) (beginWideRows (st s) (s .args .writer)) _ (r .wide-row .ensures) _ (e .if1 .left)
           (wide-begun (st s) _ _ _ (s .args .writer) (o .put-open .ensures .0) (n .put-no-wide .ensures) (c .put-wide .ensures)),
       λ n. absurd (n refl),
     )

@@ -2,7 +2,7 @@ use borrow.Author.Needs.{needs}
 use mathlib.Core.Path.{_≡_, refl, ap}
 use native.Mathlib.Omega.{arith}
 use lib.ListN.{length}
-use Rattle.state.specs.declared.State.{State}
+use Rattle.state.specs.State.{State}
 use Rattle.refinement.specs.Calls.{freeCallRows, freeOf}
 use Rattle.answers.specs.Answers.{numberOf}
 use Rattle.answers.proofs.Answered.{row-known}

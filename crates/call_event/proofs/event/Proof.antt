@@ -4,13 +4,13 @@ use mathlib.Core.Path.{_≡_, refl, sym, ap, _∙_}
 use native.Mathlib.Omega.{arith}
 use Rattle.meters.specs.Meters.{amountBad}
 use Rattle.meters.proofs.MeterLaws.{first-low}
-use Rattle.state.specs.declared.State.{State}
+use Rattle.state.specs.State.{State}
 use Rattle.state.specs.declared.Pending.{Pending}
 use Rattle.state.specs.declared.Op.the-variants.{Event}
 use Rattle.refinement.specs.Frames.{pageFrame}
 use Rattle.refinement.specs.Calls.{eventLine, eventSecond}
 use Rattle.answers.specs.Answers.{numberOf}
-use Rattle.events.proofs.Asked.{event-pending, asked-facts}
+use Rattle.call_event.proofs.Asked.{event-pending, asked-facts}
 use Rattle.state_words.specs.Decoded.{decoded}
 use Rattle.call_event.proofs.Starting.{event-refused, event-lines, event-asks, event-started}
 use Rattle.call_event.proofs.event.Statement.{statement}

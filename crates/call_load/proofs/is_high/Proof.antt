@@ -14,7 +14,7 @@ use Rattle.image.specs.Lines.{lineBytes}
 use Rattle.lines.proofs.LineLaws.{first-word}
 use Rattle.meters.specs.Meters.{modulusOf}
 use Rattle.replay.specs.Table.{slotIn}
-use Rattle.loading.specs.Loaded.{meterHighAt}
+use Rattle.call_load.specs.Loaded.{meterHighAt}
 use Rattle.state_words.specs.Decoded.{decoded}
 use Rattle.state_lines.specs.Committed.{committedAt}
 use Rattle.call_load.proofs.is_high.Statement.{statement}

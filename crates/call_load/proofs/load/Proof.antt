@@ -7,14 +7,14 @@ use lib.ListN.{length}
 use Rattle.bounded.specs.Rows.{refusal}
 use Rattle.layout.specs.declared.Sizes.{Sizes}
 use Rattle.layout.specs.Layout.{Legal, imageLength}
-use Rattle.state.specs.declared.State.{State}
+use Rattle.state.specs.State.{State}
 use Rattle.moduli_text.proofs.TextLaws.{read-row, read-taken}
 use Rattle.refinement.specs.Calls.{quietRows, loadRows}
 use Rattle.refinement.proofs.Going.{ranges-of}
 use Rattle.refinement.proofs.Quiet.{Quiet, quiet}
 use Rattle.answers.proofs.Answered.{row-known}
-use Rattle.loading.specs.Loaded.{storedRows, FramesLow}
-use Rattle.loading.proofs.Loads.{text-low, frames-low, row-quiet, row-text, row-page, load-refused, load-taken}
+use Rattle.call_load.specs.Loaded.{storedRows, FramesLow}
+use Rattle.call_load.proofs.Loads.{text-low, frames-low, row-quiet, row-text, row-page, load-refused, load-taken}
 use Rattle.state_words.specs.Decoded.{decoded}
 use Rattle.call_load.proofs.load.Statement.{statement}
 use Rattle.call_load.proofs.load.Tie as tie

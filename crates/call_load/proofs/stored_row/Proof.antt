@@ -3,10 +3,10 @@ use mathlib.Core.Path.{_≡_, refl, sym, _∙_}
 use native.Mathlib.Omega.{arith}
 use Rattle.bounded.proofs.Tests.{row-yes, row-no}
 use Rattle.replay.specs.Table.{slotIn}
-use Rattle.state.specs.declared.State.{State}
+use Rattle.state.specs.State.{State}
 use Rattle.state.specs.Slots.{slotOfPage}
 use Rattle.refinement.specs.Frames.{frameAt}
-use Rattle.loading.specs.Loaded.{highAt}
+use Rattle.call_load.specs.Loaded.{highAt}
 use Rattle.state_words.specs.Decoded.{decoded}
 use Rattle.op_rows.specs.Seen.{frameBadIn}
 use Rattle.call_load.proofs.stored_row.Statement.{statement}

@@ -3,7 +3,7 @@ use mathlib.Core.Path.{_≡_, refl, sym, ap, _∙_}
 use Rattle.replay.specs.declared.Table.{Table}
 use Rattle.fresh.specs.Fresh.{formatRow}
 use Rattle.refinement.specs.Mount.{quietState, formatCall, freshState}
-use Rattle.mounting.proofs.Found.{format-known, format-legal}
+use Rattle.call_mount.proofs.Found.{format-known, format-legal}
 use Rattle.state_words.specs.Decoded.{decoded}
 use Rattle.call_mount.proofs.Replaced.{replace-refused, replace-taken}
 use Rattle.call_mount.proofs.format.Statement.{statement}

@@ -4,7 +4,7 @@ use mathlib.Core.Path.{_≡_, refl, sym, ap, _∙_}
 use Rattle.mount.specs.declared.Mounted.{Mounted}
 use Rattle.mount.specs.Mount.{mountOf}
 use Rattle.refinement.specs.Mount.{mountCall, mountedState}
-use Rattle.mounting.proofs.Found.{mount-known, mounted-quiet}
+use Rattle.call_mount.proofs.Found.{mount-known, mounted-quiet}
 use Rattle.state_words.specs.Decoded.{decoded}
 use Rattle.call_mount.proofs.Replaced.{replace-refused, replace-taken, copying-may, copying-left}
 use Rattle.call_mount.proofs.mount.Statement.{statement}

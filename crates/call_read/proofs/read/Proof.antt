@@ -13,7 +13,7 @@ use Rattle.layout.specs.declared.Sizes.{Sizes}
 use Rattle.layout.specs.Layout.{Legal, frames as framesOf, imageLength}
 use Rattle.image.specs.Lines.{lineBytes}
 use Rattle.words.specs.Words.{over}
-use Rattle.state.specs.declared.State.{State}
+use Rattle.state.specs.State.{State}
 use Rattle.state.specs.declared.Places.{Places}
 use Rattle.operations.specs.Operations.{frameBad, slotFor}
 use Rattle.entry_lines.specs.Own.{ownEntry}
@@ -25,7 +25,7 @@ use Rattle.refinement.proofs.Going.{shapes-of}
 use Rattle.refinement.proofs.StateValid.{valid}
 use Rattle.refinement.proofs.Quiet.{Quiet, quiet}
 use Rattle.answers.proofs.Answered.{row-known}
-use Rattle.reading.proofs.ReadLaws.{Asking, asking, read-refused, own-line, frame-line, read-done}
+use Rattle.call_read.proofs.ReadLaws.{Asking, asking, read-refused, own-line, frame-line, read-done}
 use Rattle.state_words.specs.Decoded.{decoded}
 use Rattle.call_read.proofs.Found.{bad-found, seen-found, own-found}
 use Rattle.call_read.proofs.read.Statement.{statement}

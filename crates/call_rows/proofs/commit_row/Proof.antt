@@ -11,7 +11,7 @@ use Rattle.bounded.proofs.Rows.{row-at, row-none, rows-first, rows-then}
 use Rattle.layout.specs.declared.Sizes.{Sizes}
 use Rattle.layout.specs.Layout.{Legal}
 use Rattle.journal.specs.Records.{liveCount}
-use Rattle.state.specs.declared.State.{State}
+use Rattle.state.specs.State.{State}
 use Rattle.state.specs.declared.Places.{Places}
 use Rattle.state.specs.Held.{heldSlots}
 use Rattle.state.proofs.Numbers.{held-le}

@@ -8,7 +8,7 @@ use Rattle.bounded.specs.Rows.{Row, Past}
 use Rattle.bounded.proofs.Rows.{row-at, row-none}
 use Rattle.bounded.proofs.Tests.{held}
 use Rattle.layout.specs.Layout.{imageLength}
-use Rattle.state.specs.declared.State.{State}
+use Rattle.state.specs.State.{State}
 use Rattle.refinement.specs.Calls.{quietRows}
 use Rattle.refinement.proofs.Going.{ranges-of}
 use Rattle.state_words.specs.Decoded.{decoded}

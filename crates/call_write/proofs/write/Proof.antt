@@ -3,12 +3,12 @@ use mathlib.Core.Bool.{not, _&&_}
 use mathlib.Core.Path.{_≡_, refl, sym, ap, _∙_}
 use Rattle.bounded.proofs.Tests.{row-yes, row-no}
 use Rattle.image.specs.Lines.{merged, lineWords}
-use Rattle.state.specs.declared.State.{State}
+use Rattle.state.specs.State.{State}
 use Rattle.state.specs.declared.Pending.{Pending}
 use Rattle.refinement.specs.Calls.{changesNothing}
 use Rattle.answers.specs.Answers.{numberOf}
-use Rattle.finding.specs.Finding.{foundLine}
-use Rattle.finding.proofs.Writing.{write-merge, idle-is}
+use Rattle.call_write.specs.Found.{foundLine}
+use Rattle.call_write.proofs.Asking.{write-merge, idle-is}
 use Rattle.state_words.specs.Decoded.{decoded}
 use Rattle.call_write.proofs.Writing.{write-refused, write-nothing, write-asks, write-started}
 use Rattle.call_write.proofs.write.Statement.{statement}

@@ -22,9 +22,11 @@ loop-holds c = (search needs, filled-none _ _)
 
 cast-bytes : tie.Need-cast-bytes Inv-loop μ-loop
 cast-bytes c =
-    let a = c .before .before .before .args in
-    let low = all-at (λ k. leb (datum (a .numbers .now) k) 255) (a .n) (c .before .before .loop .i) (c .before .loop-test .taken) (c .before .before .before .pre .1) in
-    omega (arith, leb-true (datum (a .numbers .now) (c .before .before .loop .i)) 255 low)
+    let s = c .before .before .before in
+    let i = c .before .before .loop .i in
+    let n = s .args .numbers .now in
+    let low = all-at (λ k. leb (datum n k) 255) (s .args .n) i (c .before .loop-test .taken) (s .pre .1) in
+    omega (arith, leb-true (datum n i) 255 low)
 
 loop-again : tie.Need-loop-again Inv-loop μ-loop
 loop-again c = (search needs, filled-turn _ _ _ _ _ (c .before .before .loop .inv .1) refl)

@@ -1,4 +1,5 @@
-use mathlib.Core.List.{[], _∷_}
+use Prim.Native.Nat.{ℕ}
+use mathlib.Core.List.{List, [], _∷_}
 use mathlib.Core.Path.{sym, ap}
 use types.Run.{miss}
 use borrow.Author.Needs.{needs}
@@ -7,8 +8,14 @@ use Rattle.calling.proofs.Stored.{stores-none}
 use Rattle.calling.proofs.stores_of.Statement.{statement}
 use Rattle.calling.proofs.stores_of.Tie as tie
 
+-- the numbers of the variants but Taken
+abbrev others : List ℕ
+others =
+    1 ∷ 2 ∷ 3 ∷ 4 ∷ 5 ∷ 6 ∷ 7 ∷ 8 ∷ 9 ∷ 10 ∷ 11 ∷ 12 ∷ 13 ∷ 14 ∷ 15 ∷ 16 ∷ 17 ∷ 18 ∷ 19 ∷ 20
+    ∷ 21 ∷ 22 ∷ 23 ∷ 24 ∷ 25 ∷ 26 ∷ 27 ∷ 28 ∷ 29 ∷ 30 ∷ []
+
 returns : tie.Need-returns
-returns c = stores-none (c .before .args .a) (λ n e. miss (1 ∷ 2 ∷ 3 ∷ 4 ∷ 5 ∷ 6 ∷ 7 ∷ 8 ∷ 9 ∷ 10 ∷ 11 ∷ 12 ∷ 13 ∷ 14 ∷ 15 ∷ 16 ∷ 17 ∷ 18 ∷ 19 ∷ 20 ∷ 21 ∷ 22 ∷ 23 ∷ 24 ∷ 25 ∷ 26 ∷ 27 ∷ 28 ∷ 29 ∷ 30 ∷ []) 0 tt (rw e at (c .match .keys2)))
+returns c = stores-none (c .before .args .a) (λ n e. miss others 0 tt (rw e at (c .match .keys2)))
 
 returns-2 : tie.Need-returns-2
 returns-2 c = sym (ap storesOf (c .before .a .given .1))

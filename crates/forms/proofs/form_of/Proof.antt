@@ -29,7 +29,7 @@ past5 c = past-more (table (c .before .before .before .before .before)) 4 (past4
 
 -- the test of a write's line is what the code found
 write-test : (c : tie.After-has-data)
-    → test (table (c .before .before .before .before .before .before)) 5 ≡ eqb (c .before .before .before .before .before .before .args .letter) 87 && c .has-data .result
+    → (let s = c .before .before .before .before .before .before in test (table s) 5 ≡ eqb (s .args .letter) 87 && c .has-data .result)
 write-test c =
     let letter = c .before .before .before .before .before .before .args .letter in
     ap (λ (b : Bool). eqb letter 87 && b) (sym (c .has-data .ensures))
@@ -50,7 +50,9 @@ past10 : (c : tie.Else10) → Past (table (c .before .before .before .before .be
 past10 c = past-more (table (c .before .before .before .before .before .before .before .before .before .before .before)) 9 (past9 (c .before)) (c .if10 .left)
 
 past11 : (c : tie.Else11) → Past (table (c .before .before .before .before .before .before .before .before .before .before .before .before)) 11
-past11 c = past-more (table (c .before .before .before .before .before .before .before .before .before .before .before .before)) 10 (past10 (c .before)) (c .if11 .left)
+past11 c =
+    let s = c .before .before .before .before .before .before .before .before .before .before .before .before in
+    past-more (table s) 10 (past10 (c .before)) (c .if11 .left)
 
 returns : tie.Need-returns
 unfolding formOf
@@ -74,7 +76,9 @@ returns-5 c = form-at (table (c .before .before .before .before .before)) 4 (ome
 
 returns-6 : tie.Need-returns-6
 unfolding formOf
-returns-6 c = form-at (table (c .before .before .before .before .before .before .before)) 5 (omega arith) (past5 (c .before .before)) (write-test (c .before) ∙ c .if6 .taken)
+returns-6 c =
+    let s = c .before .before .before .before .before .before .before in
+    form-at (table s) 5 (omega arith) (past5 (c .before .before)) (write-test (c .before) ∙ c .if6 .taken)
 
 returns-7 : tie.Need-returns-7
 unfolding formOf
@@ -86,15 +90,21 @@ returns-8 c = form-at (table (c .before .before .before .before .before .before 
 
 returns-9 : tie.Need-returns-9
 unfolding formOf
-returns-9 c = form-at (table (c .before .before .before .before .before .before .before .before .before .before)) 8 (omega arith) (past8 (c .before)) (c .if9 .taken)
+returns-9 c =
+    let s = c .before .before .before .before .before .before .before .before .before .before in
+    form-at (table s) 8 (omega arith) (past8 (c .before)) (c .if9 .taken)
 
 returns-10 : tie.Need-returns-10
 unfolding formOf
-returns-10 c = form-at (table (c .before .before .before .before .before .before .before .before .before .before .before)) 9 (omega arith) (past9 (c .before)) (c .if10 .taken)
+returns-10 c =
+    let s = c .before .before .before .before .before .before .before .before .before .before .before in
+    form-at (table s) 9 (omega arith) (past9 (c .before)) (c .if10 .taken)
 
 returns-11 : tie.Need-returns-11
 unfolding formOf
-returns-11 c = form-at (table (c .before .before .before .before .before .before .before .before .before .before .before .before)) 10 (omega arith) (past10 (c .before)) (c .if11 .taken)
+returns-11 c =
+    let s = c .before .before .before .before .before .before .before .before .before .before .before .before in
+    form-at (table s) 10 (omega arith) (past10 (c .before)) (c .if11 .taken)
 
 returns-12 : tie.Need-returns-12
 unfolding formOf

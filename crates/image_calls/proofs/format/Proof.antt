@@ -2,18 +2,18 @@ use mathlib.Core.Path.{refl, _∙_}
 use borrow.Author.Needs.{needs}
 use borrow.Author.Tests.{eq-eqb, ne-eqb}
 use Rattle.bounded.proofs.Tests.{row-yes}
-use Rattle.workbench.proofs.Formed.{has-replaced}
+use Rattle.image_calls.proofs.Replaced.{has-formatted}
 use Rattle.image_calls.proofs.format.Statement.{statement}
 use Rattle.image_calls.proofs.format.Tie as tie
 
 returns : tie.Need-returns
 returns c =
-    let form = eq-eqb _ 3 (c .before .before .before .before .before .before .before .before .if1 .taken) in
-    let done = c .before .before .before .format .ensures in
-    (has-replaced _ _ _ _ _ form (done .0) (c .replacing .ensures), done .1 ∙ row-yes _ _ _ form)
+    let f = c .before .before .before in
+    let form = eq-eqb _ 3 (f .before .before .before .before .before .before .if1 .taken) in
+    (has-formatted _ _ _ _ (f .format .result) form (c .answered .ensures) _ _ (f .format .ensures .0), f .format .ensures .1 .0 ∙ row-yes _ _ _ form)
 
 returns-2 : tie.Need-returns-2
-returns-2 c = rw (ne-eqb _ 3 (c .before .if1 .left)) (c .other .ensures, refl)
+returns-2 c = rw (ne-eqb _ 3 (c .if1 .left)) (refl, refl)
 
 pub format-spec : {M : Type 1} → statement M
 format-spec =
@@ -26,5 +26,4 @@ format-spec =
     (λ c κs. search needs)
     (λ c. search needs)
     returns
-    (λ c κs. search needs)
     returns-2)

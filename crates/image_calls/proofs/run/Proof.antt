@@ -8,12 +8,12 @@ use Rattle.image_calls.proofs.run.Tie as tie
 
 returns : tie.Need-returns
 returns c =
-    let form = eq-eqb _ 1 (c .before .before .before .before .before .before .if1 .taken) in
-    let done = c .before .before .before .run .ensures in
-    (has-called _ _ _ _ _ form (done .0) (c .called .ensures), done .1 ∙ row-yes _ _ _ form)
+    let f = c .before .before .before in
+    let form = eq-eqb _ 1 (f .before .before .before .before .if1 .taken) in
+    (has-called _ _ _ _ (f .run .result) _ form (f .run .ensures .0) (c .answered .ensures), f .run .ensures .1 .0 ∙ row-yes _ _ _ form)
 
 returns-2 : tie.Need-returns-2
-returns-2 c = rw (ne-eqb _ 1 (c .before .if1 .left)) (c .other .ensures, refl)
+returns-2 c = rw (ne-eqb _ 1 (c .if1 .left)) (refl, refl)
 
 pub run-spec : {M : Type 1} → statement M
 run-spec =
@@ -24,5 +24,4 @@ run-spec =
     (λ c κs. search needs)
     (λ c. search needs)
     returns
-    (λ c κs. search needs)
     returns-2)

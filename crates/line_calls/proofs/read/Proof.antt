@@ -19,7 +19,7 @@ returns c =
     rw (form, c .before .read-into .ensures, zeros)
 
 returns-2 : tie.Need-returns-2
-returns-2 c = rw (c .before .if1 .left) (c .other .ensures)
+returns-2 c = rw (c .if1 .left)
 
 pub read-spec : {M : Type 1} → statement M
 read-spec =
@@ -30,5 +30,4 @@ read-spec =
     slice-aggregate-read-into
     (λ c κs. search needs)
     returns
-    (λ c κs. search needs)
     returns-2)

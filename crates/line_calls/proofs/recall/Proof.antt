@@ -7,19 +7,19 @@ use Rattle.line_calls.proofs.recall.Statement.{statement}
 use Rattle.line_calls.proofs.recall.Tie as tie
 
 array-borrow-prefix-target : tie.Need-array-borrow-prefix-target
-array-borrow-prefix-target c = target-small (c .before .before .before .args .t3) 3 2 (c .if1 .taken)
+array-borrow-prefix-target c = target-small (c .before .before .before .args .t2) 3 2 (c .if1 .taken)
 
 slice-aggregate-recall-into : tie.Need-slice-aggregate-recall-into
-slice-aggregate-recall-into c = sym (length-take-le _ (replicate 128 0) (target-small (c .before .before .before .before .args .t3) 3 2 (c .before .if1 .taken)))
+slice-aggregate-recall-into c = sym (length-take-le _ (replicate 128 0) (target-small (c .before .before .before .before .args .t2) 3 2 (c .before .if1 .taken)))
 
 returns : tie.Need-returns
 returns c =
     let form = c .before .before .before .if1 .taken in
-    let zeros = take-zeros _ 128 (target-small (c .before .before .before .before .before .before .args .t3) 3 2 form) in
+    let zeros = take-zeros _ 128 (target-small (c .before .before .before .before .before .before .args .t2) 3 2 form) in
     rw (form, c .before .recall-into .ensures, zeros)
 
 returns-2 : tie.Need-returns-2
-returns-2 c = rw (c .before .if1 .left) (c .other .ensures)
+returns-2 c = rw (c .if1 .left)
 
 pub recall-spec : {M : Type 1} → statement M
 recall-spec =
@@ -30,5 +30,4 @@ recall-spec =
     slice-aggregate-recall-into
     (λ c κs. search needs)
     returns
-    (λ c κs. search needs)
     returns-2)

@@ -3,9 +3,9 @@ use mathlib.Core.Path.{_≡_, sym, ap₂, _∙_}
 use native.Mathlib.Omega.{arith}
 use lib.ListN.{length}
 use borrow.Author.Needs.{needs}
-use Rattle.workbench.specs.Turns.{arg}
-use Rattle.line_calls.specs.Calls.{lineSaid}
 use Rattle.line_calls.proofs.Targets.{recall-long}
+use Rattle.line_calls.specs.Calls.{lineSaid}
+use Rattle.workbench.specs.Turns.{arg}
 use Rattle.line_calls.proofs.recall_into.Statement.{statement}
 use Rattle.line_calls.proofs.recall_into.Tie as tie
 

@@ -3,7 +3,7 @@ use mathlib.Core.Path.{_≡_, ap}
 use lib.ListN.{getD}
 use Rattle.layout.proofs.LayoutLaws.{record-end}
 use Rattle.replay.specs.Table.{noPosition}
-use Rattle.state.specs.declared.State.{State}
+use Rattle.state.specs.State.{State}
 use Rattle.state.specs.declared.Places.{Places}
 use Rattle.state_words.specs.Decoded.{decoded}
 use Rattle.op_checkpoint.proofs.CheckpointPieces.{slot-piece, tail-piece}

@@ -1,6 +1,6 @@
 use borrow.Author.Needs.{needs}
 use mathlib.Core.Path.{_≡_, ap, _∙_}
-use Rattle.state.specs.declared.State.{State}
+use Rattle.state.specs.State.{State}
 use Rattle.state.specs.declared.Places.{Places}
 use Rattle.refinement.specs.Checkpoint.{withoutLasts}
 use Rattle.state_words.specs.Decoded.{decoded, withTail, withNothing}

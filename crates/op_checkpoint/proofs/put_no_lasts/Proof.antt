@@ -6,7 +6,7 @@ use lib.ListN.{set}
 use Rattle.bounded.specs.Tab.{filled}
 use Rattle.bounded.proofs.Tab.{filled-none, filled-turn, filled-ends}
 use Rattle.replay.specs.Table.{noPosition, withLast}
-use Rattle.state.specs.declared.State.{State}
+use Rattle.state.specs.State.{State}
 use Rattle.state_words.specs.Decoded.{decoded, withTable}
 use Rattle.op_checkpoint.proofs.put_no_lasts.Statement.{statement}
 use Rattle.op_checkpoint.proofs.put_no_lasts.Tie as tie

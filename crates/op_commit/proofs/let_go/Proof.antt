@@ -6,7 +6,7 @@ use lib.ListN.{set}
 use Rattle.bounded.specs.Below.{upTo}
 use Rattle.bounded.proofs.Below.{up-none, up-ends}
 use Rattle.state_words.specs.Decoded.{decoded, withWriters, withHeld}
-use Rattle.state.specs.declared.State.{State}
+use Rattle.state.specs.State.{State}
 use Rattle.op_commit.proofs.Turns.{go-turn}
 use Rattle.op_commit.proofs.let_go.Statement.{statement}
 use Rattle.op_commit.proofs.let_go.Tie as tie

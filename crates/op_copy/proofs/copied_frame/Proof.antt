@@ -1,7 +1,7 @@
 use mathlib.Core.Path.{ap, _∙_}
 use Rattle.words.specs.Words.{word}
 use Rattle.replay.specs.declared.Table.{Table}
-use Rattle.wide_stores.proofs.WideMade.{copied-slotted, copied-plain}
+use Rattle.op_copy.proofs.CopiedFrame.{copied-slotted, copied-plain}
 use Rattle.state_words.specs.Decoded.{decoded}
 use borrow.Author.Needs.{needs}
 use Rattle.op_copy.proofs.copied_frame.Statement.{statement}

@@ -1,7 +1,7 @@
 use Prim.Native.Nat.{_-_, _/_}
 use native.Mathlib.Omega.{arith}
 use native.Mathlib.Nat.{mod-lt}
-use Rattle.state.specs.declared.State.{State}
+use Rattle.state.specs.State.{State}
 use Rattle.state_words.specs.Decoded.{decoded}
 use Rattle.op_copy.proofs.CopyPieces.{count-piece, none-piece, copied-piece}
 use borrow.Author.Needs.{needs}

@@ -5,7 +5,7 @@ use mathlib.Core.Path.{_≡_, refl, ap, _∙_}
 use lib.ListN.{length, set, length-set}
 use Rattle.bounded.specs.Tab.{filled}
 use Rattle.bounded.proofs.Tab.{filled-none, filled-turn, filled-ends}
-use Rattle.state.specs.declared.State.{State}
+use Rattle.state.specs.State.{State}
 use Rattle.state.specs.Wide.{wideOf}
 use Rattle.refinement.specs.Settled.{withWide}
 use Rattle.state_words.specs.Decoded.{decoded}

@@ -7,7 +7,7 @@ use Rattle.layout.specs.Layout.{Legal}
 use Rattle.meters.specs.Meters.{eventKnown}
 use Rattle.meters.proofs.MeterLaws.{first-low, own-range}
 use Rattle.replay.specs.Table.{slotsShaped}
-use Rattle.state.specs.declared.State.{State}
+use Rattle.state.specs.State.{State}
 use Rattle.state.specs.declared.Places.{Places}
 use Rattle.refinement.proofs.Going.{ranges-of, shapes-of}
 use Rattle.state_words.specs.Decoded.{decoded}

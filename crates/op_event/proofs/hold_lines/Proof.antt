@@ -3,7 +3,7 @@ use mathlib.Core.Path.{_≡_, sym, ap, _∙_}
 use native.Mathlib.Omega.{arith}
 use borrow.Author.Tests.{not-true, not-false}
 use Rattle.meters.proofs.MeterLaws.{first-low, own-range}
-use Rattle.state.specs.declared.State.{State}
+use Rattle.state.specs.State.{State}
 use Rattle.state_words.specs.Decoded.{decoded}
 use Rattle.op_write.specs.LineHeld.{lineHeld}
 use Rattle.op_event.specs.LinesHeld.{begun}

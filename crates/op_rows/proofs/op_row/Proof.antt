@@ -19,7 +19,9 @@ returns : tie.Need-returns
 returns c = sym (ap (row (c .before .before)) (c .enum-told .given .1))
 
 returns-2 : tie.Need-returns-2
-returns-2 c = rw (c .before .slot-of .ensures) at (c .write-row .ensures) ∙ sym (ap (row (c .before .before .before .before .before)) (c .before .before .before .op .given .1))
+returns-2 c =
+    rw (c .before .before .slot-of .ensures, c .before .span-of .ensures) at (c .write-row .ensures)
+    ∙ sym (ap (row (c .before .before .before .before .before .before)) (c .before .before .before .before .op .given .1))
 
 returns-3 : tie.Need-returns-3
 returns-3 c = c .commit-row .ensures ∙ sym (ap (row (c .before .before .before .before)) (c .before .before .op2 .given .1))
@@ -40,7 +42,9 @@ returns-8 : tie.Need-returns-8
 returns-8 c = c .confirm-row .ensures ∙ sym (ap (row (c .before .before .before .before)) (c .before .before .op6 .given .1))
 
 returns-9 : tie.Need-returns-9
-returns-9 c = rw (c .before .slot-of2 .ensures) at (c .log-row .ensures) ∙ sym (ap (row (c .before .before .before .before .before)) (c .before .before .before .op7 .given .1))
+returns-9 c =
+    rw (c .before .before .slot-of2 .ensures, c .before .span-of2 .ensures) at (c .log-row .ensures)
+    ∙ sym (ap (row (c .before .before .before .before .before .before)) (c .before .before .before .before .op7 .given .1))
 
 returns-10 : tie.Need-returns-10
 returns-10 c = c .copy-row .ensures ∙ sym (ap (row (c .before .before .before)) (c .before .enum-told3 .given .1))
@@ -53,18 +57,20 @@ op-row-spec =
     (λ c. search needs)
     (λ c κs. search needs)
     (λ c κs. search needs)
-    (λ c. search needs)
-    (λ c κs. search needs)
-    (λ c. search needs)
-    (λ c κs. search needs)
-    (λ c. search needs)
-    (λ c. search needs)
     (λ c κs. search needs)
     (λ c. search needs)
     (λ c κs. search needs)
     (λ c. search needs)
     (λ c κs. search needs)
     (λ c. search needs)
+    (λ c. search needs)
+    (λ c κs. search needs)
+    (λ c. search needs)
+    (λ c κs. search needs)
+    (λ c. search needs)
+    (λ c κs. search needs)
+    (λ c. search needs)
+    (λ c κs. search needs)
     (λ c κs. search needs)
     (λ c κs. search needs)
     (λ c. search needs)

@@ -2,7 +2,7 @@ use borrow.Author.Needs.{needs}
 use mathlib.Core.Path.{_≡_, ap, ap₂, _∙_}
 use Prim.Native.Nat.{ℕ}
 use native.Mathlib.Omega.{arith}
-use Rattle.state.specs.declared.State.{State}
+use Rattle.state.specs.State.{State}
 use Rattle.operations.specs.Operations.{needs as needsOf}
 use Rattle.refinement.specs.Stores.{storesMade, stateAfter}
 use Rattle.answers.specs.declared.Answer.the-variants.{Taken}

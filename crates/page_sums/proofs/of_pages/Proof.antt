@@ -5,10 +5,10 @@ use Rattle.page_sums.proofs.of_pages.Statement.{statement}
 use Rattle.page_sums.proofs.of_pages.Tie as tie
 
 abbrev Inv-loop : tie.InvT-loop
-Inv-loop image st sum₀ i₀ sum i = i ≤ 1024
+Inv-loop image words sum₀ i₀ sum i = i ≤ 1024
 
 abbrev μ-loop : tie.MeasureT-loop
-μ-loop image st sum₀ i₀ sum i = 1024 - i
+μ-loop image words sum₀ i₀ sum i = 1024 - i
 
 pub of-pages-spec : {M : Type 1} → statement M
 of-pages-spec =

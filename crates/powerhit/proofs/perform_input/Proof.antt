@@ -6,8 +6,8 @@ use Rattle.powerhit.proofs.perform_input.Tie as tie
 returns : tie.Need-returns
 returns c =
     let last = c .before .before in
-    let read = last .before .before .before .before .before .before .before .before in
-    let start = read .before .before .before .before .before in
+    let read = last .before .before .before .before .before .before .before .before .before in
+    let start = read .before .before .before .before .before .before in
     performs-all (start .started .ensures _ _ _) (read .read-all .ensures) (last .perform-last .ensures)
 
 pub perform-input-spec : {M : Type 1} → statement M

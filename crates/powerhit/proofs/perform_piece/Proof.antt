@@ -13,7 +13,8 @@ returns : tie.Need-returns
 returns c =
     let kept = c .before .keep .ensures in
     let found = c .before .before .before in
-    goes-rest (found .before .before .before .args .piece .now) (found .line-end .result) _ _ (found .line-end .ensures) (kept .0) (kept .1) refl refl refl (c .if1 .taken)
+    let piece = found .before .before .before .args .piece .now in
+    goes-rest piece (found .line-end .result) _ _ (found .line-end .ensures) (kept .0) (kept .1) refl refl refl (c .if1 .taken)
 
 -- the first newline is in the piece
 inside : (c : tie.Else1) → c .before .before .before .line-end .result < length (c .before .before .before .before .before .before .args .piece .now)
@@ -23,12 +24,12 @@ inside c =
 
 add-from : tie.Need-add-from
 add-from c =
-    let else = c .before .before .before .before .before .before in
-    omega (arith, inside else, else .before .before .before .before .before .before .good .1 .1 .1 .0)
+    let else = c .before .before .before .before .before .before .before in
+    omega (arith, inside else, else .before .before .before .before .before .before .good .1 .1 .1 .1 .0)
 
 perform-lines-requires : tie.Need-perform-lines-requires
 perform-lines-requires c κs =
-    let else = c .before .before .before .before .before .before .before .before .before in
+    let else = c .before .before .before .before .before .before .before .before .before .before .before in
     let found = else .before .before .before in
     let piece = found .before .before .before .args .piece .now in
     let from = found .line-end .result + 1 in
@@ -40,8 +41,8 @@ returns-2 : tie.Need-returns-2
 returns-2 c =
     let lines = c .before .before .before .before in
     let next = lines .before .before in
-    let done = next .before .before .before .before in
-    let else = done .before .before .before .before in
+    let done = next .before .before .before .before .before in
+    let else = done .before .before .before .before .before in
     let kept = else .before in
     let found = kept .before .before in
     let x = found .before .before .before .args in

@@ -9,11 +9,11 @@ use Rattle.powerhit.proofs.read_all.Statement.{statement}
 use Rattle.powerhit.proofs.read_all.Tie as tie
 
 abbrev Inv-loop : tie.InvT-loop
-Inv-loop image₀ line₀ input₀ out₀ s₀ turns₀ image line input out s turns =
-    (length image ≡ length image₀) × (length input ≡ length input₀) × TakesSome s₀ image₀ line₀ out₀ s image line out
+Inv-loop image₀ words₀ line₀ input₀ out₀ s₀ turns₀ image words line input out s turns =
+    (length image ≡ length image₀) × (length input ≡ length input₀) × TakesSome s₀ words₀ image₀ line₀ out₀ s words image line out
 
 abbrev μ-loop : tie.MeasureT-loop
-μ-loop image₀ line₀ input₀ out₀ s₀ turns₀ image line input out s turns = turns
+μ-loop image₀ words₀ line₀ input₀ out₀ s₀ turns₀ image words line input out s turns = turns
 
 loop-holds : tie.Need-loop-holds Inv-loop μ-loop
 loop-holds c = (refl, refl, record { bytes = []; goes = goes-none })
@@ -21,11 +21,11 @@ loop-holds c = (refl, refl, record { bytes = []; goes = goes-none })
 loop-again : tie.Need-loop-again Inv-loop μ-loop
 loop-again c =
     let done = c .before .before .before .before .read-piece in
-    let test = c .before .before .before .before .before .before .before .before .before in
+    let test = c .before .before .before .before .before .before .before .before .before .before in
     let inv = test .before .before .before .loop .inv in
     let read = done .ensures in (
-      done .kept .1 .0 ∙ inv .0,
-      done .kept .1 .1 .1 .0 ∙ inv .1,
+      done .kept .0 ∙ inv .0,
+      done .kept .1 .1 .1 .1 .0 ∙ inv .1,
       record { bytes = inv .2 .bytes ++ take (read .count) _; goes = goes-then (inv .2 .goes) (read .goes) },
     )
 

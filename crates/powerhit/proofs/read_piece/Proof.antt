@@ -7,7 +7,7 @@ use Rattle.powerhit.proofs.read_piece.Tie as tie
 returns : tie.Need-returns
 returns c =
     let done = c .before .before in
-    let n = done .before .before .before .before .before .count .result in
+    let n = done .before .before .before .before .before .before .count .result in
     record { count = n; goes = goes-more _ (done .perform-piece .ensures); more = refl }
 
 pub read-piece-spec : {M : Type 1} → statement M

@@ -1,48 +1,54 @@
-use mathlib.Core.Path.{sym}
-use lib.ListN.{take-append-drop}
+use mathlib.Core.List.{_++_}
+use mathlib.Core.Path.{_≡_, sym, ap}
+use lib.ListN.{take, drop, take-append-drop}
 use borrow.Author.Needs.{needs}
 use borrow.Author.Tests.{ne-eqb}
+use Rattle.workbench.specs.Turns.{shown}
 use Rattle.probing.specs.Calls.{callBytes}
 use Rattle.probing.specs.Lines.{turnOf, bufferAfter}
 use Rattle.probing.proofs.turn.Statement.{statement}
 use Rattle.probing.proofs.turn.Tie as tie
 
+-- a buffer that no line changed, by the bytes lent and the others
+kept : (s : tie.Start) → let a = s .args in a .buffer .now ≡ take (a .lent) (a .buffer .now) ++ drop (a .lent) (a .buffer .now)
+kept s = sym (take-append-drop (s .args .lent) (s .args .buffer .now))
+
 returns : tie.Need-returns
 unfolding turnOf bufferAfter callBytes
-returns c = rw (c .before .match .keys1) (c .lend .ensures, sym (take-append-drop (c .before .before .before .args .bench .lent) (c .before .before .before .args .buffer .now)))
+returns c = rw (c .before .match .keys1) (ap (shown _) (c .lend .ensures), kept (c .before .before .before))
 
 returns-2 : tie.Need-returns-2
 unfolding turnOf bufferAfter
-returns-2 c = rw (c .before .before .before .before .match .keys2) (c .before .before .set-byte .ensures .0, c .before .before .set-byte .ensures .1)
+returns-2 c = rw (c .before .before .before .before .match .keys2) (ap (shown _) (c .before .before .set-byte .ensures .0), c .before .before .set-byte .ensures .1)
 
 returns-3 : tie.Need-returns-3
 unfolding turnOf bufferAfter
-returns-3 c = rw (c .before .before .before .before .match .keys3) (c .before .before .set-word .ensures .0, c .before .before .set-word .ensures .1)
+returns-3 c = rw (c .before .before .before .before .match .keys3) (ap (shown _) (c .before .before .set-word .ensures .0), c .before .before .set-word .ensures .1)
 
 returns-4 : tie.Need-returns-4
 unfolding turnOf bufferAfter callBytes
-returns-4 c = rw (c .before .match .keys4) (c .set-number .ensures, sym (take-append-drop (c .before .before .before .args .bench .lent) (c .before .before .before .args .buffer .now)))
+returns-4 c = rw (c .before .before .match .keys4) (c .set-number .ensures, kept (c .before .before .before .before))
 
 returns-5 : tie.Need-returns-5
 unfolding turnOf bufferAfter callBytes
-returns-5 c = rw (c .before .match .keys5) (c .set-pending .ensures, sym (take-append-drop (c .before .before .before .args .bench .lent) (c .before .before .before .args .buffer .now)))
+returns-5 c = rw (c .before .before .match .keys5) (c .set-pending .ensures, kept (c .before .before .before .before))
 
 returns-6 : tie.Need-returns-6
 unfolding turnOf bufferAfter callBytes
-returns-6 c = rw (c .before .match .keys6) (c .set-line-byte .ensures, sym (take-append-drop (c .before .before .before .args .bench .lent) (c .before .before .before .args .buffer .now)))
+returns-6 c = rw (c .before .before .match .keys6) (c .set-line-byte .ensures, kept (c .before .before .before .before))
 
 returns-7 : tie.Need-returns-7
 unfolding turnOf bufferAfter callBytes
-returns-7 c = rw (c .before .match .keys7) (c .show-numbers .ensures, sym (take-append-drop (c .before .before .before .args .bench .lent) (c .before .before .before .args .buffer .now)))
+returns-7 c = rw (c .before .match .keys7) (ap (shown _) (c .show-numbers .ensures), kept (c .before .before .before))
 
 returns-8 : tie.Need-returns-8
 unfolding turnOf bufferAfter callBytes
-returns-8 c = rw (c .before .before .match .keys8) (c .show-hash .ensures, sym (take-append-drop (c .before .before .before .before .args .bench .lent) (c .before .before .before .before .args .buffer .now)))
+returns-8 c = rw (c .before .before .match .keys8) (ap (shown _) (c .show-hash .ensures), kept (c .before .before .before .before))
 
 returns-9 : tie.Need-returns-9
 unfolding turnOf bufferAfter
 returns-9 c =
-    let r = c .before .before .before .before .match .rest in
+    let r = c .before .before .before .before .before .match .rest in
     let l = ne-eqb _ 76 (r .0 .0 .0 .0 .0 .0 .0 .1) in
     let y = ne-eqb _ 89 (r .0 .0 .0 .0 .0 .0 .1) in
     let u = ne-eqb _ 85 (r .0 .0 .0 .0 .0 .1) in

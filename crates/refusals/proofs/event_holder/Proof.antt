@@ -2,6 +2,7 @@
 use mathlib.Core.Path.{_≡_, ap, ap₂, _∙_}
 use Prim.Native.Nat.{min}
 use borrow.Author.Needs.{needs}
+use Rattle.state_words.specs.Decoded.{decoded}
 use Rattle.refusals.specs.Met.{lineHolder, eventHolder}
 use Rattle.refusals.proofs.event_holder.Statement.{statement}
 use Rattle.refusals.proofs.event_holder.Tie as tie
@@ -11,7 +12,7 @@ unfolding eventHolder
 returns c =
     let own = c .before in
     let first = own .before .before in
-    let st = first .before .before .args .st in
+    let st = decoded (first .before .before .args .words .now) in
     c .smaller .ensures
     ∙ ap₂ min
     (first .line-holder .ensures ∙ ap (lineHolder st 1 0) (first .before .first-meter .ensures))

@@ -2,6 +2,7 @@ use native.Mathlib.Omega.{arith}
 use borrow.Author.Needs.{needs}
 use Rattle.number_text.proofs.Puts.{put-then}
 use Rattle.printing.proofs.Puts.{as-put}
+use Rattle.state_words.specs.Decoded.{decoded}
 use Rattle.state_text.proofs.Lengths.{state-text}
 use Rattle.reporting.proofs.Texts.{start-text}
 use Rattle.reporting.proofs.put_numbered.Statement.{statement}
@@ -11,7 +12,7 @@ put-state-requires : tie.Need-put-state-requires
 put-state-requires c κs =
     let s = c .before .before .before .before .before .before in
     let start = c .before .before .before .put-start in
-    let e = start-text (s .args .n) (s .args .letter) in
+    let e = start-text (s .args .n) (s .args .letter) 0 in
     omega arith
 
 put-byte-requires : tie.Need-put-byte-requires
@@ -19,8 +20,8 @@ put-byte-requires c κs =
     let s = c .before .before .before .before .before .before .before .before .before .before in
     let start = c .before .before .before .before .before .before .before .put-start in
     let last = c .before .before .before .put-state in
-    let e = start-text (s .args .n) (s .args .letter) in
-    let d = state-text (s .args .st) in
+    let e = start-text (s .args .n) (s .args .letter) 0 in
+    let d = state-text (decoded (s .args .words .now)) in
     omega arith
 
 returns : tie.Need-returns
@@ -29,8 +30,8 @@ returns c =
     let start = c .before .before .before .before .before .before .before .before .before .before .put-start in
     let last = c .before .before .before .before .before .before .put-state in
     let end = c .before .before .put-byte in
-    let e = start-text (s .args .n) (s .args .letter) in
-    let d = state-text (s .args .st) in
+    let e = start-text (s .args .n) (s .args .letter) 0 in
+    let d = state-text (decoded (s .args .words .now)) in
     put-then (start .ensures) (put-then (last .ensures) (as-put (end .ensures)) (omega arith)) (omega arith)
 
 pub put-numbered-spec : {M : Type 1} → statement M

@@ -51,6 +51,7 @@ returns c =
     let count = c .before .before .put-after2 in
     let d = decimal-le (s .args .n) in
     let z = decimal-le 0 in
+    let k = decimal-le (s .args .count) in
     put-then (as-put (number .ensures))
     (put-then (as-put (comma .ensures))
     (put-then (as-put (call .ensures))

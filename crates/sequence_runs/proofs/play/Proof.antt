@@ -5,12 +5,14 @@ use Rattle.sequence_runs.proofs.play.Tie as tie
 
 returns : tie.Need-returns
 returns c =
-    let made = c .before .before .before .before .before .before .before in
-    let fresh = made .before .before .before .before in
-    let zeros = fresh .before .before in
+    let one = c .before .before in
+    let made = one .before .before .before .before .before in
+    let fresh = made .before .before .before .before .before in
+    let zeros = fresh .before .before .before in
     let a = zeros .before .before .before .args in
-    played (a .k) (a .numbers .now) (fresh .format .result) (zeros .blank .result) (fresh .format .last .0) (made .perform .last .1 .0) _ _ _ _
-    (zeros .blank .ensures) (fresh .format .ensures .0) (fresh .format .ensures .1) (made .perform .ensures) (c .before .before .first-byte .ensures) (c .first-byte2 .ensures)
+    played (a .k) (a .numbers .now) (fresh .format .result) _ _ (zeros .blank .result) _ _ _ _ _ _
+    (zeros .blank .ensures) (fresh .format .ensures .0) (fresh .format .ensures .1 .0) (made .perform .ensures)
+    (one .first-byte .ensures) (c .first-byte2 .ensures)
 
 pub play-spec : {M : Type 1} → statement M
 play-spec =

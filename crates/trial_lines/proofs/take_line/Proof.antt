@@ -6,24 +6,31 @@ use Rattle.trial_lines.proofs.take_line.Tie as tie
 
 returns : tie.Need-returns
 returns c =
-    let then = c .before .before .before .before in
-    let a = then .before .before .before .before .args in
-    acted-first _ (workOf (a .s) (a .image .now)) (then .if1 .taken) _ (c .before .before .take-setting .ensures)
+    let at-take-setting = c .before .before in
+    let at-if1 = at-take-setting .before .before .before in
+    let at-args = at-if1 .before .before .before .before in
+    let a = at-args .args in
+    acted-first _ (workOf (a .s) (a .words .now) (a .image .now)) (at-if1 .if1 .taken) _ (at-take-setting .take-setting .ensures)
 
 returns-2 : tie.Need-returns-2
 returns-2 c =
-    let else = c .before .before .before in
-    let a = else .before .before .before .before .args in
-    acted-unread _ (workOf (a .s) (a .image .now)) (else .if1 .left) (c .if2 .taken)
+    let a = c .before .before .before .before .before .before .before .args in
+    acted-unread _ (workOf (a .s) (a .words .now) (a .image .now)) (c .before .before .before .if1 .left) (c .if2 .taken)
 
 take-round-requires : tie.Need-take-round-requires
-take-round-requires c κs = let a = c .before .before .before .before .before .before .before .before .args in unread-low (a .s .set) (a .s .lines) (c .before .if2 .left)
+take-round-requires c κs =
+    let a = c .before .before .before .before .before .before .before .before .before .args in
+    unread-low (a .s .set) (a .s .lines) (c .before .before .if2 .left)
 
 returns-3 : tie.Need-returns-3
 returns-3 c =
-    let else = c .before .before .before .before .before .before .before in
-    let a = else .before .before .before .before .args in
-    acted-round _ (workOf (a .s) (a .image .now)) (else .if1 .left) (c .before .before .before .before .if2 .left) _ (c .before .before .take-round .ensures)
+    let at-take-round = c .before .before in
+    let at-if2 = at-take-round .before .before .before in
+    let at-if1 = at-if2 .before .before .before in
+    let at-args = at-if1 .before .before .before .before in
+    let a = at-args .args in
+    let first = at-if1 .if1 .left in
+    acted-round _ (workOf (a .s) (a .words .now) (a .image .now)) first (at-if2 .if2 .left) _ (at-take-round .take-round .ensures)
 
 pub take-line-spec : {M : Type 1} → statement M
 take-line-spec =

@@ -8,21 +8,27 @@ use Rattle.trial_lines.proofs.take_round.Tie as tie
 
 returns : tie.Need-returns
 returns c =
-    let parse = c .before .before .before .before in
-    let a = parse .before .before .before .args in
-    round-none (parse .parse .result) _ (workOf (a .s) (a .image .now)) (parse .parse .ensures) (c .before .if1 .taken) _ (c .abandon .ensures (a .image .now))
+    let q = c .before .before .before .before .parse in
+    let a = c .before .before .before .before .before .before .before .args in
+    let none = c .abandon .ensures (a .words .now) (a .image .now) in
+    round-none (q .result) _ (workOf (a .s) (a .words .now) (a .image .now)) (q .ensures) (c .before .if1 .taken) _ none
 
 array-share-prefix-numbers : tie.Need-array-share-prefix-numbers
-array-share-prefix-numbers c = few-pages _ _ (c .before .before .before .if1 .left) (pages-room _ _ (c .before .before .before .before .before .before .parse .ensures))
+array-share-prefix-numbers c =
+    let q = c .before .before .before .before .before .before .before .parse in
+    few-pages _ _ (c .before .before .before .before .if1 .left) (pages-room _ _ (q .ensures))
 
 slice-aggregate-play : tie.Need-slice-aggregate-play
-slice-aggregate-play c = sym (length-take-le _ _ (few-pages _ _ (c .before .before .before .before .if1 .left) (pages-room _ _ (c .before .before .before .before .before .before .before .parse .ensures))))
+slice-aggregate-play c =
+    let q = c .before .before .before .before .before .before .before .before .parse in
+    sym (length-take-le _ _ (few-pages _ _ (c .before .before .before .before .before .if1 .left) (pages-room _ _ (q .ensures))))
 
 returns-2 : tie.Need-returns-2
 returns-2 c =
-    let parse = c .before .before .before .before .before .before .before .before .before .before in
-    let a = parse .before .before .before .args in
-    round-given (parse .parse .result) _ (workOf (a .s) (a .image .now)) (parse .parse .ensures) (c .before .before .before .before .before .before .before .if1 .left) _ (c .before .before .play .ensures)
+    let q = c .before .before .before .before .before .before .before .before .before .before .before .parse in
+    let a = c .before .before .before .before .before .before .before .before .before .before .before .before .before .before .args in
+    let some = c .before .before .before .before .before .before .before .before .if1 .left in
+    round-given (q .result) _ (workOf (a .s) (a .words .now) (a .image .now)) (q .ensures) some _ (c .before .before .play .ensures)
 
 pub take-round-spec : {M : Type 1} → statement M
 take-round-spec =

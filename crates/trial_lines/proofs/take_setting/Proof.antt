@@ -6,17 +6,19 @@ use Rattle.trial_lines.proofs.take_setting.Tie as tie
 
 returns : tie.Need-returns
 returns c =
-    let parse = c .before .before in
-    let a = parse .before .before .before .args in
-    setting-none (parse .parse .result) _ (workOf (a .s) (a .image .now)) (parse .parse .ensures) (c .if1 .taken)
+    let q = c .before .before .parse in
+    let a = c .before .before .before .before .before .args in
+    setting-none (q .result) _ (workOf (a .s) (a .words .now) (a .image .now)) (q .ensures) (c .if1 .taken)
 
 returns-2 : tie.Need-returns-2
 returns-2 c =
-    let start = c .before .before .before in
-    let else = start .before .before .before in
-    let parse = else .before .before in
-    let a = parse .before .before .before .args in
-    setting-given (parse .parse .result) _ (workOf (a .s) (a .image .now)) (parse .parse .ensures) (else .if1 .left) _ (start .start .ensures)
+    let at-start = c .before .before .before in
+    let at-if1 = at-start .before .before .before .before in
+    let at-parse = at-if1 .before .before in
+    let at-args = at-parse .before .before .before in
+    let q = at-parse .parse in
+    let a = at-args .args in
+    setting-given (q .result) _ (workOf (a .s) (a .words .now) (a .image .now)) (q .ensures) (at-if1 .if1 .left) _ (at-start .start .ensures)
 
 pub take-setting-spec : {M : Type 1} → statement M
 take-setting-spec =

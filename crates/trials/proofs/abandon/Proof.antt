@@ -5,7 +5,7 @@ use Rattle.trials.proofs.abandon.Tie as tie
 
 returns : tie.Need-returns
 unfolding asAbandoned
-returns c img = rw (c .one-more .ensures)
+returns c words img = rw (c .one-more .ensures)
 
 pub abandon-spec : {M : Type 1} → statement M
 abandon-spec =

@@ -6,9 +6,9 @@ use Rattle.try_sizes.proofs.begin.Tie as tie
 
 returns : tie.Need-returns
 returns c =
-    let made = c .before .before in
-    let s = c .before .before .before .before .before .before in
-    (omega arith, shows-first (made .start .result) _ _ (s .args .line .now) _ (s .pre) (made .start .ensures))
+    let session = c .start in
+    let s = c .before .before in
+    (omega arith, λ image. shows-first (session .result) image (s .args .line .now) _ (s .pre) (session .ensures image))
 
 pub begin-spec : {M : Type 1} → statement M
 begin-spec =
@@ -17,6 +17,5 @@ begin-spec =
     (λ c. search needs)
     (λ c. search needs)
     (λ c κs. search needs)
-    (λ c. search needs)
     (λ c. search needs)
     returns)

@@ -8,14 +8,14 @@ use Rattle.try_sizes.proofs.take_byte.Tie as tie
 
 slice-aggregate-take-line : tie.Need-slice-aggregate-take-line
 slice-aggregate-take-line c =
-    let s = c .before .before .before .before .before in
+    let s = c .before .before .before .before .before .before in
     sym (length-take-le (s .args .s .kept) (s .args .line .now) (omega (arith, s .pre .0, s .pre .1)))
 
 returns : tie.Need-returns
 returns c =
-    let s = c .before .before .before .before .before .before .before .before in
+    let s = c .before .before .before .before .before .before .before .before .before in
     let made = c .before .before .take-line in
-    takes-newline (s .pre .1) (s .args .b) (c .before .before .before .before .before .if1 .taken) (made .result) _ (made .ensures)
+    takes-newline (s .pre .1) (s .args .b) (c .before .before .before .before .before .before .if1 .taken) (made .result) _ _ (made .ensures)
 
 returns-2 : tie.Need-returns-2
 returns-2 c = let s = c .before .before .before .before in takes-full (s .pre .1) (s .args .b) (c .before .if1 .left) (c .if2 .taken) (s .pre .0)

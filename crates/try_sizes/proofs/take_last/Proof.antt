@@ -11,13 +11,14 @@ returns c = closes-none (c .before .before .before .before .pre .1) (c .if1 .tak
 
 slice-aggregate-take-line : tie.Need-slice-aggregate-take-line
 slice-aggregate-take-line c =
-    let s = c .before .before .before .before .before .before in
+    let s = c .before .before .before .before .before .before .before in
     sym (length-take-le (s .args .s .kept) (s .args .line .now) (omega (arith, s .pre .0, s .pre .1)))
 
 returns-2 : tie.Need-returns-2
 returns-2 c =
     let made = c .before .before .take-line in
-    closes-some (c .before .before .before .before .before .before .before .before .before .pre .1) (c .before .before .before .before .before .if1 .left) (made .result) _ (made .ensures)
+    let size = c .before .before .before .before .before .before .before .before .before .before .pre .1 in
+    closes-some size (c .before .before .before .before .before .before .if1 .left) (made .result) _ _ (made .ensures)
 
 pub take-last-spec : {M : Type 1} → statement M
 take-last-spec =

@@ -10,36 +10,47 @@ use Rattle.try_sizes.proofs.take_piece.Statement.{statement}
 use Rattle.try_sizes.proofs.take_piece.Tie as tie
 
 abbrev Inv-loop : tie.InvT-loop
-Inv-loop image₀ line₀ piece s₀ i₀ image line s i =
-    (i ≤ length piece) × (length image ≡ length image₀) × (length line ≡ length line₀) × Takes s₀ image₀ line₀ (take i piece) s image line
+Inv-loop image₀ words₀ line₀ piece s₀ i₀ image words line s i =
+    (i ≤ length piece) × (length image ≡ length image₀) × (length line ≡ length line₀) × Takes s₀ words₀ image₀ line₀ (take i piece) s words image line
 
 abbrev μ-loop : tie.MeasureT-loop
-μ-loop image₀ line₀ piece s₀ i₀ image line s i = length piece - i
+μ-loop image₀ words₀ line₀ piece s₀ i₀ image words line s i = length piece - i
 
 loop-holds : tie.Need-loop-holds Inv-loop μ-loop
 loop-holds c = (omega arith, refl, refl, takes-none (c .before .before .before .pre .0))
 
 take-byte-requires : tie.Need-take-byte-requires Inv-loop μ-loop
 take-byte-requires c κs =
-    let inv = c .before .before .before .before .loop .inv in
-    (inv .3 .fits, inv .2 ∙ c .before .before .before .before .before .before .before .before .pre .1)
+    let inv = c .before .before .before .before .before .loop .inv in
+    (inv .3 .fits, inv .2 ∙ c .before .before .before .before .before .before .before .before .before .pre .1)
 
 add-i : tie.Need-add-i Inv-loop μ-loop
-add-i c = omega (arith, c .before .before .before .before .before .before .before .before .loop-test .taken, c .before .before .before .before .before .before .before .before .before .before .before .before .before .good .1 .1 .1 .0)
+add-i c =
+    let good = c .before .before .before .before .before .before .before .before .before .before .before .before .before .before .good in
+    omega (arith, c .before .before .before .before .before .before .before .before .before .loop-test .taken, good .1 .1 .1 .1 .0)
 
 loop-again : tie.Need-loop-again Inv-loop μ-loop
 loop-again c =
     let taken = c .before .before .before .before .take-byte in
-    let head = c .before .before .before .before .before .before .before .before .before .loop in
-    let some = c .before .before .before .before .before .before .before .before .loop-test .taken in (
+    let head = c .before .before .before .before .before .before .before .before .before .before .loop in
+    let some = c .before .before .before .before .before .before .before .before .before .loop-test .taken in
+    let piece = c .before .before .before .before .before .before .before .before .before .before .before .before .before .before .args .piece .now in (
       omega (arith, some),
       taken .kept .1 .0 ∙ head .inv .1,
-      taken .kept .1 .1 .0 ∙ head .inv .2,
-      takes-next (c .before .before .before .before .before .before .before .before .before .before .before .before .before .args .piece .now) (head .i) (head .inv .3) some (taken .ensures),
+      taken .kept .1 .1 .1 .0 ∙ head .inv .2,
+      takes-next piece (head .i) (head .inv .3) some (taken .ensures),
     )
 
+same-length : tie.Need-same-length Inv-loop μ-loop
+same-length c = c .before .loop .inv .1
+
+same-length-2 : tie.Need-same-length-2 Inv-loop μ-loop
+same-length-2 c = c .before .loop .inv .2
+
 returns : tie.Need-returns Inv-loop μ-loop
-returns c = let head = c .before .loop in takes-all (c .before .before .before .before .before .args .piece .now) (head .i) (head .inv .3) (c .loop-test .left)
+returns c =
+    let head = c .before .loop in
+    takes-all (c .before .before .before .before .before .args .piece .now) (head .i) (head .inv .3) (c .loop-test .left)
 
 pub take-piece-spec : {M : Type 1} → statement M
 take-piece-spec =
@@ -53,6 +64,6 @@ take-piece-spec =
     add-i
     (λ c. search needs)
     loop-again
-    (λ c. c .before .loop .inv .1)
-    (λ c. c .before .loop .inv .2)
+    same-length
+    same-length-2
     returns)

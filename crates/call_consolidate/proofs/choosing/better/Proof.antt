@@ -4,7 +4,7 @@ use mathlib.Core.Path.{_≡_, ap, _∙_}
 use borrow.Author.Needs.{needs}
 use Rattle.operations.specs.Operations.{copyCount}
 use Rattle.refinement.specs.Freeing.{mayFree, linesToCopy}
-use Rattle.freeing.proofs.Turns.{first-found, none-found, fewer-found, kept}
+use Rattle.call_consolidate.proofs.Turns.{first-found, none-found, fewer-found, kept}
 use Rattle.state_words.specs.Decoded.{decoded}
 use Rattle.call_consolidate.proofs.choosing.better.Statement.{statement}
 use Rattle.call_consolidate.proofs.choosing.better.Tie as tie

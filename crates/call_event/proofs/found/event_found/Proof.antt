@@ -9,13 +9,13 @@ use Rattle.bounded.specs.Rows.{refusal}
 use Rattle.layout.specs.Layout.{frames}
 use Rattle.words.specs.Words.{wordAt}
 use Rattle.meters.specs.Meters.{firstMeter, ownMeter, amountBad}
-use Rattle.state.specs.declared.State.{State}
+use Rattle.state.specs.State.{State}
 use Rattle.operations.specs.Operations.{Ranged, eventNextRows}
 use Rattle.refinement.specs.Frames.{pageFrame, seenFrame}
 use Rattle.refinement.specs.Calls.{meterIn}
 use Rattle.refinement.proofs.Going.{ranges-of}
-use Rattle.events.specs.declared.Found.{Found}
-use Rattle.events.proofs.Asked.{Started, started, row-start, row-early, row-amount, row-room, row-taken, early-frame, line-frame, narrow-line}
+use Rattle.call_event.specs.declared.found.Found.{Found}
+use Rattle.call_event.proofs.Asked.{Started, started, row-start, row-early, row-amount, row-room, row-taken, early-frame, line-frame, narrow-line}
 use Rattle.state_words.specs.Decoded.{decoded}
 use Rattle.call_event.specs.Seen.{lineFrom}
 use Rattle.call_event.proofs.found.event_found.Statement.{statement}

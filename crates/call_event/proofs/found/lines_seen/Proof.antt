@@ -8,7 +8,7 @@ use Rattle.image.specs.Lines.{lineBytes}
 use Rattle.lines.proofs.LineLaws.{first-word}
 use Rattle.meters.specs.Meters.{firstMeter, ownMeter}
 use Rattle.meters.proofs.MeterLaws.{first-low, own-range}
-use Rattle.state.specs.declared.State.{State}
+use Rattle.state.specs.State.{State}
 use Rattle.state_words.specs.Decoded.{decoded}
 use Rattle.call_event.specs.Seen.{lineFrom}
 use Rattle.call_event.proofs.found.lines_seen.Statement.{statement}

@@ -8,7 +8,7 @@ use Rattle.bounded.specs.Rows.{Row}
 use Rattle.bounded.proofs.Rows.{rows-first, rows-then}
 use Rattle.bounded.proofs.Tests.{row-yes, row-no}
 use Rattle.meters.specs.Meters.{moduliOk, eventKnown}
-use Rattle.state.specs.declared.State.{State}
+use Rattle.state.specs.State.{State}
 use Rattle.state.specs.declared.Places.{Places}
 use Rattle.state.specs.Wide.{someWide}
 use Rattle.refinement.specs.Calls.{quietRows}

@@ -3,7 +3,7 @@ use Prim.Native.Nat.{_-_, _≤_}
 use mathlib.Core.Path.{_≡_, refl, ap, _∙_}
 use lib.ListN.{length}
 use Rattle.bounded.proofs.Below.{ends}
-use Rattle.state.specs.declared.State.{State}
+use Rattle.state.specs.State.{State}
 use Rattle.state.specs.Wide.{wideOf}
 use Rattle.state_words.specs.Decoded.{decoded, withWide}
 use Rattle.call_mount.proofs.Columns.{column, keysTo, keys-none, keys-turn, keys-all}

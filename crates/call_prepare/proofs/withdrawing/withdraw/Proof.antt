@@ -1,12 +1,12 @@
 use borrow.Author.Needs.{needs}
 use mathlib.Core.Path.{_≡_, refl, sym, _∙_}
 use lib.ListN.{length}
-use Rattle.state.specs.declared.State.{State}
+use Rattle.state.specs.State.{State}
 use Rattle.state.specs.declared.Op.the-variants.{Confirm}
 use Rattle.refinement.specs.Calls.{confirmCallRows, withdrawOf}
 use Rattle.refinement.proofs.Begun.{unprepared}
 use Rattle.answers.proofs.AskKnown.{ask-known}
-use Rattle.writers_in_place.proofs.WriterCalls.{writer-refused, writer-taken}
+use Rattle.answers.proofs.Answered.{row-refused, row-taken}
 use Rattle.state_words.specs.Decoded.{decoded}
 use Rattle.call_prepare.proofs.withdrawing.withdraw.Statement.{statement}
 use Rattle.call_prepare.proofs.withdrawing.withdraw.Tie as tie
@@ -23,7 +23,7 @@ returns c =
     let r = c .before .before in
     let s = start r in
     let rs = confirmCallRows (st s) (s .args .image .now) (s .args .writer) in
-    (writer-refused (st s) (unprepared (st s)) rs _ (r .ask-row .ensures) _ (c .before .if1 .taken) (ask-known (st s) (length (s .args .image .now)) (Confirm (s .args .writer))) (c .answer-of .ensures), λ n. refl)
+    (row-refused (st s) (unprepared (st s)) rs _ (r .ask-row .ensures) _ (c .before .if1 .taken) (ask-known (st s) (length (s .args .image .now)) (Confirm (s .args .writer))) (c .answer-of .ensures), λ n. refl)
 
 returns-2 : tie.Need-returns-2
 unfolding withdrawOf
@@ -31,7 +31,7 @@ returns-2 c =
     let e = c .before .before in
     let r = e .before in
     let s = start r in
-    (writer-taken (st s) (unprepared (st s)) (confirmCallRows (st s) (s .args .image .now) (s .args .writer)) _ (r .ask-row .ensures) _ (e .if1 .left) (c .put-prepared .ensures), λ n. absurd (n refl))
+    (row-taken (st s) (unprepared (st s)) (confirmCallRows (st s) (s .args .image .now) (s .args .writer)) _ (r .ask-row .ensures) _ (e .if1 .left) (c .put-prepared .ensures), λ n. absurd (n refl))
 
 pub withdraw-spec : {M : Type 1} → statement M
 withdraw-spec =

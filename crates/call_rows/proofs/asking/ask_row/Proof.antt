@@ -2,7 +2,7 @@ use borrow.Author.Needs.{needs}
 use mathlib.Core.Path.{_≡_, ap, _∙_}
 use Rattle.bounded.specs.Rows.{refusal}
 use Rattle.bounded.proofs.Rows.{rows-first, rows-then}
-use Rattle.state.specs.declared.State.{State}
+use Rattle.state.specs.State.{State}
 use Rattle.operations.specs.Operations.{opRows}
 use Rattle.refinement.specs.Calls.{quietRows}
 use Rattle.refinement.proofs.Quiet.{quiet}

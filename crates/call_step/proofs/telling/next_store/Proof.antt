@@ -2,7 +2,7 @@ use borrow.Author.Needs.{needs}
 use Prim.Native.Nat.{_≤_}
 use lib.ListN.{length}
 use Rattle.layout.specs.Layout.{imageLength}
-use Rattle.state.specs.declared.State.{State}
+use Rattle.state.specs.State.{State}
 use Rattle.op_writer.specs.Served.{Served}
 use Rattle.state_words.specs.Decoded.{decoded}
 use Rattle.call_step.proofs.Running.{next-refused, run-may, next-told}

@@ -2,10 +2,10 @@ use mathlib.Core.Path.{refl, sym, _∙_}
 use native.Mathlib.Omega.{arith}
 use borrow.Author.Needs.{needs}
 use Rattle.bounded.proofs.Rows.{none-apply}
-use Rattle.state.specs.declared.Wide.{Wide}
+use Rattle.state.specs.State.{Wide}
 use Rattle.state.specs.Wide.{wideOf}
 use Rattle.operations.proofs.Taken.{ArgsGood, args-good}
-use Rattle.finding.proofs.FoundLine.{back-row, has-entry, has-none}
+use Rattle.call_write.proofs.FoundLine.{back-row, has-entry, has-none}
 use Rattle.op_rows.specs.Seen.{logRowsIn}
 use Rattle.state_words.specs.Decoded.{decoded}
 use Rattle.call_write.proofs.found.entry_found.Statement.{statement}
@@ -17,7 +17,7 @@ wide s = wideOf (s .args .at .wide) (s .args .at .count) (decoded (s .args .word
 good1 : (c : tie.Else1) → let a = c .before .before .before .before .before .args in ArgsGood (a .z) (a .at .wide) (a .a .page) (a .a .line) (a .a .offset) (a .a .length)
 good1 c =
     let a = c .before .before .before .before .before .args in
-    let rows = logRowsIn (a .z) (a .at) (decoded (a .words .now)) (a .a .page) (c .before .before .before .slot-of .result) (a .a .line) (a .a .offset) (a .a .length) (c .before .before .page-frame .result) in
+    let rows = logRowsIn (a .z) (a .at) (decoded (a .words .now)) (a .a) (c .before .before .before .slot-of .result) (c .before .before .page-frame .result) in
     args-good (a .z) (a .at .wide) (a .a .page) (a .a .line) (a .a .offset) (a .a .length) (none-apply rows (omega arith) (sym (c .before .log-row .ensures) ∙ c .if1 .left) .0)
 
 returns : tie.Need-returns

@@ -3,7 +3,7 @@ use native.Mathlib.Omega.{arith}
 use borrow.Author.Needs.{needs}
 use Rattle.bounded.proofs.Rows.{none-apply}
 use Rattle.operations.proofs.Taken.{ArgsGood, args-good}
-use Rattle.finding.proofs.FoundLine.{back-row}
+use Rattle.call_write.proofs.FoundLine.{back-row}
 use Rattle.op_rows.specs.Seen.{writeRowsIn}
 use Rattle.state_words.specs.Decoded.{decoded}
 use Rattle.call_write.proofs.found.frames_found.Statement.{statement}
@@ -12,7 +12,7 @@ use Rattle.call_write.proofs.found.frames_found.Tie as tie
 good1 : (c : tie.Else1) → let a = c .before .before .before .before .before .args in ArgsGood (a .z) (a .writer) (a .a .page) (a .a .line) (a .a .offset) (a .a .length)
 good1 c =
     let a = c .before .before .before .before .before .args in
-    let rows = writeRowsIn (a .z) (a .at) (decoded (a .words .now)) (a .writer) (a .a .page) (c .before .before .before .slot-of .result) (a .a .line) (a .a .offset) (a .a .length) (c .before .before .page-frame .result) in
+    let rows = writeRowsIn (a .z) (a .at) (decoded (a .words .now)) (a .writer) (a .a) (c .before .before .before .slot-of .result) (c .before .before .page-frame .result) in
     args-good (a .z) (a .writer) (a .a .page) (a .a .line) (a .a .offset) (a .a .length) (none-apply rows (omega arith) (sym (c .before .write-row .ensures) ∙ c .if1 .left) .0)
 
 returns : tie.Need-returns

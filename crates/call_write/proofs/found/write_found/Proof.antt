@@ -10,16 +10,16 @@ use borrow.Author.Needs.{needs}
 use Rattle.bounded.proofs.Tests.{or-left, or-right}
 use Rattle.layout.specs.Layout.{Legal, imageLength}
 use Rattle.layout.specs.declared.Sizes.{Sizes}
-use Rattle.state.specs.declared.State.{State}
+use Rattle.state.specs.State.{State}
 use Rattle.state.specs.declared.Places.{Places}
 use Rattle.state.specs.Wide.{isWide}
 use Rattle.operations.specs.Operations.{slotFor}
 use Rattle.refinement.specs.Frames.{frameAt}
-use Rattle.finding.specs.declared.Found.{Found}
-use Rattle.finding.specs.Finding.{FoundAfter, WriteFound}
-use Rattle.finding.proofs.FoundLine.{back-row, entry-after, frames-after}
-use Rattle.finding.proofs.ShortData.{write-bad}
-use Rattle.finding.proofs.Whole.{first-known, found-whole}
+use Rattle.call_write.specs.declared.found.Found.{Found}
+use Rattle.call_write.specs.Found.{FoundAfter, WriteFound}
+use Rattle.call_write.proofs.FoundLine.{back-row, entry-after, frames-after}
+use Rattle.call_write.proofs.ShortData.{write-bad}
+use Rattle.call_write.proofs.Whole.{first-known, found-whole}
 use Rattle.state_words.specs.Decoded.{decoded}
 use Rattle.call_write.proofs.found.write_found.Statement.{statement}
 use Rattle.call_write.proofs.found.write_found.Tie as tie
@@ -32,7 +32,7 @@ short s = ltb (length (s .args .«data» .now)) (s .args .a .length)
 
 -- what is found after the rows that come first is what is found
 whole : (c : tie.After-quiet-row) (r : Found) → let s = c .before .before .before in let a = s .args in
-    FoundAfter (c .quiet-row .result) (st s .sizes) (st s .next) (st s .table .page) (st s .table .original) (st s .table .spare) (st s .table .bitmap) (st s .writers .opened) (st s .writers .held) (st s .writers .prepared) (st s .wide) (a .image .now) (a .writer) (a .a .page) (a .a .line) (a .a .offset) (a .a .length) (a .«data» .now) r
+    FoundAfter (c .quiet-row .result) (st s) (a .image .now) (a .writer) (a .a .page) (a .a .line) (a .a .offset) (a .a .length) (a .«data» .now) r
     → WriteFound (st s) (a .image .now) (a .writer) (a .a .page) (a .a .line) (a .a .offset) (a .a .length) (a .«data» .now) r
 whole c r f =
     let s = c .before .before .before in
@@ -64,7 +64,7 @@ returns-2 c =
     let frame = frameAt (st s .sizes) (st s .table .original) (a .image .now) (a .a .page) slot in
     let row = back-row _ _ (c .turned-back2 .ensures) in
     let over = rw (ap (λ (z : Sizes). z .pages) (s .pre .0)) at (c .before .if2 .taken) in
-    let bad = write-bad (short s) (isWide (st s .wide) (a .writer)) (st s .sizes) (st s .next) (st s .table .page) (st s .table .original) (st s .table .spare) (st s .writers .opened) (st s .writers .held) (st s .writers .prepared) (st s .wide) (a .writer) (a .a .page) slot (a .a .line) (a .a .offset) (a .a .length) frame over in
+    let bad = write-bad (short s) (isWide (st s .wide) (a .writer)) (st s) (a .writer) (a .a .page) (a .a .line) (a .a .offset) (a .a .length) frame over in
     whole (c .before .before .before .before .before .before) _ (row ∙ rw (eq-eqb _ _ (c .before .before .before .before .before .if1 .left)) bad, λ z. absurd (omega (arith, row, z)))
 
 entry-found-requires : tie.Need-entry-found-requires
@@ -79,7 +79,7 @@ returns-3 c =
     let s = c .before .before .before .before .before .before .before .before .before .before .before in
     let a = s .args in
     let wide : st s .wide .writer ≡ a .writer = sym (ap (λ (p : Places). p .wide) (s .pre .1)) ∙ c .before .if3 .taken in
-    whole (c .before .before .before .before .before .before .before .before) _ (entry-after _ (c .before .before .before .before .before .before .before .if1 .left) (st s .sizes) (st s .next) (st s .table .page) (st s .table .original) (st s .table .spare) (st s .table .bitmap) (st s .writers .opened) (st s .writers .held) (st s .writers .prepared) (st s .wide) (a .image .now) (a .writer) (a .a .page) (a .a .line) (a .a .offset) (a .a .length) (a .«data» .now)
+    whole (c .before .before .before .before .before .before .before .before) _ (entry-after _ (c .before .before .before .before .before .before .before .if1 .left) (st s) (a .image .now) (a .writer) (a .a .page) (a .a .line) (a .a .offset) (a .a .length) (a .«data» .now)
     (long2 e) _ wide (rw (s .pre .0, s .pre .1) at (c .entry-found .ensures)))
 
 frames-found-requires : tie.Need-frames-found-requires
@@ -94,7 +94,7 @@ returns-4 c =
     let s = c .before .before .before .before .before .before .before .before .before .before .before in
     let a = s .args in
     let narrow : isWide (st s .wide) (a .writer) ≡ false = ne-eqb (st s .wide .writer) (a .writer) (λ q. c .before .if3 .left (ap (λ (p : Places). p .wide) (s .pre .1) ∙ q)) in
-    whole (c .before .before .before .before .before .before .before .before) _ (frames-after _ (c .before .before .before .before .before .before .before .if1 .left) (st s .sizes) (st s .next) (st s .table .page) (st s .table .original) (st s .table .spare) (st s .table .bitmap) (st s .writers .opened) (st s .writers .held) (st s .writers .prepared) (st s .wide) (a .image .now) (a .writer) (a .a .page) (a .a .line) (a .a .offset) (a .a .length) (a .«data» .now)
+    whole (c .before .before .before .before .before .before .before .before) _ (frames-after _ (c .before .before .before .before .before .before .before .if1 .left) (st s) (a .image .now) (a .writer) (a .a .page) (a .a .line) (a .a .offset) (a .a .length) (a .«data» .now)
     (long2 e) _ narrow (rw (s .pre .0, s .pre .1) at (c .frames-found .ensures)))
 
 pub write-found-spec : {M : Type 1} → statement M

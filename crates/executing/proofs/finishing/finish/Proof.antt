@@ -5,21 +5,25 @@ use Rattle.executing.proofs.finishing.finish.Tie as tie
 
 returns : tie.Need-returns
 returns c =
-    let a = c .before .before .before .before .before .before .args in
-    finish-none (a .d) (a .cut) (a .letter) _ _ (a .image .now) (c .before .before .before .number-of .ensures) (c .before .before .stores-of .ensures) _ (c .before .if1 .taken) (c .answered .ensures)
+    let needed = c .before .before in
+    let number = needed .before in
+    let a = number .before .before .args in
+    finish-none (a .answer) (a .words .now) (a .image .now) (a .cut) (a .letter) _ _ (number .number-of .ensures) (needed .stores-of .ensures) _
+    (c .before .if1 .taken) (c .answered .ensures)
 
 returns-2 : tie.Need-returns-2
 returns-2 c =
-    let next = c .before in
-    let made = next .before .before in
+    let mounted = c .before in
+    let made = mounted .before .before .before in
     let ran = made .before .before .before in
     let budget = ran .before in
-    let needed = budget .before .before .before in
+    let else = budget .before .before .before in
+    let needed = else .before in
     let number = needed .before in
-    let a = number .before .before .before .args in
-    finish-made (a .d) (a .cut) (a .letter) _ _ (a .image .now) (number .number-of .ensures) (needed .stores-of .ensures) _ (budget .before .before .if1 .left)
-    _ _ (ran .run .result) _ _ (budget .budget-of .ensures) (ran .run .ensures .0) (ran .run .ensures .1)
-    (made .stores-of2 .ensures) (next .after-cut .ensures) (c .answered2 .ensures)
+    let a = number .before .before .args in
+    finish-made (a .answer) (a .words .now) (a .image .now) (a .cut) (a .letter) _ _ (number .number-of .ensures) (needed .stores-of .ensures) _
+    (else .if1 .left) _ _ (ran .run .result) _ _ _ (budget .budget-of .ensures) (ran .run .ensures .0) (ran .run .ensures .1 .0)
+    (made .stores-of2 .ensures) (mounted .mount-cut .ensures) (c .answered2 .ensures)
 
 pub finish-spec : {M : Type 1} → statement M
 finish-spec =

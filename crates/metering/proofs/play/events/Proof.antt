@@ -5,10 +5,10 @@ use Rattle.metering.proofs.play.events.Statement.{statement}
 use Rattle.metering.proofs.play.events.Tie as tie
 
 abbrev Inv-loop : tie.InvT-loop
-Inv-loop image₀ n game₀ i₀ image game i = i ≤ n
+Inv-loop image₀ words₀ n game₀ i₀ image words game i = i ≤ n
 
 abbrev μ-loop : tie.MeasureT-loop
-μ-loop image₀ n game₀ i₀ image game i = n - i
+μ-loop image₀ words₀ n game₀ i₀ image words game i = n - i
 
 pub events-spec : {M : Type 1} → statement M
 events-spec =

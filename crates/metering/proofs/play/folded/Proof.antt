@@ -4,10 +4,10 @@ use Rattle.metering.proofs.play.folded.Statement.{statement}
 use Rattle.metering.proofs.play.folded.Tie as tie
 
 abbrev Inv-loop : tie.InvT-loop
-Inv-loop image st sum₀ sum₁ m₀ sum m = m ≤ 24
+Inv-loop image words sum₀ sum₁ m₀ sum m = m ≤ 24
 
 abbrev μ-loop : tie.MeasureT-loop
-μ-loop image st sum₀ sum₁ m₀ sum m = 24 - m
+μ-loop image words sum₀ sum₁ m₀ sum m = 24 - m
 
 pub folded-spec : {M : Type 1} → statement M
 folded-spec =

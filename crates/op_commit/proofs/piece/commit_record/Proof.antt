@@ -1,7 +1,7 @@
 use Prim.Native.Nat.{_<_}
 use native.Mathlib.Omega.{arith}
 use Rattle.refinement.proofs.CommitPlaces.{held-slot-low}
-use Rattle.commits.proofs.CommitMade.{commit-made}
+use Rattle.op_commit.proofs.CommitMade.{commit-made}
 use Rattle.state_words.specs.Decoded.{decoded}
 use borrow.Author.Needs.{needs}
 use Rattle.op_commit.proofs.piece.commit_record.Statement.{statement}

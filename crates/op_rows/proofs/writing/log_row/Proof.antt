@@ -16,7 +16,7 @@ use Rattle.op_rows.proofs.writing.log_row.Tie as tie
 abbrev rows : tie.Start → List Row
 rows c =
     let a = c .args in
-    logRowsIn (a .z) (a .at) (decoded (a .words .now)) (a .p) (a .s) (a .line) (a .offset) (a .length) (a .frame)
+    logRowsIn (a .z) (a .at) (decoded (a .words .now)) (a .span) (a .s) (a .frame)
 
 past1 : (c : tie.Else1) → Past (rows (c .before .before)) 1
 past1 c = (sym (c .before .write-args-bad .ensures) ∙ c .if1 .left, tt)
@@ -27,8 +27,8 @@ past2 c = (past1 (c .before .before) .0, (sym (ap not (c .before .open-at .ensur
 past3 : (c : tie.Else3) → Past (rows (c .before .before .before .before .before .before)) 3
 past3 c = let p = past2 (c .before .before) in (p .0, (p .1 .0, (sym (c .before .no-entry-left .ensures) ∙ c .if3 .left, tt)))
 
-good : (c : tie.Else1) → let a = c .before .before .args in ArgsGood (a .z) (a .at .wide) (a .p) (a .line) (a .offset) (a .length)
-good c = let a = c .before .before .args in args-good (a .z) (a .at .wide) (a .p) (a .line) (a .offset) (a .length) (past1 c .0)
+good : (c : tie.Else1) → let a = c .before .before .args in ArgsGood (a .z) (a .at .wide) (a .span .page) (a .span .line) (a .span .offset) (a .span .length)
+good c = let a = c .before .before .args in args-good (a .z) (a .at .wide) (a .span .page) (a .span .line) (a .span .offset) (a .span .length) (past1 c .0)
 
 returns : tie.Need-returns
 returns c = row-at (rows (c .before .before)) 0 (omega arith) tt (sym (c .before .write-args-bad .ensures) ∙ c .if1 .taken)

@@ -17,7 +17,7 @@ use Rattle.op_rows.proofs.writing.write_row.Tie as tie
 abbrev rows : tie.Start → List Row
 rows c =
     let a = c .args in
-    writeRowsIn (a .z) (a .at) (decoded (a .words .now)) (a .writer) (a .p) (a .s) (a .line) (a .offset) (a .length) (a .frame)
+    writeRowsIn (a .z) (a .at) (decoded (a .words .now)) (a .writer) (a .span) (a .s) (a .frame)
 
 past1 : (c : tie.Else1) → Past (rows (c .before .before)) 1
 past1 c = (sym (c .before .write-args-bad .ensures) ∙ c .if1 .left, tt)
@@ -34,8 +34,8 @@ past4 c = let p = past3 (c .before .before) in (p .0, (p .1 .0, (p .1 .1 .0, (sy
 past5 : (c : tie.Else5) → Past (rows (c .before .before .before .before .before .before .before .before .before .before)) 5
 past5 c = let p = past4 (c .before .before) in (p .0, (p .1 .0, (p .1 .1 .0, (p .1 .1 .1 .0, (sym (c .before .none-free .ensures) ∙ c .if5 .left, tt)))))
 
-good : (c : tie.Else1) → let a = c .before .before .args in ArgsGood (a .z) (a .writer) (a .p) (a .line) (a .offset) (a .length)
-good c = let a = c .before .before .args in args-good (a .z) (a .writer) (a .p) (a .line) (a .offset) (a .length) (past1 c .0)
+good : (c : tie.Else1) → let a = c .before .before .args in ArgsGood (a .z) (a .writer) (a .span .page) (a .span .line) (a .span .offset) (a .span .length)
+good c = let a = c .before .before .args in args-good (a .z) (a .writer) (a .span .page) (a .span .line) (a .span .offset) (a .span .length) (past1 c .0)
 
 returns : tie.Need-returns
 returns c = row-at (rows (c .before .before)) 0 (omega arith) tt (sym (c .before .write-args-bad .ensures) ∙ c .if1 .taken)

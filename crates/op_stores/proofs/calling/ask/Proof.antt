@@ -2,7 +2,7 @@ use borrow.Author.Needs.{needs}
 use mathlib.Core.Path.{_≡_, refl, sym, ap, _∙_}
 use mathlib.Core.List.{[]}
 use lib.ListN.{replicate}
-use Rattle.state.specs.declared.State.{State}
+use Rattle.state.specs.State.{State}
 use Rattle.operations.specs.Operations.{needs as needsOf}
 use Rattle.answers.specs.declared.Answer.the-variants.{Taken}
 use Rattle.state_words.specs.Decoded.{decoded}

@@ -4,10 +4,10 @@ use Rattle.reasons_shown.proofs.met.show_met.Statement.{statement}
 use Rattle.reasons_shown.proofs.met.show_met.Tie as tie
 
 abbrev Inv-loop : tie.InvT-loop
-Inv-loop image₀ st₀ k₀ image st k = k ≤ 55
+Inv-loop image₀ words₀ k₀ image words k = k ≤ 55
 
 abbrev μ-loop : tie.MeasureT-loop
-μ-loop image₀ st₀ k₀ image st k = 55 - k
+μ-loop image₀ words₀ k₀ image words k = 55 - k
 
 pub show-met-spec : {M : Type 1} → statement M
 show-met-spec =

@@ -8,7 +8,10 @@ use Rattle.script.proofs.performing.has_room.Statement.{statement}
 use Rattle.script.proofs.performing.has_room.Tie as tie
 
 returns : tie.Need-returns
-returns c = let l : c .before .args .size < c .before .args .at + room = omega (arith, c .if1 .taken) in sym (lt-leb (c .before .args .at + room) (c .before .args .size) l)
+returns c =
+    let a = c .before .args in
+    let l : a .size < a .at + room = omega (arith, c .if1 .taken) in
+    sym (lt-leb (a .at + room) (a .size) l)
 
 returns-2 : tie.Need-returns-2
 returns-2 c = room-left (c .before .args .size) (c .before .args .at) (c .if1 .left)

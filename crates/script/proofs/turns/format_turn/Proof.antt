@@ -6,17 +6,20 @@ use Rattle.script.proofs.turns.format_turn.Tie as tie
 
 returns : tie.Need-returns
 returns c =
-    let number = c .before .number-of in
-    let format = c .before .before .before .before .format in
-    let a = c .before .before .before .before .before .before .before .args in
-    format-refused (a .m) (a .image .now) _ (a .z) (format .result) _ _ (format .ensures .0) (format .ensures .1) (number .ensures) (c .if1 .taken) refl
+    let number = c .before in
+    let format = number .before .before .before in
+    let a = format .before .before .before .before .args in
+    let f = format .format in
+    format-refused (a .m) (a .words .now) (a .image .now) (a .z) (f .result) _ _ _ _ (f .ensures .0) (f .ensures .1 .0) (number .number-of .ensures)
+    (c .if1 .taken) refl
 
 returns-2 : tie.Need-returns-2
 returns-2 c =
-    let number = c .before .before .number-of in
-    let format = c .before .before .before .before .before .format in
-    let a = c .before .before .before .before .before .before .before .before .args in
-    format-taken (a .m) (a .image .now) _ (a .z) (format .result) _ _ (format .ensures .0) (format .ensures .1) (number .ensures)
+    let number = c .before .before in
+    let format = number .before .before .before in
+    let a = format .before .before .before .before .args in
+    let f = format .format in
+    format-taken (a .m) (a .words .now) (a .image .now) (a .z) (f .result) _ _ _ _ (f .ensures .0) (f .ensures .1 .0) (number .number-of .ensures)
     (c .before .if1 .left) (c .answered .ensures)
 
 pub format-turn-spec : {M : Type 1} → statement M

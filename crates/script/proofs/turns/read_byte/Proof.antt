@@ -1,4 +1,5 @@
 use borrow.Author.Needs.{needs}
+use Rattle.state_words.specs.Decoded.{decoded}
 use Rattle.script.proofs.Shown.{shown-refused, shown-past, shown-byte}
 use Rattle.script.proofs.turns.read_byte.Statement.{statement}
 use Rattle.script.proofs.turns.read_byte.Tie as tie
@@ -8,7 +9,7 @@ returns c =
     let number = c .before .number-of in
     let read = c .before .before .before .read in
     let a = c .before .before .before .before .before .before .args in
-    shown-refused (a .st) (a .image .now) (a .writer) (a .page) (a .line) (a .offset) (read .result) _
+    shown-refused (decoded (a .words .now)) (a .image .now) (a .writer) (a .page) (a .line) (a .offset) (read .result) _
     (number .ensures) (read .ensures .0 .0) (c .if1 .taken)
 
 returns-2 : tie.Need-returns-2
@@ -16,7 +17,7 @@ returns-2 c =
     let number = c .before .before .number-of in
     let read = c .before .before .before .before .read in
     let a = c .before .before .before .before .before .before .before .args in
-    shown-past (a .st) (a .image .now) (a .writer) (a .page) (a .line) (a .offset) (read .result) _
+    shown-past (decoded (a .words .now)) (a .image .now) (a .writer) (a .page) (a .line) (a .offset) (read .result) _
     (number .ensures) (read .ensures .0 .0) (c .before .if1 .left) (c .if2 .taken)
 
 returns-3 : tie.Need-returns-3
@@ -24,7 +25,7 @@ returns-3 c =
     let number = c .before .before .number-of in
     let read = c .before .before .before .before .read in
     let a = c .before .before .before .before .before .before .before .args in
-    shown-byte (a .st) (a .image .now) (a .writer) (a .page) (a .line) (a .offset) (read .result) _
+    shown-byte (decoded (a .words .now)) (a .image .now) (a .writer) (a .page) (a .line) (a .offset) (read .result) _
     (number .ensures) (read .ensures .0 .0) _ (read .ensures .1) (c .before .if1 .left) (c .if2 .left)
 
 pub read-byte-spec : {M : Type 1} → statement M

@@ -1,55 +1,72 @@
-use mathlib.Core.Path.{refl}
+use Prim.Native.Nat.{ℕ}
+use mathlib.Core.List.{List}
+use mathlib.Core.Path.{refl, ap}
 use borrow.Author.Needs.{needs}
-use Rattle.forms.specs.declared.Form.the-variants.{Other}
-use Rattle.forms.specs.Forms.{first}
+use Rattle.forms.specs.declared.Form.the-variants.{Cuts, Other}
 use Rattle.forms.proofs.Formed.{write-data}
-use Rattle.script.proofs.Turning.{by-form, by-format, by-call, by-read, by-cut}
+use Rattle.executing.specs.declared.Turned.{Turned}
+use Rattle.executing.specs.Called.{Machine, machineAt, turnAt}
+use Rattle.script.proofs.Turning.{by-form, by-format, by-call, by-read}
 use Rattle.script.proofs.turns.turn.Statement.{statement}
 use Rattle.script.proofs.turns.turn.Tie as tie
 
+abbrev machine : tie.Start → Machine
+machine s = machineAt (s .args .m) (s .args .words .now)
+
+abbrev bytes : tie.Start → List ℕ
+bytes s = s .args .image .now
+
+abbrev start : tie.After-form-of → tie.Start
+start c = c .before .before .before .before
+
 ask-requires : tie.Need-ask-requires
 ask-requires c κs =
-    let asked = c .before .before .before .before .a in
-    let form = c .before .before .before .before .before .before .form-of in
-    let a = c .before .before .before .before .before .before .before .before .before .before .args in
-    write-data (a .m .formatted) (a .t3) (form .result) (asked .given .0 .0) (form .ensures) (asked .given .1)
+    let asked = c .before .before .before .before .before in
+    let form = asked .before .before in
+    let s = start form in
+    write-data (s .args .m .formatted) (s .args .t4) (form .form-of .result) (asked .a .given .0 .0) (form .form-of .ensures) (asked .a .given .1)
 
 returns : tie.Need-returns
 returns c =
-    let turned = c .before .before .format-turn in
-    let sizes = c .before .before .before .sizes-in in
-    let form = c .before .before .before .before .before .before .before .before .before .form-of in
-    let a = c .before .before .before .before .before .before .before .before .before .before .before .before .before .args in
-    by-format (a .m) (a .image .now) (a .t3) (form .result) (form .ensures) (sizes .result) _ _ (c .before .before .before .before .before .before .before .enum-told .given .1)
-    (sizes .ensures) (turned .ensures .0) (turned .ensures .1)
+    let turned = c .before .before in
+    let sizes = turned .before in
+    let told = sizes .before .before .before .before .before in
+    let form = told .before .before in
+    let s = start form in
+    by-format (machine s) (bytes s) (s .args .t4) (form .form-of .result) (form .form-of .ensures) (sizes .sizes-in .result) _ (told .enum-told .given .1)
+    (sizes .sizes-in .ensures) (turned .format-turn .ensures)
 
 returns-2 : tie.Need-returns-2
 returns-2 c =
-    let finished = c .before .before .finish in
-    let called = c .before .before .before .before .ask in
-    let asked = c .before .before .before .before .before .before .before .before .before .a in
-    let form = c .before .before .before .before .before .before .before .before .before .before .before .form-of in
-    let a = c .before .before .before .before .before .before .before .before .before .before .before .before .before .before .before .args in
-    by-call (a .m) (a .image .now) (a .t3) (form .result) (form .ensures) (asked .given .0 .0) _ _ _ (asked .given .1)
-    (called .ensures) (finished .ensures .0) (finished .ensures .1)
+    let finished = c .before .before in
+    let called = finished .before .before .before .before .before in
+    let asked = called .before .before .before .before .before .before in
+    let form = asked .before .before in
+    let s = start form in
+    by-call (machine s) (bytes s) (s .args .t4) (form .form-of .result) (form .form-of .ensures) (asked .a .given .0 .0) _ _ (asked .a .given .1)
+    (called .ask .ensures) (finished .finish .ensures)
 
 returns-3 : tie.Need-returns-3
 returns-3 c =
-    let form = c .before .before .before .before .before .before .form-of in
-    let a = c .before .before .before .before .before .before .before .before .before .before .args in
-    by-read (a .m) (a .image .now) (a .t3) (form .result) (form .ensures) (c .read-shown .result) (c .before .before .before .before .enum-told2 .given .1) (c .read-shown .ensures)
+    let told = c .before .before .before .before .before in
+    let form = told .before .before in
+    let s = start form in
+    by-read (machine s) (bytes s) (s .args .t4) (form .form-of .result) (form .form-of .ensures) (c .read-shown .result) (told .enum-told2 .given .1)
+    (c .read-shown .ensures)
 
 returns-4 : tie.Need-returns-4
 returns-4 c =
-    let form = c .before .before .before .before .form-of in
-    let a = c .before .before .before .before .before .before .before .before .args in
-    by-cut (a .m) (a .image .now) (a .t3) (form .result) (form .ensures) (first (a .t3)) _ (c .before .before .enum-told3 .given .1) refl (c .cut-turn .ensures)
+    let told = c .before .before in
+    let form = told .before .before in
+    let s = start form in
+    by-form (machine s) (bytes s) (s .args .t4) (form .form-of .result) (form .form-of .ensures) Cuts _ (told .enum-told3 .given .1)
+    (ap (λ (r : Turned). turnAt r (s .args .words .now) (bytes s)) (c .answered .ensures))
 
 returns-5 : tie.Need-returns-5
 returns-5 c =
-    let form = c .before .before .form-of in
-    let a = c .before .before .before .before .before .before .args in
-    by-form (a .m) (a .image .now) (a .t3) (form .result) (form .ensures) Other _ _ (c .enum-told4 .given .1) refl refl
+    let form = c .before .before in
+    let s = start form in
+    by-form (machine s) (bytes s) (s .args .t4) (form .form-of .result) (form .form-of .ensures) Other _ (c .enum-told4 .given .1) refl
 
 pub turn-spec : {M : Type 1} → statement M
 turn-spec =

@@ -7,10 +7,10 @@ use Rattle.slots_freed.proofs.turns.play.Statement.{statement}
 use Rattle.slots_freed.proofs.turns.play.Tie as tie
 
 abbrev Inv-loop : tie.InvT-loop
-Inv-loop image₀ st₀ sum₀ call₀ -turn₀ image st sum call -turn = (-turn ≤ 6294) × (length image ≡ length image₀)
+Inv-loop image₀ words₀ sum₀ call₀ -turn₀ image words sum call -turn = (-turn ≤ 6294) × (length image ≡ length image₀)
 
 abbrev μ-loop : tie.MeasureT-loop
-μ-loop image₀ st₀ sum₀ call₀ -turn₀ image st sum call -turn = 6294 - -turn
+μ-loop image₀ words₀ sum₀ call₀ -turn₀ image words sum call -turn = 6294 - -turn
 
 pub play-spec : {M : Type 1} → statement M
 play-spec =

@@ -44,7 +44,7 @@ returns c =
     let more = decimal-le (s .args .t .abandoned) in
     let most = length-spent (s .args .t .spent) in
     record {
-      text = λ img.
+      text = λ words img.
           put-then (record { laid = one .ensures .0; place = one .ensures .1 })
           (put-then (two .ensures)
           (put-then (three .ensures) (record { laid = four .ensures .0; place = four .ensures .1 }) (omega arith)) (omega arith)) (omega arith);

@@ -7,7 +7,7 @@ use Rattle.trial_lines.proofs.output.put_response.Tie as tie
 
 returns : tie.Need-returns
 unfolding response
-returns c = record { text = λ img. rw (c .before .before .before .before .if1 .taken) (c .before .before .put-counts .ensures .text img) }
+returns c = record { text = λ words img. rw (c .before .before .before .before .if1 .taken) (c .before .before .put-counts .ensures .text words img) }
 
 returns-2 : tie.Need-returns-2
 unfolding response
@@ -16,7 +16,7 @@ returns-2 c =
     let one = c .before .before .before .before .before .before .put-byte in
     let two = c .before .before .put-byte2 in
     record {
-      text = λ img.
+      text = λ words img.
           rw (c .before .before .before .before .before .before .before .before .if1 .left)
           (put-then (record { laid = one .ensures .0; place = one .ensures .1 }) (record { laid = two .ensures .0; place = two .ensures .1 }) (omega arith));
     }

@@ -7,7 +7,7 @@ returns : tie.Need-returns
 returns c = not-committed _ (c .if1 .taken)
 
 returns-2 : tie.Need-returns-2
-returns-2 c = is-committed _ _ (c .before .before .before .before .if1 .left) (c .before .before .make-with-room .ensures)
+returns-2 c = is-committed _ _ (c .before .before .before .before .before .if1 .left) (c .before .before .make-with-room .ensures)
 
 pub commit-written-spec : {M : Type 1} → statement M
 commit-written-spec =

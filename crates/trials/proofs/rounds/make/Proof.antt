@@ -5,20 +5,20 @@ use Rattle.trials.proofs.rounds.make.Tie as tie
 
 returns : tie.Need-returns
 returns c =
-    let ran = c .before .before .before .before .before in
-    let needed = ran .before .before in
-    let number = needed .before in
-    let asked = number .before in
-    let a = asked .before .before .before .args in
-    call-made (a .a) (a .t) (a .image .now) (asked .ask .result) (ran .run .result) _ _ _ _ _
-    (asked .ask .ensures) (number .number-of .ensures) (needed .stores-of .ensures) (ran .run .ensures .0) (ran .run .ensures .1)
-    (c .before .stores-for .ensures) (c .add .ensures)
+    let at-stores-for = c .before in
+    let at-stores-of = at-stores-for .before in
+    let at-number-of = at-stores-of .before in
+    let at-call = at-number-of .before .before .before in
+    let at-args = at-call .before .before .before .before in
+    let a = at-args .args in
+    let f = at-call .call in
+    call-made (a .a) (a .t) (a .words .now) (a .image .now) (f .result) _ _ _ _ _ _
+    (f .ensures) (at-number-of .number-of .ensures) (at-stores-of .stores-of .ensures) (at-stores-for .stores-for .ensures) (c .add .ensures)
 
 pub make-spec : {M : Type 1} → statement M
 make-spec =
     tie.close
     (tie.spec
-    (λ c κs. search needs)
     (λ c κs. search needs)
     (λ c κs. search needs)
     (λ c κs. search needs)

@@ -5,16 +5,18 @@ use Rattle.trials.proofs.rounds.make_with_room.Tie as tie
 
 returns : tie.Need-returns
 returns c =
-    let first = c .before .before .before .before in
-    room-enough (first .before .before .before .args .a) _ _ (first .make .ensures) (c .if1 .taken)
+    let at-make = c .before .before .before .before in
+    let at-args = at-make .before .before .before .before in
+    room-enough (at-args .args .a) _ _ (at-make .make .ensures) (c .if1 .taken)
 
 returns-2 : tie.Need-returns-2
 returns-2 c =
-    let again = c .before .before in
-    let emptied = again .before .before .before .before in
-    let else = emptied .before .before in
-    let first = else .before .before .before .before in
-    room-made (first .before .before .before .args .a) _ _ (first .make .ensures) (else .if1 .left) _ _ (emptied .make2 .ensures) (again .make3 .ensures)
+    let at-make3 = c .before .before in
+    let at-make2 = at-make3 .before .before .before .before .before in
+    let at-if1 = at-make2 .before .before .before in
+    let at-make = at-if1 .before .before .before .before in
+    let at-args = at-make .before .before .before .before in
+    room-made (at-args .args .a) _ _ (at-make .make .ensures) (at-if1 .if1 .left) _ _ (at-make2 .make2 .ensures) (at-make3 .make3 .ensures)
 
 pub make-with-room-spec : {M : Type 1} → statement M
 make-with-room-spec =

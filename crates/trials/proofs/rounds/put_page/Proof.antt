@@ -6,34 +6,40 @@ use Rattle.trials.proofs.rounds.put_page.Tie as tie
 
 returns : tie.Need-returns
 returns c =
-    let first = c .before .before .before .before in
-    let a = first .before .before .before .args in
-    put-plain (a .byte) (a .page) _ _ (first .make .ensures) (c .if1 .taken)
+    let a = c .before .before .before .before .before .before .before .before .args in
+    put-plain (a .byte) (a .page) _ _ (c .before .before .before .before .make .ensures) (c .if1 .taken)
 
 returns-2 : tie.Need-returns-2
 returns-2 c =
-    let freed = c .before .before .before .before in
-    let else = freed .before .before in
-    let first = else .before .before .before .before in
-    let a = first .before .before .before .args in
-    put-stuck (a .byte) (a .page) _ _ (first .make .ensures) (else .if1 .left) _ (freed .make-with-room .ensures) (c .if2 .taken)
+    let at-make-with-room = c .before .before .before .before in
+    let at-if1 = at-make-with-room .before .before .before in
+    let at-make = at-if1 .before .before .before .before in
+    let at-args = at-make .before .before .before .before in
+    let a = at-args .args in
+    let first = at-make .make in
+    put-stuck (a .byte) (a .page) _ _ (first .ensures) (at-if1 .if1 .left) _ (at-make-with-room .make-with-room .ensures) (c .if2 .taken)
 
 same-length-3 : tie.Need-same-length-3
 same-length-3 c =
-    let again = c .before .before in
-    let freed = c .before .before .before .before .before .before .before .before in
-    let first = c .before .before .before .before .before .before .before .before .before .before .before .before .before .before in
-    again .make2 .kept .1 .0 ∙ (freed .make-with-room .kept .1 .0 ∙ first .make .kept .1 .0)
+    let at-make2 = c .before .before in
+    let at-make-with-room = at-make2 .before .before .before .before .before .before .before in
+    let at-make = at-make-with-room .before .before .before .before .before .before .before in
+    let freed = at-make-with-room .make-with-room in
+    let first = at-make .make in
+    at-make2 .make2 .kept .1 .0 ∙ (freed .kept .1 .0 ∙ first .kept .1 .0)
 
 returns-3 : tie.Need-returns-3
 returns-3 c =
-    let again = c .before .before in
-    let else2 = again .before .before in
-    let freed = else2 .before .before .before .before in
-    let else = freed .before .before in
-    let first = else .before .before .before .before in
-    let a = first .before .before .before .args in
-    put-freed (a .byte) (a .page) _ _ (first .make .ensures) (else .if1 .left) _ (freed .make-with-room .ensures) (else2 .if2 .left) _ (again .make2 .ensures)
+    let at-make2 = c .before .before in
+    let at-if2 = at-make2 .before .before .before in
+    let at-make-with-room = at-if2 .before .before .before .before in
+    let at-if1 = at-make-with-room .before .before .before in
+    let at-make = at-if1 .before .before .before .before in
+    let at-args = at-make .before .before .before .before in
+    let a = at-args .args in
+    let first = at-make .make in
+    let freed = at-make-with-room .make-with-room in
+    put-freed (a .byte) (a .page) _ _ (first .ensures) (at-if1 .if1 .left) _ (freed .ensures) (at-if2 .if2 .left) _ (at-make2 .make2 .ensures)
 
 pub put-page-spec : {M : Type 1} → statement M
 put-page-spec =

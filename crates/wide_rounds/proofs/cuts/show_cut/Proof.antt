@@ -4,10 +4,10 @@ use Rattle.wide_rounds.proofs.cuts.show_cut.Statement.{statement}
 use Rattle.wide_rounds.proofs.cuts.show_cut.Tie as tie
 
 abbrev Inv-loop : tie.InvT-loop
-Inv-loop image₀ cut st₀ k₀ t11 t12 t13 t14 t15 image st k = (k ≤ 10)
+Inv-loop image₀ words₀ cut k₀ t10 t11 t12 t13 t14 image words k = (k ≤ 10)
 
 abbrev μ-loop : tie.MeasureT-loop
-μ-loop image₀ cut st₀ k₀ t11 t12 t13 t14 t15 image st k = 10 - k
+μ-loop image₀ words₀ cut k₀ t10 t11 t12 t13 t14 image words k = 10 - k
 
 pub show-cut-spec : {M : Type 1} → statement M
 show-cut-spec =

@@ -4,10 +4,10 @@ use Rattle.wide_rounds.proofs.cuts.show_cuts.Statement.{statement}
 use Rattle.wide_rounds.proofs.cuts.show_cuts.Tie as tie
 
 abbrev Inv-loop : tie.InvT-loop
-Inv-loop image₀ cut₀ image cut = cut ≤ 43
+Inv-loop image₀ words₀ cut₀ image words cut = cut ≤ 43
 
 abbrev μ-loop : tie.MeasureT-loop
-μ-loop image₀ cut₀ image cut = 43 - cut
+μ-loop image₀ words₀ cut₀ image words cut = 43 - cut
 
 pub show-cuts-spec : {M : Type 1} → statement M
 show-cuts-spec =

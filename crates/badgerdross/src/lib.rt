@@ -1,0 +1,99 @@
+// The store for a host in C: the calls on the words that the host keeps, with the names and forms of include/badgerdross.h. Each returns its number.
+mod meters;
+mod pending;
+mod room;
+mod round;
+
+ghost use mathlib.Core.Bool.{cond};
+ghost use mathlib.Core.Path.{_≡_};
+ghost use Rattle.layout.specs.Layout.{sizesOk, imageLength};
+ghost use Rattle.fresh.specs.Fresh.{formatBytes};
+ghost use Rattle.refinement.specs.Mount.{formatCall, mountCall};
+ghost use Rattle.refinement.specs.Recall.{recallRow, recallBytes};
+ghost use Rattle.state_words.specs.Decoded.{decoded};
+ghost use Rattle.call_mount.specs.Replacing.{replacing};
+ghost use Rattle.badgerdross.specs.Left.{Leaves, Keeps, untilBy, sizesBy};
+use layout::Sizes;
+use op_stores::Until;
+
+// How far an operation is taken: 0 not at all, 1 to before the store that decides, else to its end.
+fn until_of(n: usize) -> Until
+    ensures { λ r. ⌜ r ≡ untilBy n ⌝ }
+{
+    if n == 0 {
+        return Until::Asked;
+    }
+    if n == 1 {
+        return Until::Fence;
+    }
+    Until::End
+}
+
+// How many bytes an image of these sizes has, or 0.
+#[no_mangle]
+pub extern "C" fn badgerdross_image_length(
+    pages: usize,
+    slots: usize,
+    places: usize,
+    entries: usize,
+) -> usize
+    ensures { λ r. ⌜ r ≡ cond (sizesOk (sizesBy pages slots places entries)) (imageLength (sizesBy pages slots places entries)) 0 ⌝ }
+{
+    let z = Sizes {
+        pages,
+        slots,
+        places,
+        entries,
+    };
+    if !layout::sizes_ok(z) {
+        return 0;
+    }
+    layout::image_length(z)
+}
+
+// Writes a fresh image.
+#[no_mangle]
+pub extern "C" fn badgerdross_format(
+    words: &mut [u64; 256],
+    image: &mut [u8],
+    pages: usize,
+    slots: usize,
+    places: usize,
+    entries: usize,
+) -> usize
+    ensures state { λ r. ⌜ Leaves r (decoded (now (words .exit)))
+        (replacing (decoded (now (words .entry))) (formatCall (sizesBy pages slots places entries) (now (image .entry)))) ⌝ }
+    ensures bytes { λ _. ⌜ now (image .exit) ≡ formatBytes (sizesBy pages slots places entries) (now (image .entry)) ⌝ }
+    ensures words { λ r. ⌜ Keeps r (now (words .exit)) (now (words .entry)) ⌝ }
+{
+    let z = Sizes {
+        pages,
+        slots,
+        places,
+        entries,
+    };
+    answers::number_of(call_mount::format(image, words, z))
+}
+
+// Mounts an image.
+#[no_mangle]
+pub extern "C" fn badgerdross_mount(words: &mut [u64; 256], image: &[u8]) -> usize
+    ensures state { λ r. ⌜ Leaves r (decoded (now (words .exit))) (replacing (decoded (now (words .entry))) (mountCall (now (image .entry)))) ⌝ }
+    ensures words { λ r. ⌜ Keeps r (now (words .exit)) (now (words .entry)) ⌝ }
+{
+    answers::number_of(call_mount::mount(image, words))
+}
+
+// Shows the committed bytes of a line.
+#[no_mangle]
+pub extern "C" fn badgerdross_recall(
+    page: usize,
+    line: usize,
+    image: &[u8],
+    target: &mut [u8],
+) -> usize
+    ensures number { λ r. ⌜ r ≡ recallRow (now (image .entry)) page line (now (target .entry)) ⌝ }
+    ensures bytes { λ _. ⌜ now (target .exit) ≡ recallBytes (now (image .entry)) page line (now (target .entry)) ⌝ }
+{
+    recalling::recall(page, line, image, target)
+}

@@ -1,4 +1,0 @@
-pub mod ShortData
-pub mod FoundLine
-pub mod Whole
-pub mod Writing

@@ -1,0 +1,12 @@
+// The state that a host keeps, as a record: document 01's state record. Any words are a state.
+use answers::Answer;
+
+pub struct State {
+    pub words: [u64; 256],
+}
+
+// A call's answer and the state after it.
+pub struct Done {
+    pub answer: Answer,
+    pub state: State,
+}

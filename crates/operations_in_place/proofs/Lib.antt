@@ -1,4 +1,0 @@
-pub mod Asking
-pub mod Committing
-pub mod Consolidating
-pub mod Checkpointing

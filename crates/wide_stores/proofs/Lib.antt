@@ -1,3 +1,0 @@
-pub mod NoWriter
-pub mod WideMade
-pub mod WideGoing
