@@ -57,7 +57,7 @@ fn put_entries(words: &mut [u64; 256], n: usize, keys: [u64; 64])
         state_words::put_key(words, e, keys[e]);
         e += 1;
     }
-    state_words::put_wide(words, 4, n);
+    state_words::put_wide(words, state::NO_WRITER, n);
 }
 
 // The copying of n entries is pending, the store of their count made.
