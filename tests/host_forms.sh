@@ -45,7 +45,7 @@ fn fresh() -> State {
         places: 1,
         entries: 1,
     };
-    call_mount::format(&mut image, &mut words, z);
+    call_mount::format_whole(&mut image, &mut words, z);
     State { words }
 }
 

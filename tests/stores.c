@@ -4,6 +4,7 @@
  * of model/src/bin/model-stores.rs and prints the lines that it prints.
  *
  *     stores end|fence|run|threes|step < calls       how the stores of an operation are asked for
+ *     stores once < calls                            the lines F alone, each a format in one call over bytes of no image
  *
  * Ends with status 1 where a store that decides (words 3 to 6) is not made by one instruction of 8 aligned bytes; where a step is not one
  * such store, to the word that next_store told; where what is to stop before a store that decides makes it; and where a call that is to
@@ -20,7 +21,7 @@
 
 #include "badgerdross.h"
 
-enum { ROOM = 1 << 20, NEAR = 64, MARK = 0xEE, TRAP_FLAG = 0x100, MOST = 1 << 14, NO_CUT = -1 };
+enum { ROOM = 1 << 20, NEAR = 64, MARK = 0xEE, TRAP_FLAG = 0x100, MOST = 1 << 17, NO_CUT = -1 };
 
 static struct badgerdross store;
 static uint8_t *image;
@@ -265,6 +266,33 @@ static size_t play(char letter, char mode)
     return answer;
 }
 
+/* A format in one call: the layout word is stored first, as 0, and last, each time by one instruction and by none between, though nothing
+ * reads it there; and every other word is stored. */
+static int layout_store(struct made m) { return one_word(m) && m.first == 24; }
+
+static void format_once(void)
+{
+    length = badgerdross_image_length(number[0], number[1], number[2], number[3]);
+    for (size_t i = 0; i < ROOM; i++)
+        image[i] = (uint8_t)(37 * i % 200);
+    mprotect(image, ROOM, PROT_READ);
+    if (badgerdross_format(&store, image, length, number[0], number[1], number[2], number[3]) != 0)
+        fail("a format was turned back");
+    struct made *last = made + made_count - 1;
+    if (made_count < 3 || !layout_store(made[0]) || made[0].value != 0 || !layout_store(*last) || last->value == 0)
+        fail("the first or the last store of a format is not one of the layout word");
+    for (struct made *m = made + 1; m < last; m++)
+        for (size_t word = m->first / 8; word <= m->last / 8; word++)
+            group[word] = 1;
+    for (size_t word = 0; word < length / 8; word++) {
+        if (group[word] == (word == 3))
+            fail("a format stored the layout word in between, or left out another");
+        group[word] = 0;
+    }
+    mprotect(image, ROOM, PROT_READ | PROT_WRITE);
+    printf("F %zu stored by %zu instructions\n", length / 8, made_count);
+}
+
 static uint64_t hash(void)
 {
     uint64_t h = 0xcbf29ce484222325;
@@ -276,7 +304,7 @@ static uint64_t hash(void)
 int main(int count, char **arguments)
 {
     char mode = count == 2 ? arguments[1][0] : 0;
-    if (mode == 0 || strchr("efrts", mode) == NULL)
+    if (mode == 0 || strchr("efrtso", mode) == NULL)
         return 2;
     image = mmap(NULL, ROOM, PROT_READ | PROT_WRITE, MAP_PRIVATE | MAP_ANONYMOUS, -1, 0);
     watch();
@@ -288,6 +316,11 @@ int main(int count, char **arguments)
         for (int more; n < 8 && sscanf(text + at, ",%zu%n", &number[n], &more) == 1; n++)
             at += more;
         made_count = 0;
+        if (mode == 'o') {
+            if (letter == 'F')
+                format_once();
+            continue;
+        }
         size_t answer = letter == 'T' ? 0 : cut == NO_CUT ? play(letter, mode) : play_cut(letter, (size_t)cut);
         cut = letter == 'T' ? (long)number[0] : NO_CUT;
         finish(mode);

@@ -33,5 +33,7 @@ for calls in tests/stores/*.txt; do
         fi
     done
 done
-echo "stores: $lists lists, $differ differ"
+# a format in one call, of each list's sizes
+if ! cat tests/stores/*.txt | "$work/stores" once > "$work/formats"; then differ=$((differ + 1)); fi
+echo "stores: $lists lists, $(wc -l < "$work/formats") formats, $differ differ"
 [ "$lists" -gt 5 ] && [ "$differ" -eq 0 ]

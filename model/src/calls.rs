@@ -3,9 +3,9 @@
 //! A call that asks for an operation gives the number of stores needed; run gives the number made.
 
 use crate::image::{line as line_at, put_word, word};
-use crate::layout::{COUNT_AT, HEAD_AT, TAIL_AT};
+use crate::layout::{COUNT_AT, HEAD_AT, LAYOUT_AT, TAIL_AT};
 use crate::meters::{moduli_fit, read_moduli, Asked};
-use crate::plan::{complete, plan};
+use crate::plan::{complete, make_stores, plan};
 use crate::refusal::{row, Answer, Refusal::*};
 use crate::rows::{
     abort_rows, begin_rows, begin_wide_rows, commit_rows, confirm_rows, consolidate_rows, event_rows,
@@ -191,22 +191,22 @@ pub fn step(state: &mut State, image: &mut [u8]) -> Answer<u64> {
 pub fn run(state: &mut State, image: &mut [u8], k: u64) -> Answer<u64> {
     buffer_rows(state, image)?;
     row(NothingPending, state.pending.is_none())?;
-    let mut made = 0;
-    while made < k && state.pending.is_some() {
-        make_one_store(state, image);
-        made += 1;
-    }
-    Ok(made)
+    Ok(make_stores(state, image, k))
 }
 
 /// Tells of the next store: the number of the word that it goes to, and whether it decides, that is, whether a mount goes by
-/// what it changes. Of all words that operations store to these are head, tail and the count of entries.
+/// what it changes. In a format these are the two of the layout, between which a mount reads no other word; of all words that
+/// other operations store to these are head, tail and the count of entries.
 pub fn next_store(state: &State, image: &[u8]) -> Answer<(u64, bool)> {
     buffer_rows(state, image)?;
     row(NothingPending, state.pending.is_none())?;
     let Pending { operation, made } = state.pending.as_ref().expect("row 10: an operation is pending");
     let at = plan(state, operation)[*made as usize].at.address(image);
-    Ok((at as u64 / 8, [HEAD_AT, TAIL_AT, COUNT_AT].contains(&at)))
+    let deciding: &[usize] = match operation {
+        Operation::Format => &[LAYOUT_AT],
+        _ => &[HEAD_AT, TAIL_AT, COUNT_AT],
+    };
+    Ok((at as u64 / 8, deciding.contains(&at)))
 }
 
 /// Rows 8 and 4.
@@ -258,16 +258,4 @@ fn ask(state: &mut State, operation: Operation) -> u64 {
         state.pending = Some(Pending { operation, made: 0 });
     }
     needed
-}
-
-/// The next store of the pending operation; with the last one come the operation's changes.
-fn make_one_store(state: &mut State, image: &mut [u8]) {
-    let Pending { operation, made } = state.pending.take().expect("row 10: an operation is pending");
-    let stores = plan(state, &operation);
-    stores[made as usize].make(image);
-    if made + 1 == stores.len() as u64 {
-        complete(state, &operation);
-    } else {
-        state.pending = Some(Pending { operation, made: made + 1 });
-    }
 }

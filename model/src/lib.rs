@@ -8,6 +8,7 @@
 //! - `slots`, `journal`: a slot's three words and its shapes; records, positions, live counts
 //! - `meters`: events, the numbers that they move, and the moduli as text (document 02)
 //! - `state`: what the host keeps between calls
+//! - `fresh`: a fresh image and its state
 //! - `rows`: the refusal table from row 11 on
 //! - `plan`: the stores that an operation needs, and the change that comes with its last store
 //! - `validity`: row 8
@@ -18,6 +19,7 @@
 
 pub mod calls;
 pub mod compare;
+pub mod fresh;
 pub mod image;
 pub mod journal;
 pub mod layout;

@@ -1,37 +1,31 @@
 //! Format, mount and recall: the calls that take no state.
 
-use crate::image::{line as line_at, put_word, word};
+use crate::fresh::fresh_state;
+use crate::image::{line as line_at, word};
 use crate::journal::{bounds_hold, live_positions, record_holds, Record};
 use crate::layout::{
     Sizes, COUNT_AT, ENTRIES_AT, HEADER, HEAD_AT, J_AT, LAYOUT, LAYOUT_AT, LINES, P_AT, S_AT, TAIL_AT,
     WIDE_LAYOUT,
 };
+use crate::plan::{make_stores, plan};
 use crate::refusal::{row, Answer, Refusal::*};
 use crate::slots::{page_twice, slot_owning, Slot};
 use crate::state::{Operation, Pending, State, Wide};
 
-/// Writes a fresh image and gives its state. Bytes past the image stay.
-pub fn format(sizes: Sizes, buffer: &mut [u8]) -> Answer<State> {
+/// Asks for a format (document 02, L6): the fresh state with its image still to be stored, and how many stores that needs.
+pub fn ask_format(sizes: Sizes, buffer: &[u8]) -> Answer<(State, u64)> {
     row(SizesOutOfRange, !sizes.in_range())?;
     row(BufferShort, buffer.len() < sizes.image_length())?;
-    let image = &mut buffer[..sizes.image_length()];
-    image.fill(0);
-    put_word(image, P_AT, sizes.p);
-    put_word(image, S_AT, sizes.s);
-    put_word(image, J_AT, sizes.j);
-    put_word(image, LAYOUT_AT, sizes.layout());
-    put_word(image, ENTRIES_AT, sizes.l);
-    for page in 0..sizes.p {
-        put_word(image, sizes.page_word(page), page);
-    }
-    let mut state = State::empty(sizes);
-    for slot in 0..sizes.s {
-        let free = Slot::free(sizes.p + slot);
-        for (i, value) in free.words().into_iter().enumerate() {
-            put_word(image, sizes.slot_word(slot, i as u64), value);
-        }
-        state.slots[slot as usize] = free;
-    }
+    let mut state = fresh_state(sizes);
+    let needed = plan(&state, &Operation::Format).len() as u64;
+    state.pending = Some(Pending { operation: Operation::Format, made: 0 });
+    Ok((state, needed))
+}
+
+/// A format asked for and run to its end.
+pub fn format(sizes: Sizes, buffer: &mut [u8]) -> Answer<State> {
+    let (mut state, needed) = ask_format(sizes, buffer)?;
+    make_stores(&mut state, buffer, needed);
     Ok(state)
 }
 

@@ -1,10 +1,11 @@
 //! What an operation stores, in order, and what changes in the state with its last store.
 
+use crate::fresh::fresh_image;
 use crate::image::{put_word, word};
 use crate::journal::{position_after, Record};
-use crate::layout::{Sizes, COUNT_AT, HEAD_AT, LINES, TAIL_AT};
+use crate::layout::{Sizes, COUNT_AT, HEAD_AT, LAYOUT_AT, LINES, TAIL_AT, WORD};
 use crate::slots::{lines_of, Slot};
-use crate::state::{Event, Log, Operation, State, Wide, Write};
+use crate::state::{Event, Log, Operation, Pending, State, Wide, Write};
 
 /// One store: a word's address and what goes there.
 #[derive(Clone, Copy, Debug, PartialEq, Eq)]
@@ -67,6 +68,7 @@ pub fn plan(state: &State, operation: &Operation) -> Vec<Store> {
         Operation::Confirm { writer } => head_store(state, *writer),
         Operation::Log(log) => log_plan(state, log),
         Operation::Copy => copy_plan(state),
+        Operation::Format => format_plan(state),
     }
 }
 
@@ -85,7 +87,25 @@ pub fn complete(state: &mut State, operation: &Operation) {
         }
         Operation::Log(log) => complete_log(state, log),
         Operation::Copy => state.close_wide(),
+        // the state was the fresh one from the asking on
+        Operation::Format => {}
     }
+}
+
+/// At most k stores of the pending operation, and how many these were. With the last one come the operation's changes.
+pub fn make_stores(state: &mut State, image: &mut [u8], k: u64) -> u64 {
+    let Pending { operation, made } = state.pending.take().expect("row 10: an operation is pending");
+    let stores = plan(state, &operation);
+    let last = made.saturating_add(k).min(stores.len() as u64);
+    for store in &stores[made as usize..last as usize] {
+        store.make(image);
+    }
+    if last == stores.len() as u64 {
+        complete(state, &operation);
+    } else {
+        state.pending = Some(Pending { operation, made: last });
+    }
+    last - made
 }
 
 fn put(at: usize, value: u64) -> Store {
@@ -300,5 +320,15 @@ fn copy_plan(state: &State) -> Vec<Store> {
         }
     }
     stores.push(put(COUNT_AT, 0));
+    stores
+}
+
+/// Layout 0, so that no mount takes what is there; every other word, rising; then the layout.
+fn format_plan(state: &State) -> Vec<Store> {
+    let fresh = fresh_image(state.sizes);
+    let mut stores = vec![put(LAYOUT_AT, 0)];
+    let others = (0..fresh.len()).step_by(WORD as usize).filter(|&at| at != LAYOUT_AT);
+    stores.extend(others.map(|at| put(at, word(&fresh, at))));
+    stores.push(put(LAYOUT_AT, state.sizes.layout()));
     stores
 }

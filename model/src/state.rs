@@ -85,6 +85,8 @@ pub enum Operation {
     Log(Log),
     /// The wide writer's commit, or what a mount found of one.
     Copy,
+    /// Of the state's sizes (document 02, L6).
+    Format,
 }
 
 #[derive(Clone, Debug, PartialEq, Eq)]

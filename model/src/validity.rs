@@ -1,5 +1,6 @@
 //! Row 8: the states that no call takes.
 
+use crate::fresh::is_fresh;
 use crate::journal::{bounds_hold, live_positions};
 use crate::plan::plan;
 use crate::refusal::Answer;
@@ -33,6 +34,8 @@ pub enum Breach {
     WideBesideOpen,
     /// A write or commit by the wide writer that is pending as if it had slots.
     PendingNarrow,
+    /// A format beside another state than the fresh one of its sizes.
+    PendingFormat,
     PendingRefused(u8),
     PendingFrame,
     PendingMade,
@@ -150,6 +153,7 @@ fn pending_rows(state: &State, operation: &Operation) -> Answer<()> {
             log_rows(state, (writer, log.page, log.line), (log.offset, log.length))
         }
         Operation::Copy => copy_rows(state),
+        Operation::Format => Ok(()),
     }
 }
 
@@ -159,6 +163,9 @@ fn pending_breach(state: &State, pending: &Pending) -> Option<Breach> {
         if state.is_wide(*writer) {
             return Some(Breach::PendingNarrow);
         }
+    }
+    if pending.operation == Operation::Format && !is_fresh(state) {
+        return Some(Breach::PendingFormat);
     }
     if let Err(refusal) = pending_rows(state, &pending.operation) {
         return Some(Breach::PendingRefused(refusal.number()));

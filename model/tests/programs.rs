@@ -22,7 +22,8 @@ fn answers(printed: &str) -> String {
 fn the_listing_of_document_01() {
     let input =
         "F,2,1,2\nB,0\nW,0,0,0,0,1,165\nK,4\nC,0\nR,0,0,0,0\nB,0\nW,0,0,0,0,1,165\nC,0\nX\nR,0,0,0,0\n";
-    let wanted = "1,F,0,0,-\n2,B,0,0,-\n3,W,0,8,-\n4,K,0,0,-\n5,C,0,4,-\n6,R,0,0,0\n7,B,0,0,-\n8,W,0,8,-\n\
+    let wanted =
+        "1,F,0,1561,-\n2,B,0,0,-\n3,W,0,8,-\n4,K,0,0,-\n5,C,0,4,-\n6,R,0,0,0\n7,B,0,0,-\n8,W,0,8,-\n\
                   9,C,0,5,-\n10,X,0,0,-\n11,R,0,0,165\n";
     assert_eq!(hit(input.as_bytes()), wanted);
     assert_eq!(hit(input.trim_end().as_bytes()), wanted, "no final newline");
@@ -43,7 +44,7 @@ fn empty_inputs_and_lines() {
     assert_eq!(probed(""), "");
     assert_eq!(hit(b"\n"), "1,?,?,0,-\n");
     assert_eq!(probed("\n\nH"), "1,?,?,0,-\n2,?,?,0,-\n3,H,0,0,0\n");
-    assert_eq!(hit(b"F,2,1,2\n\nB,0"), "1,F,0,0,-\n2,?,?,0,-\n3,B,0,0,-\n");
+    assert_eq!(hit(b"F,2,1,2\n\nB,0"), "1,F,0,1561,-\n2,?,?,0,-\n3,B,0,0,-\n");
 }
 
 #[test]
@@ -118,14 +119,61 @@ fn lines_of_a_mebibyte() {
 
 #[test]
 fn a_cut_waits_for_an_operation_that_needs_stores() {
-    let input = "F,2,1,2\nK,0\nB,0\nC,0\nP\nX\nC,0\nF,2,1,2\nB,0\nW,0,0,0,0,1,9\nC,0\n";
-    let wanted = "7,C,13,0,-\n8,F,0,0,-\n9,B,0,0,-\n10,W,0,0,-\n11,C,13,0,-\n";
-    assert!(hit(input.as_bytes()).ends_with(wanted), "through an empty commit, P, X, a refusal and F");
+    let input = "F,2,1,2\nK,0\nB,0\nC,0\nP\nX\nC,0\nF,2,1,0\nB,0\nW,0,0,0,0,1,9\nC,0\n";
+    let wanted = "7,C,13,0,-\n8,F,3,0,-\n9,B,0,0,-\n10,W,0,0,-\n11,C,13,0,-\n";
+    assert!(hit(input.as_bytes()).ends_with(wanted), "through an empty commit, P, X and refusals");
     let input = "F,2,1,2\nB,0\nK,0\nK,999999999\nW,0,0,0,0,1,9\nC,0\n";
     assert!(
         hit(input.as_bytes()).ends_with("5,W,0,8,-\n6,C,13,0,-\n"),
         "a later K; a mount follows all the same"
     );
+}
+
+/// Byte 7 at page 0, line 0, then a K and a format, and what follows; the lines from the format on.
+fn cut_format(format: &str, k: u64, then: &str) -> String {
+    let input = format!("F,2,1,2\nB,0\nW,0,0,0,0,1,7\nC,0\nK,{k}\n{format}\n{then}");
+    let printed = hit(input.as_bytes());
+    printed.split_once("5,K,0,0,-\n").expect("the K is taken").1.to_string()
+}
+
+#[test]
+fn a_format_cut_after_each_store() {
+    for (format, words) in [("F,2,1,2", 1_560), ("F,3,2,5", 2_600), ("F,1,1,1", 1_040)] {
+        let at = |k| cut_format(format, k, "R,0,0,0,0\n");
+        assert_eq!(at(0), "6,F,0,0,-\n7,R,0,0,7\n", "the old image");
+        for k in (1..=40).chain((41..words).step_by(83)).chain(words - 2..=words) {
+            assert_eq!(at(k), format!("6,F,2,{k},-\n7,?,?,0,-\n"), "{format} after {k} stores");
+        }
+        for k in [words + 1, words + 2, 999_999_999] {
+            assert_eq!(at(k), format!("6,F,0,{},-\n7,R,0,0,0\n", words + 1), "{format} after {k} stores");
+        }
+    }
+}
+
+#[test]
+fn after_a_cut_format_all_but_f_is_of_another_form() {
+    let then = "B,0\nX\nP\nK,1\nR,0,0,0,0\nF,0,1,1\nB,0\nF,20,1,1\nX\nF,1,1,1\nB,0\nW,0,0,0,0,1,9\nC,0\n";
+    let printed = cut_format("F,2,1,2", 1_560, then);
+    assert_eq!(answers(&printed), "2 ? ? ? ? ? 3 ? 4 ? 0 0 0 0");
+    assert!(
+        printed.ends_with("16,F,0,1041,-\n17,B,0,0,-\n18,W,0,8,-\n19,C,0,5,-\n"),
+        "the K set nothing: {printed}"
+    );
+}
+
+#[test]
+fn a_format_turned_back_uses_up_no_cut() {
+    let printed = cut_format("F,0,1,2", 3, "F,15,1,1\nR,0,0,0,0\nF,2,1,2\nF,2,1,2\n");
+    assert_eq!(printed, "6,F,3,0,-\n7,F,4,0,-\n8,R,0,0,7\n9,F,2,3,-\n10,F,0,1561,-\n");
+    let printed = cut_format("F,2,1,2", 0, "F,2,1,2\nR,0,0,0,0\n");
+    assert_eq!(printed, "6,F,0,0,-\n7,F,0,1561,-\n8,R,0,0,0\n", "one of no stores uses it up");
+}
+
+#[test]
+fn an_open_round_ends_with_a_format_cut_before_its_first_store() {
+    let input = "F,2,1,2\nB,0\nW,0,0,0,0,1,7\nK,0\nF,1,1,1\nC,0\nR,0,1,63,0\nR,0,0,0,0\n";
+    let printed = hit(input.as_bytes());
+    assert!(printed.ends_with("5,F,0,0,-\n6,C,13,0,-\n7,R,0,0,0\n8,R,0,0,0\n"), "mounted: {printed}");
 }
 
 #[test]

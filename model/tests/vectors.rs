@@ -36,7 +36,7 @@ fn all_agree(kind: &str, program: fn(&[u8]) -> Vec<u8>, at_least: usize) {
 
 #[test]
 fn powerhit_vectors() {
-    all_agree("powerhit", model::script::powerhit::powerhit, 44);
+    all_agree("powerhit", model::script::powerhit::powerhit, 84);
 }
 
 #[test]

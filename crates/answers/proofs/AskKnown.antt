@@ -9,7 +9,7 @@ use Rattle.bounded.proofs.Tests.{row-keeps}
 use Rattle.layout.specs.Layout.{imageLength}
 use Rattle.state.specs.State.{State}
 use Rattle.state.specs.declared.Op.{Op}
-use Rattle.state.specs.declared.Op.the-variants.{Idle, Write, Commit, Consolidate, Checkpoint, Event, Prepare, Confirm, Log, Copy}
+use Rattle.state.specs.declared.Op.the-variants.{Idle, Write, Commit, Consolidate, Checkpoint, Event, Prepare, Confirm, Log, Copy, Format}
 use Rattle.operations.specs.Operations.{isIdle, writeRows, logRows, commitRows, prepareRows, confirmRows, consolidateRows, opRows}
 use Rattle.validity.specs.Validity.{stateOk}
 use Rattle.answers.proofs.Answered.{row-known}
@@ -26,6 +26,7 @@ op-known st (Prepare w) f = row-known (prepareRows st w) (omega arith)
 op-known st (Confirm w) f = row-known (confirmRows st w) (omega arith)
 op-known st (Log p l o n) f = row-known (logRows st p l o n f) (omega arith)
 op-known st Copy f = row-known (opRows st Copy f) (omega arith)
+op-known st Format f = row-known [] tt
 
 pub ask-known : (st : State) (n : ℕ) (op : Op) → refusal (quietRows st n ++ opRows st op 0) ≤ 30
 ask-known st n op =

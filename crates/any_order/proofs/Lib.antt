@@ -7,3 +7,4 @@ pub mod Since
 pub mod Cut
 pub mod Theorem
 pub mod Carried
+pub mod FormatOrder

@@ -21,13 +21,13 @@ pub part-byte : (l : List ℕ) (a n k : ℕ) → k < n → getD (part l a n) k 0
 unfolding part
 part-byte l a n k h = getD-take n (drop a l) k 0 h ∙ getD-drop a l k 0
 
-byte-of-word : (x y : List ℕ) (a : ℕ) → Bytes x → Bytes y → 8 * a + 8 ≤ length x → 8 * a + 8 ≤ length y → word x a ≡ word y a → (k : ℕ) → k < 8 → getD x (8 * a + k) 0 ≡ getD y (8 * a + k) 0
+pub byte-of-word : (x y : List ℕ) (a : ℕ) → Bytes x → Bytes y → 8 * a + 8 ≤ length x → 8 * a + 8 ≤ length y → word x a ≡ word y a → (k : ℕ) → k < 8 → getD x (8 * a + k) 0 ≡ getD y (8 * a + k) 0
 byte-of-word x y a bx by lx ly e k h =
     sym (part-byte x (8 * a) 8 k h)
     ∙ ap (λ (l : List ℕ). getD l k 0) (sym (bytes-word x (8 * a) bx lx) ∙ ap (bytesOf 8) e ∙ bytes-word y (8 * a) by ly)
     ∙ part-byte y (8 * a) 8 k h
 
-word-of-bytes : (x y : List ℕ) (a : ℕ) → 8 * a + 8 ≤ length x → 8 * a + 8 ≤ length y → ((k : ℕ) → k < 8 → getD x (8 * a + k) 0 ≡ getD y (8 * a + k) 0) → word x a ≡ word y a
+pub word-of-bytes : (x y : List ℕ) (a : ℕ) → 8 * a + 8 ≤ length x → 8 * a + 8 ≤ length y → ((k : ℕ) → k < 8 → getD x (8 * a + k) 0 ≡ getD y (8 * a + k) 0) → word x a ≡ word y a
 unfolding wordAt
 word-of-bytes x y a lx ly h =
     let nx = length-part x (8 * a) 8 lx in
@@ -38,7 +38,7 @@ word-of-bytes x y a lx ly h =
 
 -- ---- a byte that has stood in one of the images
 
-stood : (P : ℕ → Type 0) (i : ℕ) (since : List (List ℕ)) → All (λ x. P (getD x i 0)) since → (b : ℕ) → StoodAt since i b → P b
+pub stood : (P : ℕ → Type 0) (i : ℕ) (since : List (List ℕ)) → All (λ x. P (getD x i 0)) since → (b : ℕ) → StoodAt since i b → P b
 stood P i [] h b q = absurd q
 stood P i (x ∷ xs) h b q = ⊎-elim (λ e. subst P (sym e) (h .0)) (λ r. stood P i xs (h .1) b r) q
 

@@ -15,7 +15,7 @@ use Rattle.mount.proofs.View.{View, viewOf}
 use Rattle.meters.specs.Meters.{movesCredit, firstMeter, ownMeter}
 use Rattle.state.specs.State.{State}
 use Rattle.state.specs.declared.Op.{Op}
-use Rattle.state.specs.declared.Op.the-variants.{Idle, Write, Commit, Consolidate, Checkpoint, Event, Prepare, Confirm, Log, Copy}
+use Rattle.state.specs.declared.Op.the-variants.{Idle, Write, Commit, Consolidate, Checkpoint, Event, Prepare, Confirm, Log, Copy, Format}
 use Rattle.operations.specs.Operations.{needs}
 use Rattle.refinement.specs.Frames.{pageSlot}
 use Rattle.refinement.specs.Commit.{commitAt}
@@ -143,6 +143,7 @@ module _ (past : List ℕ) (st : State) (img : List ℕ) (b : Reference) (B : Bu
   busy-next (Event k i a) e = absurd (subst (Doing st img b) e (B .doing))
   busy-next (Log p l o n) e = absurd (subst (Doing st img b) e (B .doing))
   busy-next Copy e = absurd (subst (Doing st img b) e (B .doing))
+  busy-next Format e = absurd (subst (Doing st img b) e (B .doing))
   busy-next Checkpoint e =
       let need = needed past st img b B e in
       let g = durable-legal past st img b D in

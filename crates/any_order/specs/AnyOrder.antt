@@ -14,7 +14,7 @@ use Rattle.layout.specs.Layout.{sizesOk, imageLength, layoutWord, countWord}
 use Rattle.words.specs.Words.{Bytes, store}
 use Rattle.state.specs.State.{State}
 use Rattle.state.specs.declared.Op.{Op}
-use Rattle.state.specs.declared.Op.the-variants.{Idle, Write, Commit, Consolidate, Checkpoint, Event, Prepare, Confirm, Log, Copy}
+use Rattle.state.specs.declared.Op.the-variants.{Idle, Write, Commit, Consolidate, Checkpoint, Event, Prepare, Confirm, Log, Copy, Format}
 use Rattle.operations.specs.Operations.{isIdle, needs}
 use Rattle.refinement.specs.Stores.{World, storeAt, storeValue, stepped, steppedBy}
 use Rattle.refinement.specs.Calls.{worldOf}
@@ -33,7 +33,8 @@ abbrev pub isLast : State → Op → Bool
 isLast st op = eqb (st .pending .made + 1) (needs st op)
 
 -- the next store of the pending operation op decides: the last one of a commit, a confirm, an event and a consolidation (head) and of a checkpoint
--- (tail); the first and the last of a wide commit (word 6); none of a write, a prepare and a wide write
+-- (tail); the first and the last of a wide commit (word 6) and of a format (the layout word); none of a write, a prepare and a
+-- wide write
 abbrev pub toFence : State → Op → Bool
 toFence st Idle = false
 toFence st (Write w p l o n) = false
@@ -45,6 +46,7 @@ toFence st (Prepare w) = false
 toFence st (Confirm w) = isLast st (Confirm w)
 toFence st (Log p l o n) = false
 toFence st Copy = eqb (st .pending .made) 0 || isLast st Copy
+toFence st Format = eqb (st .pending .made) 0 || isLast st Format
 
 abbrev pub decides : State → Bool
 decides st = toFence st (st .pending .op)

@@ -1,2 +1,3 @@
 pub mod AnyOrder
 pub mod Carried
+pub mod FormatOrder

@@ -13,7 +13,7 @@ use Rattle.layout.specs.Layout.{imageLength}
 use Rattle.state.specs.State.{State}
 use Rattle.state.specs.declared.Pending.{Pending}
 use Rattle.state.specs.declared.Op.{Op}
-use Rattle.state.specs.declared.Op.the-variants.{Write, Commit, Consolidate, Event, Log, Copy}
+use Rattle.state.specs.declared.Op.the-variants.{Write, Commit, Consolidate, Event, Log, Copy, Format}
 use Rattle.operations.specs.Operations.{isIdle, opRows, needs}
 use Rattle.validity.specs.Validity.{stateOk}
 use Rattle.refinement.specs.Calls.{quietRows, commitOp}
@@ -63,6 +63,10 @@ consolidate-needs st p e = omega arith
 pub log-needs : (st : State) (p l o n : ℕ) → needs st (Log p l o n) ≡ 0 → ⊥
 unfolding needs
 log-needs st p l o n e = omega arith
+
+pub format-needs : (st : State) → needs st Format ≡ 0 → ⊥
+unfolding needs
+format-needs st e = omega arith
 
 -- and an event
 pub event-needs : (st : State) (k m a : ℕ) → needs st (Event k m a) ≡ 0 → ⊥

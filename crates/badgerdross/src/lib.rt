@@ -72,7 +72,7 @@ pub extern "C" fn badgerdross_format(
         places,
         entries,
     };
-    answers::number_of(call_mount::format(image, words, z))
+    answers::number_of(call_mount::format_whole(image, words, z))
 }
 
 // Mounts an image.

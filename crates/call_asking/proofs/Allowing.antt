@@ -11,7 +11,7 @@ use Rattle.state.specs.State.{State}
 use Rattle.state.specs.declared.Places.{Places}
 use Rattle.state.specs.declared.Op.{Op}
 use Rattle.operations.specs.Operations.{isIdle, opRows}
-use Rattle.validity.specs.Validity.{opFits}
+use Rattle.validity.specs.Validity.{opFits, isFresh}
 use Rattle.refinement.specs.Outcome.{Outcome}
 use Rattle.refinement.specs.Calls.{quietRows, asked}
 use Rattle.answers.specs.declared.Answer.{Answer}
@@ -23,7 +23,7 @@ use Rattle.op_stores.proofs.Asking.{quieted}
 use Rattle.state_words.specs.Decoded.{placesOf}
 
 module _ (st : State) (img : List ℕ) (rs : List Row) (row : ℕ) (e : row ≡ refusal (quietRows st (length img) ++ rs)) (none : row ≡ 0) (op : Op) where
-  pub may-ask-for : (z : Sizes) (at : Places) → z ≡ st .sizes → at ≡ placesOf st → isIdle op ≡ false → opFits (st .wide .writer) op ≡ true
+  pub may-ask-for : (z : Sizes) (at : Places) → z ≡ st .sizes → at ≡ placesOf st → isIdle op ≡ false → opFits (st .wide .writer) (isFresh st) op ≡ true
       → (refusal rs ≡ 0 → refusal (opRows st op 0) ≡ 0) → Allowed z at st op × (imageLength z ≤ length img)
   may-ask-for z at ez ea busy fits r =
       let q = quieted st rs row (length img) e none in

@@ -1,7 +1,7 @@
 // A call on a state in words that asks for an operation by the operation's own rows.
 
 ghost use mathlib.Core.Path.{_≡_};
-ghost use mathlib.Core.Bool.{true, false};
+ghost use mathlib.Core.Bool.{Bool, true, false};
 ghost use Prim.Native.Nat.{ℕ};
 ghost use lib.ListN.{length};
 ghost use Rattle.operations.specs.Operations.{isIdle};
@@ -16,7 +16,7 @@ use state::Op;
 
 // Asks for an operation that fits whichever writer is wide, and goes on with it as far as is said. A call that is turned back changes no word.
 pub fn ask_for(image: &mut [u8], words: &mut [u64; 256], op: Op, until: Until) -> Answer
-    requires { ⌜ (isIdle op ≡ false) × ((wide : ℕ) → opFits wide op ≡ true) ⌝ }
+    requires { ⌜ (isIdle op ≡ false) × ((wide : ℕ) (fresh : Bool) → opFits wide fresh op ≡ true) ⌝ }
     ensures started { λ r. ⌜ Started r (decoded (now (words .exit))) (now (image .exit))
         (askedOf (decoded (now (words .entry))) (length (now (image .entry))) op op) (now (image .entry)) until ⌝ }
     ensures words { λ r. ⌜ ((numberOf r ≡ 0 → ⊥) → now (words .exit) ≡ now (words .entry)) ⌝ }

@@ -5,7 +5,6 @@ ghost use Prim.Native.Nat.{_+_};
 ghost use lib.Dec.{eqb};
 ghost use lib.ListN.{set};
 ghost use Rattle.bounded.specs.Rows.{refusal};
-ghost use Rattle.state.specs.Wide.{someOpen};
 ghost use Rattle.refinement.specs.Calls.{beginRows, beginOf, beginWideRows, beginWideOf, abortRows, abortOf};
 ghost use Rattle.answers.specs.Answers.{numberOf, answeredAt};
 ghost use Rattle.state_words.specs.Decoded.{decoded, placesOf};
@@ -63,17 +62,6 @@ pub fn begin(words: &mut [u64; 256], writer: usize) -> Answer
     Answer::Taken(0)
 }
 
-// Whether a writer is open.
-fn some_open(words: &[u64; 256]) -> bool
-    ensures { λ r. ⌜ r ≡ someOpen (decoded (now (words .entry)) .writers .opened) ⌝ }
-{
-    let a = state_words::open_at(words, 0);
-    let b = state_words::open_at(words, 1);
-    let c = state_words::open_at(words, 2);
-    let d = state_words::open_at(words, 3);
-    a | b | c | d
-}
-
 // The first row that turns back a wide begin, which wants entries and every writer closed.
 fn wide_row(words: &[u64; 256], writer: usize) -> usize
     ensures { λ r. ⌜ r ≡ refusal (beginWideRows (decoded (now (words .entry))) writer) ⌝ }
@@ -87,7 +75,7 @@ fn wide_row(words: &[u64; 256], writer: usize) -> usize
     if z.entries == 0 {
         return 28;
     }
-    if some_open(words) {
+    if state_held::held::some_open(words) {
         return 29;
     }
     0

@@ -1,3 +1,4 @@
 pub mod Found
 pub mod Columns
 pub mod Replaced
+pub mod Formatting

@@ -10,7 +10,7 @@ use Rattle.bounded.proofs.Below.{first-stops, first-le, first-holds}
 use Rattle.bounded.proofs.Tests.{caseOn, contradicts, and-left, and-right}
 use Rattle.state.specs.State.{State}
 use Rattle.state.specs.declared.Op.{Op}
-use Rattle.state.specs.declared.Op.the-variants.{Idle, Write, Commit, Consolidate, Checkpoint, Event, Prepare, Confirm, Log, Copy}
+use Rattle.state.specs.declared.Op.the-variants.{Idle, Write, Commit, Consolidate, Checkpoint, Event, Prepare, Confirm, Log, Copy, Format}
 use Rattle.operations.specs.Operations.{needs}
 use Rattle.refinement.specs.Stores.{withMade, left}
 use Rattle.refinement.proofs.Pending.{needs-made}
@@ -43,6 +43,7 @@ decidingStores (Prepare w) = 0
 decidingStores (Confirm w) = 1
 decidingStores (Log p l o n) = 0
 decidingStores Copy = 2
+decidingStores Format = 2
 
 -- n of an operation's stores decide; the next one is its first, its last
 abbrev told : ℕ → Bool → Bool → Bool
@@ -59,6 +60,7 @@ by-count st (Prepare w) = refl
 by-count st (Confirm w) = refl
 by-count st (Log p l o n) = refl
 by-count st Copy = refl
+by-count st Format = refl
 
 told-none : (n : ℕ) (first last : Bool) → n ≡ 0 → told n first last ≡ false
 told-none n first last e = rw e
@@ -148,6 +150,7 @@ counted (Prepare w) m n = refl
 counted (Confirm w) m n = refl
 counted (Log p l o k) m n = refl
 counted Copy m n = refl
+counted Format m n = refl
 
 pub stops-where-it-decides : StopsWhereItDecides
 stops-where-it-decides st low =

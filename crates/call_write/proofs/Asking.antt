@@ -18,7 +18,7 @@ use Rattle.state.specs.declared.Op.{Op}
 use Rattle.state.specs.declared.Op.the-variants.{Write, Log}
 use Rattle.state.specs.Wide.{isWide}
 use Rattle.operations.specs.Operations.{isIdle, slotFor, frameBad, writeRows, logRows, opRows, needs}
-use Rattle.validity.specs.Validity.{opFits}
+use Rattle.validity.specs.Validity.{opFits, isFresh}
 use Rattle.operations.proofs.Taken.{ArgsGood, write-taken, log-taken}
 use Rattle.refinement.specs.Frames.{pageFrame}
 use Rattle.answers.proofs.Answered.{row-known}
@@ -110,7 +110,7 @@ module _ (st : State) (img : List ℕ) (w p l o n : ℕ) (bytes : List ℕ) wher
   pub op-rows : refusal (writeCallRows st img w p l o n bytes) ≡ 0 → refusal (opRows st (writeOp st w p l o n) (pageFrame st img p)) ≡ 0
   op-rows e = write-op-row st img w p l o n bytes e
 
-  pub op-fits : opFits (st .wide .writer) (writeOp st w p l o n) ≡ true
+  pub op-fits : opFits (st .wide .writer) (isFresh st) (writeOp st w p l o n) ≡ true
   op-fits = write-fits st w p l o n
 
   pub op-busy : isIdle (writeOp st w p l o n) ≡ false

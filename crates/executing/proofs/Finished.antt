@@ -48,12 +48,12 @@ module _ (a : Answer) (words img : List ℕ) (cut : Cut) (letter number needed :
   finish-none z e = let t : storesOf a ≡ 0 = sym hs ∙ z in rw (e, t, ← hn)
 
   -- those made, with the answer of their run; then what a K has follow
-  pub finish-made : (needed ≡ 0 → ⊥) → (k made : ℕ) (b : Answer) (words′ img′ words″ : List ℕ) → k ≡ budget cut needed
+  pub finish-made : (needed ≡ 0 → ⊥) → (k made last : ℕ) (b : Answer) (words′ img′ words″ : List ℕ) → k ≡ budget cut needed
       → answeredAt b (decoded words′) ≡ runOf (decoded words) img k → img′ ≡ runBytes (decoded words) img k → made ≡ storesOf b
-      → decoded words″ ≡ afterCut cut (worldAt words′ img′)
-      → r ≡ record { mode = record { formatted = true; cut = Unset }; output = Answered letter number made }
+      → last ≡ afterCut cut number (worldAt words′ img′) .number → decoded words″ ≡ afterCut cut number (worldAt words′ img′) .world .st
+      → r ≡ record { mode = record { formatted = eqb last 0; cut = Unset }; output = Answered letter last made }
       → turnAt r words″ img′ ≡ finished letter cut (resultAt a words img)
   unfolding finished exec
-  finish-made n k made b words′ img′ words″ hk ho hb hm ha e =
+  finish-made n k made last b words′ img′ words″ hk ho hb hm hl ha e =
       let t : eqb (storesOf a) 0 ≡ false = ne-eqb (storesOf a) 0 (λ q. n (hs ∙ q)) in
-      rw (e, t, ← hs, ← hk, ← ho, ← hb, ← hn, ha, hm)
+      rw (e, t, ← hs, ← hk, ← ho, ← hb, ← hn, ha, hl, hm)

@@ -1,7 +1,7 @@
 -- The call that a line asks for, and what it comes to: one that needs stores makes them, all or under a K at most k, and then mounts.
 use Prim.Native.Nat.{ℕ}
 use mathlib.Core.Bool.{Bool, true, cond}
-use mathlib.Core.List.{List}
+use mathlib.Core.List.{List, []}
 use lib.Dec.{eqb}
 use Rattle.state.specs.State.{State}
 use Rattle.refinement.specs.Stores.{World}
@@ -48,22 +48,23 @@ turn m output img = record { machine = m; output = output; image = img }
 abbrev pub ready : State → Cut → Machine
 ready st cut = record { st = st; formatted = true; cut = cut }
 
--- a K lets at most k of the stores needed be made, and then mounts
+-- a K lets at most k of the stores needed be made, and then mounts: the number is the mount's
 abbrev pub budget : Cut → ℕ → ℕ
 budget Unset needed = needed
 budget (After k) needed = k
 
-abbrev pub afterCut : Cut → World → State
-afterCut Unset v = v .st
-afterCut (After k) v = exec mount v .world .st
+abbrev pub afterCut : Cut → ℕ → World → Result
+afterCut Unset number v = record { number = number; stores = 0; world = v; target = [] }
+afterCut (After k) number v = exec mount v
 
--- what a call came to: one that needs stores makes them, and a K is used up
+-- what a call came to: one that needs stores makes them, and a K is used up. Where its mount is turned back, only a format is obeyed from then on
 unfoldable pub finished : ℕ → Cut → Result → Turn
 finished letter cut d =
     let e = exec (run (budget cut (d .stores))) (d .world) in
+    let f = afterCut cut (d .number) (e .world) in
     cond (eqb (d .stores) 0)
     (turn (ready (d .world .st) cut) (Answered letter (d .number) 0) (d .world .image))
-    (turn (ready (afterCut cut (e .world)) Unset) (Answered letter (d .number) (e .stores)) (e .world .image))
+    (turn (record { st = f .world .st; formatted = eqb (f .number) 0; cut = Unset }) (Answered letter (f .number) (e .stores)) (e .world .image))
 
 -- ---- the same of the code, which keeps the state as words beside its mode
 

@@ -1,8 +1,10 @@
 // The stores that a call needs: all of them, or under a K at most k, and then a mount.
 ghost use mathlib.Core.Path.{_≡_};
 ghost use mathlib.Core.Bool.{true};
+ghost use lib.Dec.{eqb};
 ghost use Rattle.printing.specs.declared.Output.the-variants.{Answered};
 ghost use Rattle.state_words.specs.Decoded.{decoded};
+ghost use Rattle.executing.specs.declared.Cut.the-variants.{Unset};
 ghost use Rattle.executing.specs.Called.{budget, afterCut, worldAt, resultAt, turnAt, finished};
 use crate::Cut;
 use crate::Mode;
@@ -20,14 +22,16 @@ fn budget_of(cut: Cut, needed: usize) -> usize
     }
 }
 
-// What follows the stores: under a K, a mount.
-fn mount_cut(image: &[u8], words: &mut [u64; 256], cut: Cut)
-    ensures { λ _. ⌜ decoded (now (words .exit)) ≡ afterCut cut (worldAt (now (words .entry)) (now (image .entry))) ⌝ }
+// What follows the stores: under a K a mount, whose number then is the line's.
+fn mount_cut(image: &[u8], words: &mut [u64; 256], cut: Cut, number: usize) -> usize
+    ensures number { λ r. ⌜ r ≡ afterCut cut number (worldAt (now (words .entry)) (now (image .entry))) .number ⌝ }
+    ensures state { λ _. ⌜ decoded (now (words .exit)) ≡ afterCut cut number (worldAt (now (words .entry)) (now (image .entry))) .world .st ⌝ }
 {
     match cut {
-        Cut::Unset => {}
+        Cut::Unset => number,
         Cut::After(_) => {
-            let _ = call_mount::mount(image, words);
+            let answer = call_mount::mount(image, words);
+            answers::number_of(answer)
         }
     }
 }
@@ -39,6 +43,22 @@ pub fn answered(cut: Cut, letter: u8, number: usize, stores: usize) -> Turned
     let mode = Mode {
         formatted: true,
         cut,
+    };
+    let output = Output::Answered {
+        letter,
+        number,
+        stores,
+    };
+    Turned { mode, output }
+}
+
+// The answer when the stores are made: a K is used up. Where its mount was turned back, only a format is obeyed from now on.
+fn ended(letter: u8, number: usize, stores: usize) -> Turned
+    ensures { λ r. ⌜ r ≡ record { mode = record { formatted = eqb number 0; cut = Unset }; output = Answered letter number stores } ⌝ }
+{
+    let mode = Mode {
+        formatted: number == 0,
+        cut: Cut::Unset,
     };
     let output = Output::Answered {
         letter,
@@ -65,6 +85,6 @@ pub fn finish(
     }
     let run_answer = call_step::run(image, words, budget_of(cut, needed));
     let made = calling::stores_of(run_answer);
-    mount_cut(image, words, cut);
-    answered(Cut::Unset, letter, number, made)
+    let last = mount_cut(image, words, cut, number);
+    ended(letter, last, made)
 }

@@ -1,6 +1,6 @@
 -- The words of a fresh image: those that format writes, one after the other.
 use Prim.Native.Nat.{ℕ, zero, suc, _+_, _-_, _*_, _/_, _%_, _^_, _≤_, _<_}
-use mathlib.Core.Path.{_≡_, sym, ap, ap₂, _∙_}
+use mathlib.Core.Path.{_≡_, refl, sym, ap, ap₂, _∙_}
 use mathlib.Core.List.{List, [], _∷_, _++_}
 use native.Mathlib.Omega.{arith}
 use native.Mathlib.Nat.{zero-add}
@@ -92,7 +92,7 @@ module _ (z : Sizes) (legal : Legal z) where
   zeros-low : Low (zeros z)
   zeros-low i = rw (one-value (imageWords z - slotWord z (z .slots)) i 0) (omega arith)
 
-  low-fresh : Low (freshWords z)
+  pub low-fresh : Low (freshWords z)
   unfolding freshWords
   low-fresh =
       low-append (freshHeader z) (fromPages z) low-header
@@ -106,11 +106,11 @@ module _ (z : Sizes) (legal : Legal z) where
       simp (length-append, length-replicate) (omega (arith, length-tab (z .pages) (λ p. p), length-tab (3 * z .slots) (freshSlot z)))
 
   -- its header, page table and slot table
-  fresh-header : (i : ℕ) → i < 8 → getD (freshWords z) i 0 ≡ getD (freshHeader z) i 0
+  pub fresh-header : (i : ℕ) → i < 8 → getD (freshWords z) i 0 ≡ getD (freshHeader z) i 0
   unfolding freshWords
   fresh-header i l = List·getD-append (freshHeader z) (fromPages z) 0 i l
 
-  fresh-page : (p : ℕ) → p < z .pages → getD (freshWords z) (pageWord p) 0 ≡ p
+  pub fresh-page : (p : ℕ) → p < z .pages → getD (freshWords z) (pageWord p) 0 ≡ p
   unfolding freshWords
   fresh-page p l =
       getD-append-add (freshHeader z) (fromPages z) p 0
@@ -124,13 +124,13 @@ module _ (z : Sizes) (legal : Legal z) where
       ∙ ap (λ (k : ℕ). getD (fromPages z) (k + j) 0) (sym (length-tab (z .pages) (λ p. p)))
       ∙ getD-append-add (freshPages z) (fromSlots z) j 0
 
-  fresh-slot : (i : ℕ) → i < 3 * z .slots → getD (freshWords z) (8 + (z .pages + i)) 0 ≡ freshSlot z i
+  pub fresh-slot : (i : ℕ) → i < 3 * z .slots → getD (freshWords z) (8 + (z .pages + i)) 0 ≡ freshSlot z i
   fresh-slot i l =
       past-pages i
       ∙ List·getD-append (tab (3 * z .slots) (freshSlot z)) (zeros z) 0 i (omega (arith, length-tab (3 * z .slots) (freshSlot z)))
       ∙ getD-tab (3 * z .slots) (freshSlot z) i 0 l
 
-  fresh-zero : (i : ℕ) → getD (freshWords z) (8 + (z .pages + (3 * z .slots + i))) 0 ≡ 0
+  pub fresh-zero : (i : ℕ) → getD (freshWords z) (8 + (z .pages + (3 * z .slots + i))) 0 ≡ 0
   fresh-zero i =
       past-pages (3 * z .slots + i)
       ∙ ap (λ (k : ℕ). getD (fromSlots z) (k + i) 0) (sym (length-tab (3 * z .slots) (freshSlot z)))
@@ -181,3 +181,15 @@ module _ (z : Sizes) (legal : Legal z) where
     formatted-zero i l m =
         let a : i ≡ 8 + (z .pages + (3 * z .slots + (i - slotWord z (z .slots)))) = omega arith in
         formatted-word i m ∙ ap (λ (j : ℕ). getD (freshWords z) j 0) a ∙ fresh-zero (i - slotWord z (z .slots))
+
+-- a header's word that is none of those with a number is 0
+pub header-zero : (z : Sizes) (a : ℕ) → (a ≡ 0 → ⊥) → (a ≡ 1 → ⊥) → (a ≡ 2 → ⊥) → (a ≡ 3 → ⊥) → (a ≡ 7 → ⊥) → getD (freshHeader z) a 0 ≡ 0
+header-zero z zero h₀ h₁ h₂ h₃ h₇ = absurd (h₀ refl)
+header-zero z (suc zero) h₀ h₁ h₂ h₃ h₇ = absurd (h₁ refl)
+header-zero z (suc (suc zero)) h₀ h₁ h₂ h₃ h₇ = absurd (h₂ refl)
+header-zero z (suc (suc (suc zero))) h₀ h₁ h₂ h₃ h₇ = absurd (h₃ refl)
+header-zero z (suc (suc (suc (suc zero)))) h₀ h₁ h₂ h₃ h₇ = refl
+header-zero z (suc (suc (suc (suc (suc zero))))) h₀ h₁ h₂ h₃ h₇ = refl
+header-zero z (suc (suc (suc (suc (suc (suc zero)))))) h₀ h₁ h₂ h₃ h₇ = refl
+header-zero z (suc (suc (suc (suc (suc (suc (suc zero))))))) h₀ h₁ h₂ h₃ h₇ = absurd (h₇ refl)
+header-zero z (suc (suc (suc (suc (suc (suc (suc (suc a)))))))) h₀ h₁ h₂ h₃ h₇ = refl

@@ -1,67 +1,44 @@
-// The fresh image.
+// The fresh image, by its words: what format stores. It stores nothing itself.
 ghost use mathlib.Core.Path.{_≡_};
-ghost use Prim.Native.Nat.{_*_, _+_, _≤_};
-ghost use lib.ListN.{length};
-ghost use Rattle.bounded.specs.Tab.{tab};
-ghost use Rattle.layout.specs.Layout.{Legal, imageLength, pageWord, slotWord};
-ghost use Rattle.words.specs.Words.{putWords};
-ghost use Rattle.fresh.specs.Fresh.{freshHeader, freshPages, freshSlot, formatted, freshTable, formatRow, formatBytes};
+ghost use Prim.Native.Nat.{_<_};
+ghost use lib.ListN.{getD};
+ghost use Rattle.layout.specs.Layout.{Legal};
+ghost use Rattle.fresh.specs.Fresh.{freshHeader, freshWord, freshTable, formatRow};
 use layout::Sizes;
 use replay::Table;
 
-// Where head stands, the first of three words that a fresh image has 0.
-const HEAD_BYTE: usize = 32;
-
-// Writes the header: head and tail 0, no entry counted.
-fn put_header(image: &mut [u8], z: Sizes)
-    requires { ⌜ Legal z × (imageLength z ≤ length (now image)) ⌝ }
-    ensures { λ _. ⌜ now (image .exit) ≡ putWords (now (image .entry)) 0 (freshHeader z) ⌝ }
+// Word a of its header: head and tail 0, no entry counted.
+fn header_word(z: Sizes, a: usize) -> u64
+    requires { ⌜ a < 8 ⌝ }
+    ensures { λ r. ⌜ r ≡ getD (freshHeader z) a 0 ⌝ }
 {
-    image_words::store_word(image, layout::PAGES_WORD, z.pages as u64);
-    image_words::store_word(image, layout::SLOTS_WORD, z.slots as u64);
-    image_words::store_word(image, layout::PLACES_WORD, z.places as u64);
-    image_words::store_word(image, layout::LAYOUT_WORD, layout::layout_of(z));
-    runs::fill_words(image, HEAD_BYTE, 3, 0);
-    image_words::store_word(image, layout::ENTRIES_WORD, z.entries as u64);
-}
-
-// Writes the page table: page i in frame i.
-fn put_pages(image: &mut [u8], z: Sizes)
-    requires { ⌜ Legal z × (imageLength z ≤ length (now image)) ⌝ }
-    ensures { λ _. ⌜ now (image .exit) ≡ putWords (now (image .entry)) 64 (freshPages z) ⌝ }
-{
-    let mut p = 0;
-    while p < z.pages {
-        words::put_word(image, 64 + 8 * p, p as u64);
-        p += 1;
+    match a {
+        0 => z.pages as u64,
+        1 => z.slots as u64,
+        2 => z.places as u64,
+        3 => layout::layout_of(z),
+        7 => z.entries as u64,
+        _ => 0,
     }
 }
 
-// Writes the slot table: slot s free with spare P + s.
-fn put_slots(image: &mut [u8], z: Sizes)
-    requires { ⌜ Legal z × (imageLength z ≤ length (now image)) ⌝ }
-    ensures { λ _. ⌜ now (image .exit) ≡ putWords (now (image .entry)) (8 * slotWord z 0) (tab (3 * z .slots) (freshSlot z)) ⌝ }
+// Word a of a fresh image: page i in frame i, slot s free with spare P + s, all else zero.
+pub fn fresh_word(z: Sizes, a: usize) -> u64
+    requires { ⌜ Legal z ⌝ }
+    ensures { λ r. ⌜ r ≡ freshWord z a ⌝ }
 {
-    let at = 8 * layout::slot_word(z, 0);
-    let mut i = 0;
-    while i < 3 * z.slots {
-        let v = journal::slots::word_of_slot(journal::slots::free_slot(z.pages + i / 3), i % 3);
-        words::put_word(image, at + 8 * i, v);
-        i += 1;
+    if a < 8 {
+        return header_word(z, a);
     }
-}
-
-// Lays a fresh image over the start of the bytes lent, word by word.
-fn put_fresh(image: &mut [u8], z: Sizes)
-    requires { ⌜ Legal z × (imageLength z ≤ length (now image)) ⌝ }
-    ensures { λ _. ⌜ now (image .exit) ≡ formatted z (now (image .entry)) ⌝ }
-{
-    put_header(image, z);
-    put_pages(image, z);
-    put_slots(image, z);
-    let at = 8 * layout::slot_word(z, z.slots);
-    let end = layout::image_length(z);
-    runs::fill_words(image, at, (end - at) / 8, 0);
+    let p = a - 8;
+    if p < z.pages {
+        return p as u64;
+    }
+    let i = p - z.pages;
+    if i < 3 * z.slots {
+        return journal::slots::word_of_slot(journal::slots::free_slot(z.pages + i / 3), i % 3);
+    }
+    0
 }
 
 // The slots of a fresh image.
@@ -78,10 +55,9 @@ pub fn fresh_table(z: Sizes) -> Table
     t
 }
 
-// Formats the bytes lent, or gives the row that turns it back and leaves them.
-pub fn format(image: &mut [u8], z: Sizes) -> usize
-    ensures row { λ r. ⌜ r ≡ formatRow z (now (image .entry)) ⌝ }
-    ensures bytes { λ _. ⌜ now (image .exit) ≡ formatBytes z (now (image .entry)) ⌝ }
+// The row that turns format back, 0 where none does.
+pub fn format_row(image: &[u8], z: Sizes) -> usize
+    ensures { λ r. ⌜ r ≡ formatRow z (now (image .entry)) ⌝ }
 {
     if !layout::sizes_ok(z) {
         return 3;
@@ -89,6 +65,5 @@ pub fn format(image: &mut [u8], z: Sizes) -> usize
     if image.len() < layout::image_length(z) {
         return 4;
     }
-    put_fresh(image, z);
     0
 }

@@ -19,7 +19,7 @@ pub fn format(image: &mut [u8], words: &mut [u64; 256], line: Line) -> Said
             places: line.numbers[2] as usize,
             entries: 0,
         };
-        let answer = call_mount::format(image, words, sizes);
+        let answer = call_mount::format_whole(image, words, sizes);
         return calls::answered(answer);
     }
     Said::OtherForm

@@ -16,7 +16,7 @@ use Rattle.mount.proofs.View.{View}
 use Rattle.state.specs.State.{State, Wide}
 use Rattle.state.specs.declared.Pending.{Pending}
 use Rattle.state.specs.declared.Op.{Op}
-use Rattle.state.specs.declared.Op.the-variants.{Idle, Write, Commit, Consolidate, Checkpoint, Event, Prepare, Confirm, Log, Copy}
+use Rattle.state.specs.declared.Op.the-variants.{Idle, Write, Commit, Consolidate, Checkpoint, Event, Prepare, Confirm, Log, Copy, Format}
 use Rattle.operations.specs.Operations.{isIdle}
 use Rattle.refinement.specs.Stores.{World, stepped, storeAt, storeMade}
 use Rattle.refinement.specs.Wide.{copiedFrame, copyAtOf}
@@ -49,6 +49,7 @@ ofWide Checkpoint = false
 ofWide (Event k m a) = false
 ofWide (Prepare w) = false
 ofWide (Confirm w) = false
+ofWide Format = false
 
 -- its stores go to the count of entries, to a frame or to an entry
 beyond-at : (st : State) (img : List ℕ) (op : Op) (i : ℕ) → ofWide op ≡ true → (storeAt st img op i ≡ countWord) ⊎ (frameWord (st .sizes) ≤ storeAt st img op i)
@@ -67,6 +68,7 @@ beyond-at st img Checkpoint i t = contradicts t refl
 beyond-at st img (Event k m a) i t = contradicts t refl
 beyond-at st img (Prepare w) i t = contradicts t refl
 beyond-at st img (Confirm w) i t = contradicts t refl
+beyond-at st img Format i t = contradicts t refl
 
 wide-stays : (past : List ℕ) (st : State) (img : List ℕ) (b : Reference) → Standing past (worldOf st img) b → isIdle (st .pending .op) ≡ false → ofWide (st .pending .op) ≡ true
     → Stays (st .sizes) img (storeMade st img (st .pending .op) (st .pending .made))

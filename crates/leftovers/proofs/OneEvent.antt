@@ -12,7 +12,7 @@ use Rattle.bounded.proofs.Tests.{caseOn}
 use Rattle.layout.specs.declared.Sizes.{Sizes}
 use Rattle.state.specs.State.{State}
 use Rattle.state.specs.declared.Op.{Op}
-use Rattle.state.specs.declared.Op.the-variants.{Idle, Write, Commit, Consolidate, Checkpoint, Event, Prepare, Confirm, Log, Copy}
+use Rattle.state.specs.declared.Op.the-variants.{Idle, Write, Commit, Consolidate, Checkpoint, Event, Prepare, Confirm, Log, Copy, Format}
 use Rattle.meters.specs.Meters.{firstMeter, ownMeter}
 use Rattle.operations.specs.Operations.{isIdle, needs}
 use Rattle.refinement.specs.Event.{firstAsked, secondAsked, linesDone, lineStores}
@@ -46,6 +46,7 @@ kindIn (Prepare w) = 0
 kindIn (Confirm w) = 0
 kindIn (Log p l o n) = 0
 kindIn Copy = 0
+kindIn Format = 0
 
 abbrev meterIn : Op → ℕ
 meterIn (Event k m a) = m
@@ -58,6 +59,7 @@ meterIn (Prepare w) = 0
 meterIn (Confirm w) = 0
 meterIn (Log p l o n) = 0
 meterIn Copy = 0
+meterIn Format = 0
 
 -- the stores before its last one
 abbrev before : Op → ℕ

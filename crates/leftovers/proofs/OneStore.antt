@@ -25,7 +25,7 @@ use Rattle.mount.proofs.Dead.{dead-view}
 use Rattle.mount.proofs.Emptied.{unrecorded}
 use Rattle.state.specs.State.{State}
 use Rattle.state.specs.declared.Op.{Op}
-use Rattle.state.specs.declared.Op.the-variants.{Idle, Write, Commit, Consolidate, Checkpoint, Event, Prepare, Confirm, Log, Copy}
+use Rattle.state.specs.declared.Op.the-variants.{Idle, Write, Commit, Consolidate, Checkpoint, Event, Prepare, Confirm, Log, Copy, Format}
 use Rattle.operations.specs.Operations.{needs}
 use Rattle.refinement.specs.Frames.{pageSlot}
 use Rattle.operations.proofs.Taken.{CommitTaken}
@@ -239,6 +239,7 @@ module _ (past past′ : List ℕ) (st : State) (x y : List ℕ) (b : Reference)
   next-of (Event k i a) e = absurd (subst (Doing st x b) e (B .doing))
   next-of (Log p l o n) e = absurd (subst (Doing st x b) e (B .doing))
   next-of Copy e = absurd (subst (Doing st x b) e (B .doing))
+  next-of Format e = absurd (subst (Doing st x b) e (B .doing))
   next-of Checkpoint e =
       caseOn (ltb m (3 * recorded st))
       (λ t. let low = ltb-true m (3 * recorded st) t in between Checkpoint (checkpoint-mid past st x b (B .durable) m low) (checkpoint-mid past′ st y b (C .durable) m low))

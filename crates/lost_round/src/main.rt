@@ -32,7 +32,7 @@ fn cut_round(image: &mut [u8; 12552], words: &mut [u64; 256]) {
         places: 2,
         entries: 1,
     };
-    show(b"format", call_mount::format(image, words, z));
+    show(b"format", call_mount::format_whole(image, words, z));
     show(b"begin wide", call_begin::begin_wide(words, 0));
     show(
         b"write A",

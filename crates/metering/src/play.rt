@@ -96,7 +96,7 @@ fn turn(image: &mut [u8; 16640], words: &mut [u64; 256], game: Game) -> Game {
 
 // A fresh store, with the fixed moduli.
 pub fn fresh(image: &mut [u8; 16640], words: &mut [u64; 256]) -> Game {
-    call_mount::format(
+    call_mount::format_whole(
         image,
         words,
         Sizes {

@@ -1,7 +1,9 @@
 // How many stores each operation needs.
 ghost use mathlib.Core.Path.{_≡_};
 ghost use Prim.Native.Nat.{_≤_};
-ghost use Rattle.operations.specs.Operations.{commitNeeds, prepareNeeds, confirmNeeds, copyNeeds, copyCount, consolidateNeeds};
+ghost use Rattle.layout.specs.Layout.{Legal};
+ghost use Rattle.operations.specs.Operations.{commitNeeds, prepareNeeds, confirmNeeds, copyNeeds, copyCount, consolidateNeeds, formatNeeds};
+use layout::Sizes;
 
 // The stores that a commit of n slots needs.
 pub fn commit_needs(n: usize) -> usize
@@ -46,4 +48,12 @@ pub fn consolidate_needs(bitmap: u64) -> usize
     ensures { λ r. ⌜ r ≡ consolidateNeeds bitmap ⌝ }
 {
     8 * copy_count(bitmap) + 6
+}
+
+// The stores that a format needs.
+pub fn format_needs(z: Sizes) -> usize
+    requires { ⌜ Legal z ⌝ }
+    ensures { λ r. ⌜ r ≡ formatNeeds z ⌝ }
+{
+    layout::entry_word(z, z.entries) + 1
 }

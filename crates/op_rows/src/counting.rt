@@ -71,5 +71,6 @@ pub fn op_needs(z: Sizes, at: Places, words: &[u64; 256], op: Op) -> usize
             length: _,
         } => 9,
         Op::Copy => needs::copy_needs(at.count),
+        Op::Format => needs::format_needs(z),
     }
 }

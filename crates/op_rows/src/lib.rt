@@ -86,5 +86,6 @@ pub fn op_row(z: Sizes, at: Places, words: &[u64; 256], op: Op, frame: usize) ->
             log_row(z, at, words, a, s, frame)
         }
         Op::Copy => copy_row(at.prepared),
+        Op::Format => 0,
     }
 }

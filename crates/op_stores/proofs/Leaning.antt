@@ -17,13 +17,14 @@ use Rattle.replay.specs.Table.{slotsShaped}
 use Rattle.state.specs.State.{State}
 use Rattle.state.specs.declared.Places.{Places}
 use Rattle.state.specs.declared.Op.{Op}
-use Rattle.state.specs.declared.Op.the-variants.{Write, Commit, Consolidate, Event, Prepare, Confirm, Log, Copy}
+use Rattle.state.specs.declared.Op.the-variants.{Write, Commit, Consolidate, Event, Prepare, Confirm, Log, Copy, Format}
 use Rattle.state.specs.Held.{heldSlots}
 use Rattle.state.specs.Wide.{entryFor}
-use Rattle.operations.specs.Operations.{Asked, slotted, opRows, needs}
+use Rattle.operations.specs.Operations.{Asked, slotted, opRows, needs, formatNeeds}
 use Rattle.operations.proofs.Taken.{op-asked, WriteTaken}
 use Rattle.refinement.specs.Commit.{commitAtOf, commitValueOf}
 use Rattle.refinement.specs.Consolidate.{Consolidates}
+use Rattle.fresh.specs.Fresh.{formatAt, formatValue}
 use Rattle.refinement.specs.Wide.{copyAtOf, copyValueOf}
 use Rattle.refinement.specs.Stores.{storeAt, storeValue, completed, withMade, stateAfter, left}
 use Rattle.refinement.proofs.Going.{going, ranges-of, shapes-of, entries-of, write-of, commit-of, prepare-of, confirm-of, consolidate-of, event-of}
@@ -129,6 +130,10 @@ module _ (z : Sizes) (at : Places) (st : State) (h : Served z at st) where
   unfolding needs
   log-below q l = rw q at l
 
+  pub format-below : {op : Op} {i : ℕ} → op ≡ Format → i < needs st op → i < formatNeeds z
+  unfolding needs
+  format-below q l = rw (h .sizes) (rw q at l)
+
   -- ---- a piece that an operation's function found is that of the operation
   module _ (i : ℕ) (img : List ℕ) (p : Piece) where
     abbrev pub IsNext : Op → Type 0
@@ -149,6 +154,9 @@ module _ (z : Sizes) (at : Places) (st : State) (h : Served z at st) where
 
     pub copy-next : Next (copyAtOf z (st .table) (at .count) (st .wide .keys)) (copyValueOf z (at .count)) i (imageLength z) img p → IsNext Copy
     copy-next n = next-as _ _ _ _ i i _ img p n (λ d m. rw (h .sizes, h .places)) (λ d m. rw (h .sizes, h .places))
+
+    pub format-next : Next (λ m. formatAt z) (λ m. formatValue z) i (imageLength z) img p → IsNext Format
+    format-next n = next-as _ _ _ _ i i _ img p n (λ d m. rw (h .sizes)) (λ d m. rw (h .sizes))
 
 -- the word that its first store that is still to be made goes to
 pub first-place : (st : State) (op : Op) (made bound : ℕ) (img : List ℕ) (p : Piece) → op ≡ st .pending .op → made ≡ st .pending .made

@@ -16,7 +16,7 @@ use Rattle.state.specs.State.{State}
 use Rattle.state.specs.declared.Places.{Places}
 use Rattle.state.specs.declared.Pending.{Pending}
 use Rattle.state.specs.declared.Op.{Op}
-use Rattle.state.specs.declared.Op.the-variants.{Idle, Write, Commit, Consolidate, Checkpoint, Event, Prepare, Confirm, Log, Copy}
+use Rattle.state.specs.declared.Op.the-variants.{Idle, Write, Commit, Consolidate, Checkpoint, Event, Prepare, Confirm, Log, Copy, Format}
 use Rattle.operations.specs.Operations.{Asked as AskedOf, isIdle, opRows, needs}
 use Rattle.operations.proofs.Taken.{op-asked}
 use Rattle.validity.specs.Validity.{stateOk, opFits}
@@ -54,6 +54,7 @@ fence-few (Prepare w) m n = omega arith
 fence-few (Confirm w) m n = omega arith
 fence-few (Log p l o k) m n = omega arith
 fence-few Copy m n = row-keeps (λ (x : ℕ). x ≤ n) (eqb m 0) 0 (n - 1) (omega arith) (omega arith)
+fence-few Format m n = row-keeps (λ (x : ℕ). x ≤ n) (eqb m 0) 0 (n - 1) (omega arith) (omega arith)
 
 budget-in-few : (u : Until) (op : Op) (m n : ℕ) → budgetIn u op m n ≤ n
 budget-in-few Asked op m n = omega arith

@@ -12,7 +12,7 @@ use Rattle.state.specs.declared.Places.{Places}
 use Rattle.state.specs.declared.Pending.{Pending}
 use Rattle.state.specs.declared.Op.{Op}
 use Rattle.operations.specs.Operations.{isIdle, opRows, needs}
-use Rattle.validity.specs.Validity.{stateOk, opFits}
+use Rattle.validity.specs.Validity.{stateOk, opFits, isFresh}
 use Rattle.state_words.specs.Decoded.{placesOf}
 
 -- z and at are the sizes and places of st; p is the operation with none of its stores made
@@ -25,7 +25,7 @@ pub record Asks (z : Sizes) (at : Places) (st : State) (img : List ℕ) (p : Pen
   pub busy : isIdle (p .op) ≡ false
   pub none-made : p .made ≡ 0
   pub rows : refusal (opRows st (p .op) (p .frame)) ≡ 0
-  pub fits : opFits (st .wide .writer) (p .op) ≡ true
+  pub fits : opFits (st .wide .writer) (isFresh st) (p .op) ≡ true
   pub some : 0 < needs st (p .op)
 
 -- the same of an operation that keeps no lines and reads no page's frame; it may need no store
@@ -36,4 +36,4 @@ pub record Allowed (z : Sizes) (at : Places) (st : State) (op : Op) : Type 0 whe
   pub idle : isIdle (st .pending .op) ≡ true
   pub busy : isIdle op ≡ false
   pub rows : refusal (opRows st op 0) ≡ 0
-  pub fits : opFits (st .wide .writer) op ≡ true
+  pub fits : opFits (st .wide .writer) (isFresh st) op ≡ true

@@ -6,7 +6,7 @@ use mathlib.Core.Path.{_≡_}
 use lib.Dec.{eqb}
 use Rattle.state.specs.State.{State}
 use Rattle.state.specs.declared.Op.{Op}
-use Rattle.state.specs.declared.Op.the-variants.{Idle, Write, Commit, Consolidate, Checkpoint, Event, Prepare, Confirm, Log, Copy}
+use Rattle.state.specs.declared.Op.the-variants.{Idle, Write, Commit, Consolidate, Checkpoint, Event, Prepare, Confirm, Log, Copy, Format}
 use Rattle.refinement.specs.Stores.{left}
 use Rattle.refinement.specs.Outcome.{Outcome}
 use Rattle.refinement.specs.Calls.{worldOf, runOf, runBytes}
@@ -17,7 +17,8 @@ use Rattle.op_stores.specs.declared.Until.{Until}
 use Rattle.op_stores.specs.declared.Until.the-variants.{Asked, Fence, End}
 
 -- of an operation with m stores made and n left: those that come before the next store that decides. That is the last one of a commit, a confirm, a
--- consolidation and an event (head) and of a checkpoint (tail); the first and the last of a copying (word 6); none of a write, a wide write and a prepare
+-- consolidation and an event (head) and of a checkpoint (tail); the first and the last of a copying (word 6) and of a format (the layout word);
+-- none of a write, a wide write and a prepare
 abbrev pub fenceIn : Op → ℕ → ℕ → ℕ
 fenceIn Idle m n = n
 fenceIn (Write w p l o k) m n = n
@@ -29,6 +30,7 @@ fenceIn (Prepare w) m n = n
 fenceIn (Confirm w) m n = n - 1
 fenceIn (Log p l o k) m n = n
 fenceIn Copy m n = cond (eqb m 0) 0 (n - 1)
+fenceIn Format m n = cond (eqb m 0) 0 (n - 1)
 
 -- those that a call makes: none, as document 01 has it; those before the next one that decides; all
 abbrev pub budgetIn : Until → Op → ℕ → ℕ → ℕ

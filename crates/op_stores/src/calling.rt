@@ -48,6 +48,7 @@ fn complete_now(z: Sizes, at: Places, words: &mut [u64; 256], op: Op)
             length: _,
         } => {}
         Op::Copy => op_copy::complete_copy(z, words, at.wide),
+        Op::Format => {}
     }
 }
 

@@ -38,5 +38,6 @@ pub(crate) fn complete(z: Sizes, at: Places, words: &mut [u64; 256], op: Op)
             length: _,
         } => op_log::complete_log(words, at.wide, at.count, p, l),
         Op::Copy => op_copy::complete_copy(z, words, at.wide),
+        Op::Format => op_format::complete_format(words),
     }
 }

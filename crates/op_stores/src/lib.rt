@@ -81,6 +81,7 @@ fn before_fence(op: Op, m: usize, n: usize) -> usize
             length: _,
         } => n,
         Op::Copy => if m == 0 { 0 } else { n - 1 },
+        Op::Format => if m == 0 { 0 } else { n - 1 },
     }
 }
 

@@ -79,6 +79,7 @@ pub(crate) fn next_piece(
             length: _,
         } => op_log::log_piece(z, words, at.count, p, l, i),
         Op::Copy => op_copy::copy_piece(image, z, words, at.count, i),
+        Op::Format => op_format::format_piece(z, i),
     }
 }
 

@@ -13,7 +13,7 @@ use Rattle.layout.specs.declared.Sizes.{Sizes}
 use Rattle.meters.specs.Meters.{eventKnown, firstMeter, ownMeter}
 use Rattle.state.specs.State.{State}
 use Rattle.state.specs.declared.Op.{Op}
-use Rattle.state.specs.declared.Op.the-variants.{Idle, Write, Commit, Consolidate, Checkpoint, Event, Prepare, Confirm, Log, Copy}
+use Rattle.state.specs.declared.Op.the-variants.{Idle, Write, Commit, Consolidate, Checkpoint, Event, Prepare, Confirm, Log, Copy, Format}
 use Rattle.state.specs.Held.{isOpen, somePrepared, someHold, heldSlots}
 use Rattle.state.specs.Wide.{someWide, noEntryLeft}
 use Rattle.operations.specs.Operations.{live, slotFor, slotted, writeArgsBad, lineTaken, noneFree, frameBad, writeRows, commitRows, prepareRows, logRows, confirmRows, consolidateRows, opRows, Asked}
@@ -181,6 +181,7 @@ op-asked st (Prepare w) f e = prepare-taken st w e .writer-low
 op-asked st (Confirm w) f e = confirm-taken st w e .writer-low
 op-asked st (Log p l o n) f e = tt
 op-asked st Copy f e = tt
+op-asked st Format f e = tt
 
 -- r is the slot that the code found
 pub slot-low : (st : State) (p r : ℕ) → slotted st p ≡ true → r ≡ slotFor st p → r < st .sizes .slots

@@ -7,7 +7,7 @@ use lib.ListN.{getD, length}
 use Rattle.bounded.specs.Below.{those}
 use Rattle.bounded.specs.Rows.{Row}
 use Rattle.layout.specs.declared.Sizes.{Sizes}
-use Rattle.layout.specs.Layout.{Legal, frames}
+use Rattle.layout.specs.Layout.{Legal, frames, imageWords}
 use Rattle.replay.specs.declared.Table.{Table}
 use Rattle.journal.specs.Records.{liveCount}
 use Rattle.replay.specs.Table.{slotIn, slotOf, noPosition}
@@ -15,7 +15,7 @@ use Rattle.masks.specs.Lines.{countLines}
 use Rattle.meters.specs.Meters.{eventKnown, firstMeter, ownMeter, eventNeeds}
 use Rattle.state.specs.State.{State}
 use Rattle.state.specs.declared.Op.{Op}
-use Rattle.state.specs.declared.Op.the-variants.{Idle, Write, Commit, Consolidate, Checkpoint, Event, Prepare, Confirm, Log, Copy}
+use Rattle.state.specs.declared.Op.the-variants.{Idle, Write, Commit, Consolidate, Checkpoint, Event, Prepare, Confirm, Log, Copy, Format}
 use Rattle.state.specs.Slots.{slotOfPage, freeAfter, frameOfSlot}
 use Rattle.state.specs.Held.{isOpen, somePrepared, othersHold, someHold, heldSlots}
 use Rattle.state.specs.Wide.{someWide, noEntryLeft}
@@ -32,6 +32,7 @@ isIdle (Prepare w) = false
 isIdle (Confirm w) = false
 isIdle (Log p l o n) = false
 isIdle Copy = false
+isIdle Format = false
 
 abbrev pub live : State → ℕ
 live st = liveCount (st .sizes) (st .head) (st .tail)
@@ -170,6 +171,7 @@ opRows st (Prepare w) f = prepareRows st w
 opRows st (Confirm w) f = confirmRows st w
 opRows st (Log p l o n) f = logRows st p l o n f
 opRows st Copy f = copyRows st
+opRows st Format f = []
 
 -- ---- stores needed
 
@@ -202,6 +204,10 @@ recordedSlots z last = those (z .slots) (λ s. not (eqb (getD last s 0) noPositi
 abbrev pub checkpointNeeds : ℕ → ℕ → ℕ → ℕ
 checkpointNeeds head tail m = cond (eqb head tail) 0 (3 * m + 1)
 
+-- a format stores every word of the image, and the layout twice (document 02, L6)
+abbrev pub formatNeeds : Sizes → ℕ
+formatNeeds z = imageWords z + 1
+
 -- the same of an operation; a wide transaction uses so many entries
 unfoldable pub needs : State → Op → ℕ
 needs st Idle = 0
@@ -214,6 +220,7 @@ needs st (Prepare w) = prepareNeeds (length (heldSlots (st .sizes) (st .writers 
 needs st (Confirm w) = confirmNeeds (length (heldSlots (st .sizes) (st .writers .held) w))
 needs st (Log p l o n) = 9
 needs st Copy = copyNeeds (st .wide .count)
+needs st Format = formatNeeds (st .sizes)
 
 -- what the count leans on, and the rows make sure of: a writer below 4, a page with a slot
 abbrev pub Asked : Sizes → List ℕ → Op → Type 0
@@ -227,3 +234,4 @@ Asked z page (Prepare w) = w < 4
 Asked z page (Confirm w) = w < 4
 Asked z page (Log p l o n) = Unit {0}
 Asked z page Copy = Unit {0}
+Asked z page Format = Unit {0}

@@ -38,7 +38,8 @@ write-by k a b c d e =
     (λ f5. caseOn (eqb k 6) (λ t. rw (f1, f2, f3, f4, f5, t))
     (λ f6. caseOn (eqb k 7) (λ t. rw (f1, f2, f3, f4, f5, f6, t))
     (λ f7. caseOn (eqb k 8) (λ t. rw (f1, f2, f3, f4, f5, f6, f7, t))
-    (λ f8. caseOn (eqb k 9) (λ t. rw (f1, f2, f3, f4, f5, f6, f7, f8, t)) (λ f9. rw (f1, f2, f3, f4, f5, f6, f7, f8, f9))))))))))
+    (λ f8. caseOn (eqb k 9) (λ t. rw (f1, f2, f3, f4, f5, f6, f7, f8, t))
+    (λ f9. caseOn (eqb k 10) (λ t. rw (f1, f2, f3, f4, f5, f6, f7, f8, f9, t)) (λ f10. rw (f1, f2, f3, f4, f5, f6, f7, f8, f9, f10)))))))))))
 
 module _ (c : List ℕ) where
   pub write-read : eqb (getD c 14 0) 1 ≡ isWrite (decoded c .pending .op)

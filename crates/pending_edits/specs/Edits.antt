@@ -5,7 +5,7 @@ use mathlib.Core.List.{List}
 use lib.Dec.{leb, eqb}
 use lib.ListN.{getD, set, replicate}
 use Rattle.words.specs.Words.{leOf, bytesOf}
-use Rattle.state.specs.declared.Op.the-variants.{Idle, Write, Commit, Consolidate, Checkpoint, Event, Prepare, Confirm, Log, Copy}
+use Rattle.state.specs.declared.Op.the-variants.{Idle, Write, Commit, Consolidate, Checkpoint, Event, Prepare, Confirm, Log, Copy, Format}
 use Rattle.state.specs.declared.Op.{Op}
 use Rattle.state.specs.declared.Pending.{Pending}
 use Rattle.state.specs.State.{State}
@@ -48,6 +48,7 @@ isWrite (Prepare w) = false
 isWrite (Confirm w) = false
 isWrite (Log p l o n) = false
 isWrite Copy = false
+isWrite Format = false
 
 -- a word with its byte j set to v
 abbrev pub withByte : ℕ → ℕ → ℕ → ℕ

@@ -7,7 +7,7 @@ use native.Mathlib.Omega.{arith}
 use lib.ListN.{length, getD, replicate, length-append}
 use Rattle.bounded.proofs.Tests.{contradicts}
 use Rattle.words.proofs.Bytes.{length-bytes}
-use Rattle.state.specs.declared.Op.the-variants.{Idle, Write, Commit, Consolidate, Checkpoint, Event, Prepare, Confirm, Log, Copy}
+use Rattle.state.specs.declared.Op.the-variants.{Idle, Write, Commit, Consolidate, Checkpoint, Event, Prepare, Confirm, Log, Copy, Format}
 use Rattle.state.specs.declared.Op.{Op}
 use Rattle.state.specs.declared.Pending.{Pending}
 use Rattle.operations.specs.Operations.{isIdle}
@@ -28,6 +28,7 @@ length-op (Prepare w) made frame = refl
 length-op (Confirm w) made frame = refl
 length-op (Log p l o n) made frame = refl
 length-op Copy made frame = refl
+length-op Format made frame = refl
 
 finished-long : (op : Op) (words : List ℕ) → length (finishedNumbers op words) ≤ 64
 finished-long Idle words = omega arith
@@ -40,6 +41,7 @@ finished-long (Prepare w) words = omega arith
 finished-long (Confirm w) words = omega arith
 finished-long (Log p l o n) words = omega arith
 finished-long Copy words = omega arith
+finished-long Format words = omega arith
 
 pub pending-long : (p : Pending) → length (pendingNumbers p) ≤ 72
 pending-long p =
@@ -57,6 +59,7 @@ idle-op (Prepare w) made frame line e = contradicts e refl
 idle-op (Confirm w) made frame line e = contradicts e refl
 idle-op (Log p l o n) made frame line e = contradicts e refl
 idle-op Copy made frame line e = contradicts e refl
+idle-op Format made frame line e = contradicts e refl
 
 pub idle-zeros : (p : Pending) → isIdle (p .op) ≡ true → pendingNumbers p ≡ replicate 8 0
 idle-zeros p e = idle-op (p .op) (p .made) (p .frame) (p .line) e

@@ -3,7 +3,7 @@ use Prim.Native.Nat.{ℕ}
 use mathlib.Core.List.{List, [], _∷_, _++_}
 use lib.ListN.{getD}
 use Rattle.words.specs.Words.{bytesOf}
-use Rattle.state.specs.declared.Op.the-variants.{Idle, Write, Commit, Consolidate, Checkpoint, Event, Prepare, Confirm, Log, Copy}
+use Rattle.state.specs.declared.Op.the-variants.{Idle, Write, Commit, Consolidate, Checkpoint, Event, Prepare, Confirm, Log, Copy, Format}
 use Rattle.state.specs.declared.Op.{Op}
 use Rattle.state.specs.declared.Pending.{Pending}
 use Rattle.number_text.specs.Text.{each}
@@ -21,6 +21,7 @@ opNumbers (Prepare w) made frame = 6 ∷ w ∷ 0 ∷ 0 ∷ 0 ∷ 0 ∷ made ∷ 
 opNumbers (Confirm w) made frame = 7 ∷ w ∷ 0 ∷ 0 ∷ 0 ∷ 0 ∷ made ∷ 0 ∷ []
 opNumbers (Log p l o n) made frame = 8 ∷ p ∷ l ∷ o ∷ n ∷ 0 ∷ made ∷ frame ∷ []
 opNumbers Copy made frame = 9 ∷ 0 ∷ 0 ∷ 0 ∷ 0 ∷ 0 ∷ made ∷ 0 ∷ []
+opNumbers Format made frame = 10 ∷ 0 ∷ 0 ∷ 0 ∷ 0 ∷ 0 ∷ made ∷ 0 ∷ []
 
 -- the 64 bytes of a line of words
 abbrev pub lineBytes : List ℕ → ℕ → List ℕ
@@ -41,6 +42,7 @@ finishedNumbers (Prepare w) words = []
 finishedNumbers (Confirm w) words = []
 finishedNumbers (Log p l o n) words = []
 finishedNumbers Copy words = []
+finishedNumbers Format words = []
 
 abbrev pub pendingNumbers : Pending → List ℕ
 pendingNumbers p = opNumbers (p .op) (p .made) (p .frame) ++ finishedNumbers (p .op) (p .line)

@@ -1,5 +1,6 @@
 // The numbers of the pending operation, each after a blank.
 ghost use mathlib.Core.Path.{_≡_};
+ghost use mathlib.Core.List.{[], _∷_};
 ghost use Prim.Native.Nat.{_+_, _<_, _≤_};
 ghost use lib.ListN.{length};
 ghost use Rattle.words.specs.Words.{bytesOf};
@@ -9,10 +10,36 @@ ghost use Rattle.pending_text.specs.Numbers.{opNumbers, lineNumbers, fin
 use state::Op;
 use state_words::parts;
 
+// The numbers of a write, and of a wide one.
+fn written(
+    code: u64,
+    a: usize,
+    b: usize,
+    c: usize,
+    d: usize,
+    e: usize,
+    made: u64,
+    frame: u64,
+) -> [u64; 8]
+    ensures { λ r. ⌜ r ≡ code ∷ a ∷ b ∷ c ∷ d ∷ e ∷ made ∷ frame ∷ [] ⌝ }
+{
+    [
+        code,
+        a as u64,
+        b as u64,
+        c as u64,
+        d as u64,
+        e as u64,
+        made,
+        frame,
+    ]
+}
+
 fn op_numbers(op: Op, made: usize, frame: usize) -> [u64; 8]
     ensures { λ r. ⌜ r ≡ opNumbers op made frame ⌝ }
 {
     let m = made as u64;
+    let f = frame as u64;
     match op {
         Op::Idle => [0; 8],
         Op::Write {
@@ -21,16 +48,7 @@ fn op_numbers(op: Op, made: usize, frame: usize) -> [u64; 8]
             line,
             offset,
             length,
-        } => [
-            1,
-            writer as u64,
-            page as u64,
-            line as u64,
-            offset as u64,
-            length as u64,
-            m,
-            frame as u64,
-        ],
+        } => written(1, writer, page, line, offset, length, m, f),
         Op::Commit { writer } => [2, writer as u64, 0, 0, 0, 0, m, 0],
         Op::Consolidate { page } => [3, page as u64, 0, 0, 0, 0, m, 0],
         Op::Checkpoint => [4, 0, 0, 0, 0, 0, m, 0],
@@ -38,7 +56,7 @@ fn op_numbers(op: Op, made: usize, frame: usize) -> [u64; 8]
             kind,
             meter,
             amount,
-        } => [5, kind as u64, meter as u64, amount, 0, 0, m, frame as u64],
+        } => [5, kind as u64, meter as u64, amount, 0, 0, m, f],
         Op::Prepare { writer } => [6, writer as u64, 0, 0, 0, 0, m, 0],
         Op::Confirm { writer } => [7, writer as u64, 0, 0, 0, 0, m, 0],
         Op::Log {
@@ -46,17 +64,9 @@ fn op_numbers(op: Op, made: usize, frame: usize) -> [u64; 8]
             line,
             offset,
             length,
-        } => [
-            8,
-            page as u64,
-            line as u64,
-            offset as u64,
-            length as u64,
-            0,
-            m,
-            frame as u64,
-        ],
+        } => written(8, page, line, offset, length, 0, m, f),
         Op::Copy => [9, 0, 0, 0, 0, 0, m, 0],
+        Op::Format => [10, 0, 0, 0, 0, 0, m, 0],
     }
 }
 
@@ -129,6 +139,7 @@ fn put_finished(out: &mut [u8], at: usize, op: Op, line: [u64; 8]) -> usize
             length: _,
         } => at,
         Op::Copy => at,
+        Op::Format => at,
     }
 }
 

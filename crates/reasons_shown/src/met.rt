@@ -140,7 +140,7 @@ fn fresh(image: &mut [u8], words: &mut [u64; 256], entries: usize) {
         places: 2,
         entries,
     };
-    let _ = call_mount::format(image, words, z);
+    let _ = call_mount::format_whole(image, words, z);
 }
 
 // Makes a call with all its stores, and tells why it was refused. A format starts anew with so many entries.

@@ -8,7 +8,7 @@ use Rattle.bounded.specs.Rows.{refusal}
 use Rattle.state.specs.State.{State}
 use Rattle.state.specs.declared.Op.{Op}
 use Rattle.operations.specs.Operations.{needs, opRows}
-use Rattle.validity.specs.Validity.{opFits}
+use Rattle.validity.specs.Validity.{opFits, isFresh}
 use Rattle.refinement.proofs.StateValid.{valid}
 use Rattle.refinement.specs.Calls.{withPending, asked}
 use Rattle.refinement.proofs.CallAsked.{needs-asked, pending-valid}
@@ -21,7 +21,7 @@ pub all-left : (st : State) (op : Op) (line : List ℕ) (frame : ℕ) (t : Task)
 all-left st op line frame t = let e : needs st op ≡ needs (withPending st op line frame) op - 0 = omega (arith, needs-asked st line frame op op) in ap (under t) e
 
 pub asked-busy : {past : List ℕ} (st : State) (img : List ℕ) (b : Reference) (op : Op) (line : List ℕ) (frame : ℕ) (t : Task)
-    → Quiet past st img b → opFits (st .wide .writer) op ≡ true → 0 < needs st op → refusal (opRows st op frame) ≡ 0
+    → Quiet past st img b → opFits (st .wide .writer) (isFresh st) op ≡ true → 0 < needs st op → refusal (opRows st op frame) ≡ 0
     → Doing (withPending st op line frame) img (withWork (under t (needs st op)) b) op
     → Busy past (withPending st op line frame) img (withWork (under t (needs st op)) b)
 asked-busy st img b op line frame t q fits l r doing =

@@ -12,9 +12,9 @@ use Rattle.bounded.proofs.Tests.{caseOn}
 use Rattle.replay.proofs.Tables.{Sixteen}
 use Rattle.state.specs.State.{State}
 use Rattle.state.specs.declared.Op.{Op}
-use Rattle.state.specs.declared.Op.the-variants.{Idle, Write, Commit, Consolidate, Checkpoint, Event, Prepare, Confirm, Log, Copy}
+use Rattle.state.specs.declared.Op.the-variants.{Idle, Write, Commit, Consolidate, Checkpoint, Event, Prepare, Confirm, Log, Copy, Format}
 use Rattle.operations.specs.Operations.{opRows, needs}
-use Rattle.validity.specs.Validity.{stateOk, opFits}
+use Rattle.validity.specs.Validity.{stateOk, opFits, isFresh}
 use Rattle.refinement.specs.Stores.{completed}
 use Rattle.refinement.proofs.EventRows.{event-some}
 use Rattle.refinement.proofs.LinesAsked.{needs-lines, rows-lines, lines-valid}
@@ -33,7 +33,7 @@ module _ (st : State) (line : List ℕ) (frame : ℕ) where
   pub rows-asked : (op o : Op) (f : ℕ) → refusal (opRows (withPending st o line frame) op f) ≡ refusal (opRows st op f)
   rows-asked = rows-lines st line (replicate 8 0) frame
 
-  pub pending-valid : (op : Op) → stateOk st ≡ true → opFits (st .wide .writer) op ≡ true → refusal (opRows st op frame) ≡ 0 → 0 < needs st op → stateOk (withPending st op line frame) ≡ true
+  pub pending-valid : (op : Op) → stateOk st ≡ true → opFits (st .wide .writer) (isFresh st) op ≡ true → refusal (opRows st op frame) ≡ 0 → 0 < needs st op → stateOk (withPending st op line frame) ≡ true
   pending-valid = lines-valid st line (replicate 8 0) frame
 
   pub pending-sized : (op : Op) → Sized st → Sized (withPending st op line frame)
@@ -52,9 +52,10 @@ module _ (st : State) (line : List ℕ) (frame : ℕ) where
   rows-done (Confirm w) n r = r
   rows-done (Log p l o i) n r = absurd (omega arith)
   rows-done Copy n r = r
+  rows-done Format n r = r
 
   module _ (op : Op) (r : refusal (opRows st op frame) ≡ 0) where
-    pub asked-valid : stateOk st ≡ true → Sized st → opFits (st .wide .writer) op ≡ true → stateOk (askedState st op line frame) ≡ true
+    pub asked-valid : stateOk st ≡ true → Sized st → opFits (st .wide .writer) (isFresh st) op ≡ true → stateOk (askedState st op line frame) ≡ true
     asked-valid e h fits =
         caseOn (eqb (needs st op) 0)
         (λ q. rw q (completed-valid st op e (h .table .sixteen) (h .writers .sixty-four) (h .writers .four) (h .keys) fits (rows-done op (eqb-true (needs st op) 0 q) r)))

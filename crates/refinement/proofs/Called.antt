@@ -20,7 +20,7 @@ use Rattle.state.specs.declared.Op.{Op}
 use Rattle.state.specs.declared.Op.the-variants.{Write, Consolidate, Checkpoint, Event, Prepare, Confirm, Log}
 use Rattle.state.specs.Wide.{isWide}
 use Rattle.operations.specs.Operations.{isIdle, opRows, commitRows, prepareRows, confirmRows, consolidateRows, needs}
-use Rattle.validity.specs.Validity.{stateOk, opFits}
+use Rattle.validity.specs.Validity.{stateOk, opFits, isFresh}
 use Rattle.refinement.specs.Commit.{closedWriter}
 use Rattle.refinement.specs.Frames.{pageFrame}
 use Rattle.refinement.specs.Freeing.{freedPage}
@@ -52,7 +52,7 @@ answered-good row st n after g h =
     (λ e. subst Good (ap (λ (b : Bool). cond b after st) (sym e)) (h (eqb-true row 0 e)))
     (λ e. subst Good (ap (λ (b : Bool). cond b after st) (sym e)) g)
 
-asked-good : (st : State) (row : ℕ) (op : Op) (line : List ℕ) (frame : ℕ) → Good st → opFits (st .wide .writer) op ≡ true → (row ≡ 0 → refusal (opRows st op frame) ≡ 0)
+asked-good : (st : State) (row : ℕ) (op : Op) (line : List ℕ) (frame : ℕ) → Good st → opFits (st .wide .writer) (isFresh st) op ≡ true → (row ≡ 0 → refusal (opRows st op frame) ≡ 0)
     → Good (asked row st op line frame .state)
 asked-good st row op line frame g fits h =
     answered-good row st (needs st op) (askedState st op line frame) g

@@ -9,14 +9,15 @@ use Rattle.refinement.specs.Reference.{Reference}
 use Rattle.refinement.proofs.Copies.{durable-fits}
 use Rattle.refinement.proofs.Copying.{inPlace, Copying}
 use Rattle.refinement.proofs.CopyingStanding.{copying-standing}
-use Rattle.refinement.proofs.Nine.{Asks, nine-stays, nine-keeps, nine-right}
+use Rattle.refinement.specs.CutFormat.{ByState}
+use Rattle.refinement.proofs.Nine.{nine-stays, nine-keeps, nine-right}
 use Rattle.refinement.proofs.StandingCalls.{mount-kept, recall-kept}
 use Rattle.refinement.proofs.WideRuns.{copied}
 use Rattle.refinement.proofs.WideSteps.{wide-step, wide-run}
 use Rattle.refinement.proofs.Cases.{Invariant, copying, Kept}
 
 module _ {past : List ℕ} (v : World) (b : Reference) (C : Copying past (v .st) (v .image) b) where
-  nine : (c : Call) → Asks c → Kept past c v b
+  nine : (c : Call) → ByState c → Kept past c v b
   nine c a =
       let long = durable-fits past (v .st) (v .image) (inPlace (v .st) (v .image) b) (C .durable) in
       let some = ap isIdle (C .op) in

@@ -26,7 +26,8 @@ use Rattle.refinement.proofs.Copies.{durable-fits}
 use Rattle.refinement.proofs.EventRows.{event-some, event-needs}
 use Rattle.refinement.proofs.Invariant.{Quiet, Related}
 use Rattle.refinement.proofs.Moving.{Moving}
-use Rattle.refinement.proofs.Nine.{Asks, nine-stays, nine-keeps, nine-right}
+use Rattle.refinement.specs.CutFormat.{ByState}
+use Rattle.refinement.proofs.Nine.{nine-stays, nine-keeps, nine-right}
 use Rattle.refinement.proofs.Pending.{pends}
 use Rattle.refinement.proofs.Sound.{is-quiet}
 use Rattle.refinement.proofs.StepCall.{many, idle-apart, stepped-sizes, steppedBy-sizes}
@@ -80,7 +81,7 @@ module _ {past : List ℕ} (v : World) (b : Reference) (M : Moving past (v .st) 
   img = v .image
 
   -- row 9 turns any other call back
-  others : (c : Call) → Asks c → Kept past c v b
+  others : (c : Call) → ByState c → Kept past c v b
   others c a =
       let fits = durable-fits past st img b (M .durable) in
       let pending = moving-pending v b M in

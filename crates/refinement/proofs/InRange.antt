@@ -29,7 +29,7 @@ use Rattle.replay.proofs.Tables.{slot-other}
 use Rattle.masks.proofs.Members.{in-none}
 use Rattle.state.specs.State.{State}
 use Rattle.state.specs.declared.Op.{Op}
-use Rattle.state.specs.declared.Op.the-variants.{Idle, Write, Commit, Consolidate, Checkpoint, Event, Prepare, Confirm, Log, Copy}
+use Rattle.state.specs.declared.Op.the-variants.{Idle, Write, Commit, Consolidate, Checkpoint, Event, Prepare, Confirm, Log, Copy, Format}
 use Rattle.state.specs.Wide.{entryFor, hasEntry}
 use Rattle.state.specs.Slots.{freeAfter}
 use Rattle.operations.specs.Operations.{isIdle, slotFor, slotted, opRows, needs, recordedSlots}
@@ -48,6 +48,7 @@ use Rattle.meters.proofs.MeterLaws.{first-low, own-range}
 use Rattle.refinement.specs.Event.{firstAsked, lineDone, secondAsked, linesDone, lineStores, eventAt}
 use Rattle.refinement.proofs.EventRows.{lines-sizes}
 use Rattle.refinement.proofs.SeenFrames.{page-slot-owning}
+use Rattle.fresh.proofs.FreshStores.{format-in}
 use Rattle.refinement.proofs.StateValid.{parts, valid}
 use Rattle.refinement.proofs.Pending.{pends}
 pub use Rattle.refinement.proofs.SeenFrames.{other-low}
@@ -237,6 +238,7 @@ module _ (st : State) (e : stateOk st ≡ true) where
   op-in-range (Confirm w) r img i l = in-image (st .sizes) _ (header-in (st .sizes) (legal st e) headWord (omega arith))
   op-in-range (Log p l o n) r img i m = log-in st e p l o n i r m
   op-in-range Copy r img i l = in-image (st .sizes) _ (copy-in st e img i)
+  op-in-range Format r img i l = format-in (st .sizes) (legal st e) i (omega arith)
 
   -- store i of the pending operation: its eight bytes, on a word, lie inside the image
   pub store-in-range : isIdle (st .pending .op) ≡ false → (img : List ℕ) (i : ℕ) → i < needs st (st .pending .op) → 8 * storeAt st img (st .pending .op) i + 8 ≤ imageLength (st .sizes)

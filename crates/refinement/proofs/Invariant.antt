@@ -17,7 +17,7 @@ use Rattle.mount.proofs.View.{View, Shows}
 use Rattle.mount.proofs.Verdict.{Taken}
 use Rattle.replay.proofs.Tables.{Sixteen}
 use Rattle.state.specs.declared.Op.{Op}
-use Rattle.state.specs.declared.Op.the-variants.{Idle, Write, Commit, Consolidate, Checkpoint, Event, Prepare, Confirm, Log, Copy}
+use Rattle.state.specs.declared.Op.the-variants.{Idle, Write, Commit, Consolidate, Checkpoint, Event, Prepare, Confirm, Log, Copy, Format}
 use Rattle.state.specs.Held.{noWriter, heldAt}
 use Rattle.state.specs.Wide.{noWide, isWide, someWide}
 use Rattle.operations.specs.Operations.{slotFor, needs}
@@ -118,6 +118,7 @@ Doing st img b (Prepare w) = b .work ≡ under nothing (needs st (Prepare w) - s
 Doing st img b (Confirm w) = b .work ≡ under (committing w) (needs st (Confirm w) - st .pending .made)
 Doing st img b (Log p l o n) = ⊥
 Doing st img b Copy = ⊥
+Doing st img b Format = ⊥
 
 -- the line that a pending write is changing
 abbrev pub Changing : Op → ℕ → ℕ → ℕ → Type 0
@@ -131,6 +132,7 @@ Changing (Prepare w) v q m = ⊥
 Changing (Confirm w) v q m = ⊥
 Changing (Log p l o n) v q m = ⊥
 Changing Copy v q m = ⊥
+Changing Format v q m = ⊥
 
 pub record Busy (past : List ℕ) (st : State) (img : List ℕ) (b : Reference) : Type 0 where
   pub valid : stateOk st ≡ true

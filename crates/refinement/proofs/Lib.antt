@@ -149,3 +149,7 @@ pub mod Demand
 pub mod Witness
 pub mod FreedSlot
 pub mod AsBefore
+pub mod FormatAsked
+pub mod CutFormat
+pub mod RunsAdd
+pub mod JoinedFormat

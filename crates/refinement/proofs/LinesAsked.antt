@@ -6,9 +6,9 @@ use mathlib.Core.Path.{_≡_, refl, _∙_}
 use Rattle.bounded.specs.Rows.{refusal}
 use Rattle.state.specs.State.{State}
 use Rattle.state.specs.declared.Op.{Op}
-use Rattle.state.specs.declared.Op.the-variants.{Idle, Write, Commit, Consolidate, Checkpoint, Event, Prepare, Confirm, Log, Copy}
+use Rattle.state.specs.declared.Op.the-variants.{Idle, Write, Commit, Consolidate, Checkpoint, Event, Prepare, Confirm, Log, Copy, Format}
 use Rattle.operations.specs.Operations.{needs, opRows}
-use Rattle.validity.specs.Validity.{opFits, stateOk}
+use Rattle.validity.specs.Validity.{opFits, stateOk, isFresh}
 use Rattle.refinement.specs.Settled.{withLines}
 use Rattle.refinement.proofs.StateValid.{valid, valid-ok}
 use Rattle.refinement.proofs.Pending.{pends-ok}
@@ -26,6 +26,7 @@ module _ (st : State) (line second : List ℕ) (frame : ℕ) where
   needs-lines (Confirm w) o = refl
   needs-lines (Log p l i n) o = refl
   needs-lines Copy o = refl
+  needs-lines Format o = refl
 
   pub rows-lines : (op o : Op) (f : ℕ) → refusal (opRows (withLines st o line second frame) op f) ≡ refusal (opRows st op f)
   rows-lines Idle o f = refl
@@ -38,8 +39,9 @@ module _ (st : State) (line second : List ℕ) (frame : ℕ) where
   rows-lines (Confirm w) o f = refl
   rows-lines (Log p l i n) o f = refl
   rows-lines Copy o f = refl
+  rows-lines Format o f = refl
 
-  pub lines-valid : (op : Op) → stateOk st ≡ true → opFits (st .wide .writer) op ≡ true → refusal (opRows st op frame) ≡ 0 → 0 < needs st op → stateOk (withLines st op line second frame) ≡ true
+  pub lines-valid : (op : Op) → stateOk st ≡ true → opFits (st .wide .writer) (isFresh st) op ≡ true → refusal (opRows st op frame) ≡ 0 → 0 < needs st op → stateOk (withLines st op line second frame) ≡ true
   lines-valid op e k r l =
       let v = valid st e in
       valid-ok (withLines st op line second frame)

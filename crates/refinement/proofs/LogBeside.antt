@@ -14,7 +14,7 @@ use Rattle.state.specs.declared.Op.{Op}
 use Rattle.state.specs.declared.Op.the-variants.{Consolidate, Checkpoint, Copy}
 use Rattle.operations.specs.Operations.{isIdle, needs, opRows, slotFor, consolidateRows}
 use Rattle.operations.proofs.Taken.{consolidate-taken}
-use Rattle.validity.specs.Validity.{opFits}
+use Rattle.validity.specs.Validity.{opFits, isFresh}
 use Rattle.refinement.specs.Commit.{closedWriter}
 use Rattle.refinement.specs.Freeing.{freedPage}
 use Rattle.refinement.specs.Stores.{World, completed}
@@ -63,7 +63,7 @@ module _ {past : List ℕ} (st : State) (img : List ℕ) (b : Reference) (G : Lo
   rest-busy Checkpoint s l r =
       asked-busy rest img (withWork idle (emptied w b)) Checkpoint (replicate 8 0) 0 nothing (at-rest st img b G) refl l r (all-left rest Checkpoint (replicate 8 0) 0 nothing)
 
-  beside-fits : (op : Op) → Beside op → opFits w op ≡ true
+  beside-fits : (op : Op) → Beside op → opFits w (isFresh st) op ≡ true
   beside-fits (Consolidate p) s = refl
   beside-fits Checkpoint s = refl
 

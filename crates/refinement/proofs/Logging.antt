@@ -16,7 +16,7 @@ use Rattle.entries.specs.Entries.{keyOf, keyPage, keyLine, keysFrom, entryOf}
 use Rattle.entries.proofs.EntryLaws.{length-keys}
 use Rattle.state.specs.State.{State, Wide}
 use Rattle.state.specs.declared.Op.{Op}
-use Rattle.state.specs.declared.Op.the-variants.{Idle, Write, Commit, Consolidate, Checkpoint, Event, Prepare, Confirm, Log, Copy}
+use Rattle.state.specs.declared.Op.the-variants.{Idle, Write, Commit, Consolidate, Checkpoint, Event, Prepare, Confirm, Log, Copy, Format}
 use Rattle.state.specs.Held.{isOpen}
 use Rattle.state.specs.Wide.{noWide, entryFor}
 use Rattle.operations.specs.Operations.{isIdle, opRows, needs}
@@ -58,6 +58,7 @@ Logged d (Event k m a) e = ⊥
 Logged d (Prepare w) e = ⊥
 Logged d (Confirm w) e = ⊥
 Logged d Copy e = ⊥
+Logged d Format e = ⊥
 
 -- ---- what is pending
 
@@ -85,6 +86,7 @@ Beside (Prepare w) = ⊥
 Beside (Confirm w) = ⊥
 Beside (Log p l o n) = ⊥
 Beside Copy = ⊥
+Beside Format = ⊥
 
 -- what goes on beside it is an operation, and no copying
 pub beside-some : (op : Op) → Beside op → (isIdle op ≡ false) × (isCopy op ≡ false)
@@ -98,6 +100,7 @@ beside-some (Prepare w) h = absurd h
 beside-some (Confirm w) h = absurd h
 beside-some (Log p l o n) h = absurd h
 beside-some Copy h = absurd h
+beside-some Format h = absurd h
 
 pub data Stage (past : List ℕ) (st : State) (img : List ℕ) (b : Reference) : Type 0 where
   settled : st .pending ≡ noPending → b .work ≡ idle → Stage past st img b

@@ -17,28 +17,8 @@ use Rattle.refinement.specs.Calls.{beginRows, beginWideRows, abortRows, 
 use Rattle.refinement.specs.Run.{Call, mount, checkpoint, free, step, begin, beginWide, abort, commit, prepare, confirm, withdraw, consolidate, run, write, read, recall, event, load, exec}
 use Rattle.refinement.specs.Reference.{Reference, turn}
 use Rattle.refinement.specs.Statement.{Right}
+use Rattle.refinement.specs.CutFormat.{ByState}
 use Rattle.refinement.proofs.Refused.{refused-unchanged}
-
--- every other call
-abbrev pub Asks : Call → Type 0
-Asks mount = ⊥
-Asks step = ⊥
-Asks (run k) = ⊥
-Asks (recall p l target) = ⊥
-Asks checkpoint = Unit {0}
-Asks free = Unit {0}
-Asks (begin w) = Unit {0}
-Asks (beginWide w) = Unit {0}
-Asks (abort w) = Unit {0}
-Asks (commit w) = Unit {0}
-Asks (prepare w) = Unit {0}
-Asks (confirm w) = Unit {0}
-Asks (withdraw w) = Unit {0}
-Asks (consolidate p) = Unit {0}
-Asks (write w p l o n bytes) = Unit {0}
-Asks (read w p l target) = Unit {0}
-Asks (event ms k m a) = Unit {0}
-Asks (load text) = Unit {0}
 
 module _ (v : World) (ok : stateOk (v .st) ≡ true) (long : imageLength (v .st .sizes) ≤ length (v .image)) (some : isIdle (v .st .pending .op) ≡ false) where
   abbrev st : State
@@ -56,7 +36,7 @@ module _ (v : World) (ok : stateOk (v .st) ≡ true) (long : imageLength (v .st 
   pending : not (isIdle (st .pending .op)) ≡ true
   pending = ap not some
 
-  pub nine : (c : Call) → Asks c → exec c v .number ≡ 9
+  pub nine : (c : Call) → ByState c → exec c v .number ≡ 9
   unfolding exec beginOf beginWideOf abortOf writeOf commitOf prepareOf confirmOf withdrawOf consolidateOf freeOf checkpointOf eventOf loadOf readRow
   nine mount a = absurd a
   nine step a = absurd a
@@ -78,17 +58,17 @@ module _ (v : World) (ok : stateOk (v .st) ≡ true) (long : imageLength (v .st 
   nine (load text) a = sym (row-at (loadRows st img text) 2 (omega arith) (valid, (fits, tt)) pending)
 
   -- the world stays, and nothing is answered that could be wrong
-  pub nine-stays : (c : Call) → Asks c → exec c v .world ≡ v
+  pub nine-stays : (c : Call) → ByState c → exec c v .world ≡ v
   nine-stays c a = refused-unchanged c v (λ e. let x : _≡_ {A = ℕ} 9 0 = sym (nine c a) ∙ e in absurd (omega arith)) .world
 
-  pub nine-keeps : (P : World → Reference → Type 0) (b : Reference) (c : Call) → Asks c → P v b → P (exec c v .world) (turn c (exec c v .number) (exec c v .stores) b)
+  pub nine-keeps : (P : World → Reference → Type 0) (b : Reference) (c : Call) → ByState c → P v b → P (exec c v .world) (turn c (exec c v .number) (exec c v .stores) b)
   nine-keeps P b c a h =
       subst (λ (n : ℕ). P (exec c v .world) (turn c n (exec c v .stores) b)) (sym (nine c a)) (subst (λ (u : World). P u b) (sym (nine-stays c a)) h)
 
-  not-taken : {A : Type 0} (c : Call) → Asks c → exec c v .number ≡ 0 → A
+  not-taken : {A : Type 0} (c : Call) → ByState c → exec c v .number ≡ 0 → A
   not-taken c a e = let x : _≡_ {A = ℕ} 9 0 = sym (nine c a) ∙ e in absurd (omega arith)
 
-  pub nine-right : (b : Reference) (c : Call) → Asks c → Right c (exec c v) b
+  pub nine-right : (b : Reference) (c : Call) → ByState c → Right c (exec c v) b
   nine-right b mount a = absurd a
   nine-right b step a = absurd a
   nine-right b (run k) a = absurd a

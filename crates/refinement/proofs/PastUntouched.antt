@@ -61,7 +61,7 @@ module _ (v : World) where
       record { past = drop-store m a w n fits inside ∙ h .past; as-long = length-store m a w fits ∙ h .as-long })
       (same n (v .image))
 
-  by-steps : Goes → (k : ℕ) → k ≤ left st → SamePast n (v .image) (steppedBy k v .image)
+  pub by-steps : Goes → (k : ℕ) → k ≤ left st → SamePast n (v .image) (steppedBy k v .image)
   by-steps g k l = subst (SamePast n (v .image)) (sym (run-image k v l)) (stored g k l)
 
   by-step : Goes → SamePast n (v .image) (stepped v .image)

@@ -10,9 +10,9 @@ use Rattle.bounded.specs.Rows.{refusal}
 use Rattle.bounded.proofs.Tests.{and-left, and-right}
 use Rattle.state.specs.State.{State}
 use Rattle.state.specs.declared.Op.{Op}
-use Rattle.state.specs.declared.Op.the-variants.{Idle, Write, Commit, Consolidate, Checkpoint, Event, Prepare, Confirm, Log, Copy}
+use Rattle.state.specs.declared.Op.the-variants.{Idle, Write, Commit, Consolidate, Checkpoint, Event, Prepare, Confirm, Log, Copy, Format}
 use Rattle.operations.specs.Operations.{isIdle, opRows, needs}
-use Rattle.validity.specs.Validity.{opFits, pendingOk, stateOk}
+use Rattle.validity.specs.Validity.{opFits, pendingOk, stateOk, isFresh}
 use Rattle.refinement.specs.Stores.{withMade}
 use Rattle.refinement.proofs.StateValid.{valid, valid-ok}
 
@@ -29,6 +29,7 @@ needing st (Prepare w) i l = refl
 needing st (Confirm w) i l = refl
 needing st (Log p m o n) i l = refl
 needing st Copy i l = refl
+needing st Format i l = refl
 
 -- nothing is pending
 pub idle-ok : (st : State) → isIdle (st .pending .op) ≡ true → pendingOk st ≡ true
@@ -37,14 +38,14 @@ idle-ok st e = rw e
 
 -- an operation is
 pub record Pends (st : State) (op : Op) : Type 0 where
-  pub fits : opFits (st .wide .writer) op ≡ true
+  pub fits : opFits (st .wide .writer) (isFresh st) op ≡ true
   pub made-low : st .pending .made < needs st op
   pub taken : refusal (opRows st op (st .pending .frame)) ≡ 0
 
 pub pends-ok : (st : State) (op : Op) → st .pending .op ≡ op → Pends st op → pendingOk st ≡ true
 unfolding pendingOk
 pends-ok st op e h =
-    let busy : Op → Bool = λ o. opFits (st .wide .writer) o && (ltb (st .pending .made) (needs st o) && eqb (refusal (opRows st o (st .pending .frame))) 0) in
+    let busy : Op → Bool = λ o. opFits (st .wide .writer) (isFresh st) o && (ltb (st .pending .made) (needs st o) && eqb (refusal (opRows st o (st .pending .frame))) 0) in
     let is : busy op ≡ true =
     rw (h .fits, lt-ltb (st .pending .made) (needs st op) (h .made-low)) (eq-eqb (refusal (opRows st op (st .pending .frame))) 0 (h .taken)) in
     or-second (isIdle (st .pending .op)) (busy (st .pending .op)) (ap busy e ∙ is)
@@ -58,9 +59,9 @@ unfolding pendingOk
 pends st op v e i =
     let a = ltb (st .pending .made) (needs st op) in
     let b = eqb (refusal (opRows st op (st .pending .frame))) 0 in
-    let c = opFits (st .wide .writer) op in
+    let c = opFits (st .wide .writer) (isFresh st) op in
     let h : isIdle op || (c && (a && b)) ≡ true =
-    ap (λ (o : Op). isIdle o || (opFits (st .wide .writer) o && (ltb (st .pending .made) (needs st o) && eqb (refusal (opRows st o (st .pending .frame))) 0))) (sym e) ∙ valid st v .pending in
+    ap (λ (o : Op). isIdle o || (opFits (st .wide .writer) (isFresh st) o && (ltb (st .pending .made) (needs st o) && eqb (refusal (opRows st o (st .pending .frame))) 0))) (sym e) ∙ valid st v .pending in
     let f : c && (a && b) ≡ true = ap (λ (x : Bool). x || (c && (a && b))) (sym i) ∙ h in
     let k : a && b ≡ true = and-right c (a && b) f in
     record {
@@ -82,6 +83,7 @@ needs-made st m (Prepare w) = refl
 needs-made st m (Confirm w) = refl
 needs-made st m (Log p l o n) = refl
 needs-made st m Copy = refl
+needs-made st m Format = refl
 
 -- nor do its rows
 pub rows-made : (st : State) (m : ℕ) (op : Op) (f : ℕ) → refusal (opRows (withMade st m) op f) ≡ refusal (opRows st op f)
@@ -95,6 +97,7 @@ rows-made st m (Prepare w) f = refl
 rows-made st m (Confirm w) f = refl
 rows-made st m (Log p l o n) f = refl
 rows-made st m Copy f = refl
+rows-made st m Format f = refl
 
 pub made-valid : (st : State) (m : ℕ) → stateOk st ≡ true → isIdle (st .pending .op) ≡ false → m < needs st (st .pending .op) → stateOk (withMade st m) ≡ true
 made-valid st m e i l =

@@ -11,7 +11,7 @@ use Rattle.bounded.specs.Rows.{refusal}
 use Rattle.bounded.proofs.Tests.{caseOn, contradicts}
 use Rattle.state.specs.State.{State}
 use Rattle.state.specs.declared.Op.{Op}
-use Rattle.state.specs.declared.Op.the-variants.{Idle, Write, Commit, Consolidate, Checkpoint, Event, Prepare, Confirm, Log, Copy}
+use Rattle.state.specs.declared.Op.the-variants.{Idle, Write, Commit, Consolidate, Checkpoint, Event, Prepare, Confirm, Log, Copy, Format}
 use Rattle.state.specs.Wide.{isWide}
 use Rattle.operations.specs.Operations.{isIdle, needs}
 use Rattle.refinement.specs.Event.{eventDone}
@@ -42,6 +42,7 @@ completed-left st (Prepare w) i = refl
 completed-left st (Confirm w) i = refl
 completed-left st (Log p l o n) i = refl
 completed-left st Copy i = refl
+completed-left st Format i = refl
 
 idle-left : (st : State) → isIdle (st .pending .op) ≡ true → left st ≡ 0
 idle-left st e =
@@ -56,7 +57,7 @@ asked-left st op line second frame = omega (arith, needs-lines st line second fr
 -- ---- step and run
 
 module _ (v : World) (g : Goes v) where
-  fewer : (n : ℕ) → n ≤ left (v .st) → left (steppedBy n v .st) + n ≡ left (v .st)
+  pub fewer : (n : ℕ) → n ≤ left (v .st) → left (steppedBy n v .st) + n ≡ left (v .st)
   fewer n l =
       let st = v .st in
       let op = st .pending .op in

@@ -24,7 +24,7 @@ use Rattle.masks.specs.Lines.{withLine}
 use Rattle.masks.proofs.Members.{with-lt, exclusive-or-lt}
 use Rattle.state.specs.State.{State, Writers}
 use Rattle.state.specs.declared.Op.{Op}
-use Rattle.state.specs.declared.Op.the-variants.{Idle, Write, Commit, Consolidate, Checkpoint, Event, Prepare, Confirm, Log, Copy}
+use Rattle.state.specs.declared.Op.the-variants.{Idle, Write, Commit, Consolidate, Checkpoint, Event, Prepare, Confirm, Log, Copy, Format}
 use Rattle.entries.specs.Entries.{keyOf}
 use Rattle.state.specs.Held.{heldAt}
 use Rattle.state.specs.Wide.{entryFor}
@@ -160,6 +160,7 @@ module _ (st : State) (h : Sized st) where
   completed-sized (Confirm w) r = committed-sized st h w
   completed-sized (Log p l o n) r = record { table = h .table; writers = h .writers; keys = length-set (st .wide .keys) (entryFor (st .wide) p l) (keyOf p l) ∙ h .keys }
   completed-sized Copy r = record { table = h .table; writers = closed-sized (st .sizes) (st .writers) (st .wide .writer) (h .writers); keys = refl }
+  completed-sized Format r = record { table = h .table; writers = h .writers; keys = h .keys }
   completed-sized (Event k m a) r = event-sized st k m h (event-taken st k m a (st .pending .frame) r .known)
   completed-sized (Consolidate p) r =
       record {

@@ -7,7 +7,7 @@ use mathlib.Core.Path.{_≡_, refl, ap}
 use Rattle.bounded.proofs.Tests.{contradicts}
 use Rattle.state.specs.State.{State}
 use Rattle.state.specs.declared.Op.{Op}
-use Rattle.state.specs.declared.Op.the-variants.{Idle, Write, Commit, Consolidate, Checkpoint, Event, Prepare, Confirm, Log, Copy}
+use Rattle.state.specs.declared.Op.the-variants.{Idle, Write, Commit, Consolidate, Checkpoint, Event, Prepare, Confirm, Log, Copy, Format}
 use Rattle.state.specs.declared.Pending.{Pending}
 use Rattle.operations.specs.Operations.{isIdle}
 use Rattle.validity.specs.Validity.{stateOk}
@@ -42,6 +42,7 @@ doing-pending st img b (Prepare w) d = refl
 doing-pending st img b (Confirm w) d = refl
 doing-pending st img b (Log p l o n) d = absurd d
 doing-pending st img b Copy d = absurd d
+doing-pending st img b Format d = absurd d
 
 module _ {past : List ℕ} (st : State) (img : List ℕ) (b : Reference) where
   pub quiet-idle : Quiet past st img b → isIdle (st .pending .op) ≡ true

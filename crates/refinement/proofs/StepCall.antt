@@ -11,7 +11,7 @@ use Rattle.bounded.proofs.Rows.{none-apply}
 use Rattle.bounded.proofs.Tests.{caseOn, contradicts}
 use Rattle.state.specs.State.{State}
 use Rattle.state.specs.declared.Op.{Op}
-use Rattle.state.specs.declared.Op.the-variants.{Idle, Write, Commit, Consolidate, Checkpoint, Event, Prepare, Confirm, Log, Copy}
+use Rattle.state.specs.declared.Op.the-variants.{Idle, Write, Commit, Consolidate, Checkpoint, Event, Prepare, Confirm, Log, Copy, Format}
 use Rattle.operations.specs.Operations.{needs}
 use Rattle.refinement.specs.Stores.{World, completed, stepped, steppedBy, left}
 use Rattle.refinement.proofs.Pending.{pends}
@@ -42,6 +42,7 @@ module _ (past : List ℕ) (st : State) (img : List ℕ) (b : Reference) (B : Bu
   step-of (Confirm w) e = step-confirm past st img b B w e
   step-of (Log p l o n) e = absurd (subst (Doing st img b) e (B .doing))
   step-of Copy e = absurd (subst (Doing st img b) e (B .doing))
+  step-of Format e = absurd (subst (Doing st img b) e (B .doing))
 
   pub one-store : Related past (stepped (worldOf st img)) (advances 1 (b .work) b)
   one-store = step-of (st .pending .op) refl
@@ -58,6 +59,7 @@ completed-sizes st (Prepare w) = refl
 completed-sizes st (Confirm w) = refl
 completed-sizes st (Log p l o n) = refl
 completed-sizes st Copy = refl
+completed-sizes st Format = refl
 
 pub stepped-sizes : (v : World) → stepped v .st .sizes ≡ v .st .sizes
 unfolding stepped
@@ -84,6 +86,7 @@ doing-work st img b (Prepare w) d = (nothing, d)
 doing-work st img b (Confirm w) d = (committing w, d)
 doing-work st img b (Log p l o n) d = absurd d
 doing-work st img b Copy d = absurd d
+doing-work st img b Format d = absurd d
 
 no-work : Work → Bool
 no-work idle = true

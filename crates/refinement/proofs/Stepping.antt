@@ -15,7 +15,7 @@ use Rattle.words.proofs.WordLaws.{word-store, word-store-other}
 use Rattle.mount.proofs.Dead.{Dead}
 use Rattle.state.specs.State.{State}
 use Rattle.state.specs.declared.Op.{Op}
-use Rattle.state.specs.declared.Op.the-variants.{Idle, Write, Commit, Consolidate, Checkpoint, Event, Prepare, Confirm, Log, Copy}
+use Rattle.state.specs.declared.Op.the-variants.{Idle, Write, Commit, Consolidate, Checkpoint, Event, Prepare, Confirm, Log, Copy, Format}
 use Rattle.operations.specs.Operations.{needs, isIdle}
 use Rattle.refinement.specs.Write.{writeSlot}
 use Rattle.refinement.specs.Commit.{commitRecordOf, commitAtOf, commitValueOf}
@@ -54,6 +54,7 @@ module _ (st : State) (n : ℕ) where
   at-made img (Confirm w) j = refl
   at-made img (Log p l o n) j = refl
   at-made img Copy j = refl
+  at-made img Format j = refl
 
   pub value-made : (img : List ℕ) (op : Op) (j : ℕ) → storeValue (withMade st n) img op j ≡ storeValue st img op j
   unfolding commitValueOf commitRecordOf consolidateValue freeingRecord checkpointValueOf eventValue
@@ -67,6 +68,7 @@ module _ (st : State) (n : ℕ) where
   value-made img (Confirm w) j = refl
   value-made img (Log p l o n) j = refl
   value-made img Copy j = refl
+  value-made img Format j = refl
 
 -- where a store goes is found in the state, but for a wide commit's
 pub at-steady : (st : State) (img img′ : List ℕ) (op : Op) (j : ℕ) → isCopy op ≡ false → storeAt st img op j ≡ storeAt st img′ op j
@@ -80,6 +82,7 @@ at-steady st img img′ (Prepare w) j c = refl
 at-steady st img img′ (Confirm w) j c = refl
 at-steady st img img′ (Log p l o n) j c = refl
 at-steady st img img′ Copy j c = contradicts refl c
+at-steady st img img′ Format j c = refl
 
 -- ---- a step
 

@@ -13,7 +13,7 @@ use Rattle.bounded.proofs.Tests.{caseOn, contradicts}
 use Rattle.replay.proofs.Tables.{Sixteen}
 use Rattle.state.specs.State.{State}
 use Rattle.state.specs.declared.Op.{Op}
-use Rattle.state.specs.declared.Op.the-variants.{Idle, Write, Commit, Consolidate, Checkpoint, Event, Prepare, Confirm, Log, Copy}
+use Rattle.state.specs.declared.Op.the-variants.{Idle, Write, Commit, Consolidate, Checkpoint, Event, Prepare, Confirm, Log, Copy, Format}
 use Rattle.operations.specs.Operations.{isIdle, needs}
 use Rattle.validity.specs.Validity.{stateOk}
 use Rattle.refinement.specs.Write.{writeSlot}
@@ -89,6 +89,7 @@ completed-made st m (Prepare w) i = refl
 completed-made st m (Confirm w) i = refl
 completed-made st m (Log p l o n) i = refl
 completed-made st m Copy i = refl
+completed-made st m Format i = refl
 
 -- all that are left
 pub run-all : (v : World) → isIdle (v .st .pending .op) ≡ false → 0 < left (v .st) → steppedBy (left (v .st)) v .st ≡ completed (v .st) (v .st .pending .op)
@@ -121,6 +122,7 @@ store-of st m img (Prepare w) i = refl
 store-of st m img (Confirm w) i = refl
 store-of st m img (Log p l o n) i = refl
 store-of st m img Copy i = refl
+store-of st m img Format i = refl
 
 -- so that the image after a run is the one after that many stores
 pub run-image : (n : ℕ) (v : World) → n ≤ left (v .st) → steppedBy n v .image ≡ storesMade (v .st) n (v .image)

@@ -10,7 +10,7 @@ use Rattle.refinement.specs.Statement.{Agrees, AllLent, Demand3}
 use Rattle.refinement.proofs.CaseSound.{call-sound}
 use Rattle.refinement.proofs.Reached.{Reached, past-same, reached-first, reached-next}
 
-agrees-from : {z : Sizes} {past : List ℕ} (calls : List Call) → AllLent calls → (v : World) (b : Reference) → Reached z past v b
+pub agrees-from : {z : Sizes} {past : List ℕ} (calls : List Call) → AllLent calls → (v : World) (b : Reference) → Reached z past v b
     → Agrees (imageLength z) past calls v b
 agrees-from [] lent v b h = tt
 agrees-from (c ∷ cs) lent v b h =

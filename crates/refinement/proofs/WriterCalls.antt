@@ -18,7 +18,7 @@ use Rattle.state.specs.declared.Op.the-variants.{Write, Commit, Log, Copy}
 use Rattle.state.specs.Wide.{isWide, someWide}
 use Rattle.operations.specs.Operations.{writeRows, logRows, commitRows, opRows}
 use Rattle.operations.proofs.Taken.{ArgsGood, write-taken, log-taken, commit-alone}
-use Rattle.validity.specs.Validity.{opFits}
+use Rattle.validity.specs.Validity.{opFits, isFresh}
 use Rattle.refinement.specs.Frames.{pageFrame, seenFrame, holds}
 use Rattle.refinement.specs.Calls.{rowState, rowShort, rowPending, quietRows, seenLine, finishedLine, changesNothing, writeOp, commitOp, writeCallRows}
 
@@ -74,10 +74,10 @@ first-rows (r ∷ rs) qs n e = keep-row (r .0) (r .1) (refusal (rs ++ qs)) (refu
 -- ---- of any writer: what it asks for fits, and no row of it applies where none of the call's does
 
 module _ (st : State) (w : ℕ) where
-  pub write-fits : (p l o n : ℕ) → opFits (st .wide .writer) (writeOp st w p l o n) ≡ true
+  pub write-fits : (p l o n : ℕ) → opFits (st .wide .writer) (isFresh st) (writeOp st w p l o n) ≡ true
   write-fits p l o n = caseOn (isWide (st .wide) w) (λ t. rw t) (λ t. rw t (ap not t))
 
-  pub commit-fits : opFits (st .wide .writer) (commitOp st w) ≡ true
+  pub commit-fits : opFits (st .wide .writer) (isFresh st) (commitOp st w) ≡ true
   commit-fits = caseOn (isWide (st .wide) w) (λ t. rw t) (λ t. rw t (ap not t))
 
   pub commit-op-row : (f : ℕ) → refusal (commitRows st w) ≡ 0 → refusal (opRows st (commitOp st w) f) ≡ 0

@@ -24,3 +24,5 @@ pub mod Before
 pub mod Totals
 pub mod FixedEvent
 pub mod Witness
+pub mod CutFormat
+pub mod RunsAdd

@@ -13,10 +13,11 @@ use Rattle.mount.specs.Mount.{noSizes, mountOf}
 use Rattle.replay.specs.Table.{emptyTable}
 use Rattle.state.specs.State.{State, Writers}
 use Rattle.state.specs.declared.Pending.{Pending}
-use Rattle.state.specs.declared.Op.the-variants.{Copy}
+use Rattle.state.specs.declared.Op.the-variants.{Copy, Format}
 use Rattle.state.specs.Held.{noWriter}
 use Rattle.state.specs.Wide.{wideOf, noWide}
-use Rattle.refinement.specs.Settled.{noPending}
+use Rattle.operations.specs.Operations.{formatNeeds}
+use Rattle.refinement.specs.Settled.{noPending, withPending}
 use Rattle.refinement.specs.Outcome.{Outcome, answered}
 
 abbrev pub allClosed : Writers
@@ -48,5 +49,10 @@ mountCall img = let m = mountOf img in answered (m .row) noState 0 (mountedState
 abbrev pub freshState : Sizes → State
 freshState z = quietState z 0 0 (freshTable z)
 
+-- a format asked for (document 02, L6): rows 3 and 4, then the fresh state with it pending. Asking changes no byte
+unfoldable pub formatOf : Sizes → List ℕ → Outcome
+formatOf z buffer = answered (formatRow z buffer) noState (formatNeeds z) (withPending (freshState z) Format (replicate 8 0) 0)
+
+-- and when all its stores are made
 unfoldable pub formatCall : Sizes → List ℕ → Outcome
 formatCall z buffer = answered (formatRow z buffer) noState 0 (freshState z)

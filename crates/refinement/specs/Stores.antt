@@ -7,9 +7,10 @@ use Rattle.bounded.specs.Below.{upTo}
 use Rattle.words.specs.Words.{store}
 use Rattle.layout.specs.Layout.{headWord}
 use Rattle.journal.specs.Records.{position}
+use Rattle.fresh.specs.Fresh.{formatAt, formatValue}
 use Rattle.state.specs.State.{State}
 use Rattle.state.specs.declared.Op.{Op}
-use Rattle.state.specs.declared.Op.the-variants.{Idle, Write, Commit, Consolidate, Checkpoint, Event, Prepare, Confirm, Log, Copy}
+use Rattle.state.specs.declared.Op.the-variants.{Idle, Write, Commit, Consolidate, Checkpoint, Event, Prepare, Confirm, Log, Copy, Format}
 use Rattle.operations.specs.Operations.{needs}
 use Rattle.refinement.specs.Settled.{settled}
 use Rattle.refinement.specs.Write.{writeAt, writeValue, writeDone}
@@ -31,6 +32,7 @@ storeAt st img (Prepare w) i = commitAt st w i
 storeAt st img (Confirm w) i = headWord
 storeAt st img (Log p l o n) i = logAt st p l i
 storeAt st img Copy i = copyAt st img i
+storeAt st img Format i = formatAt (st .sizes) i
 
 abbrev pub storeValue : State → List ℕ → Op → ℕ → ℕ
 storeValue st img Idle i = 0
@@ -43,6 +45,7 @@ storeValue st img (Prepare w) i = commitValue st w i
 storeValue st img (Confirm w) i = commitHead st w
 storeValue st img (Log p l o n) i = logValue st p l i
 storeValue st img Copy i = copyValue st img i
+storeValue st img Format i = formatValue (st .sizes) i
 
 -- the image after store i
 abbrev pub storeMade : State → List ℕ → Op → ℕ → List ℕ
@@ -52,7 +55,7 @@ storeMade st img op i = store img (storeAt st img op i) (storeValue st img op i)
 abbrev pub storesMade : State → ℕ → List ℕ → List ℕ
 storesMade st n img = upTo n (λ i m. storeMade st m (st .pending .op) (st .pending .made + i)) img
 
--- the state when an operation is complete
+-- the state when an operation is complete. That of a format is fresh all along
 abbrev pub completed : State → Op → State
 completed st Idle = st
 completed st (Write w p l o n) = writeDone st w p l
@@ -64,6 +67,7 @@ completed st (Prepare w) = prepareDone st w
 completed st (Confirm w) = commitDone st w
 completed st (Log p l o n) = logDone st p l
 completed st Copy = copyDone st
+completed st Format = settled st (st .head) (st .tail) (st .next) (st .table) (st .writers)
 
 -- the state with m stores made
 abbrev pub withMade : State → ℕ → State

@@ -13,7 +13,7 @@ use Rattle.entries.specs.Entries.{keyOf, keyPage, keyLine, entryOf}
 use Rattle.replay.specs.declared.Table.{Table}
 use Rattle.state.specs.State.{State, Wide}
 use Rattle.state.specs.declared.Op.{Op}
-use Rattle.state.specs.declared.Op.the-variants.{Idle, Write, Commit, Consolidate, Checkpoint, Event, Prepare, Confirm, Log, Copy}
+use Rattle.state.specs.declared.Op.the-variants.{Idle, Write, Commit, Consolidate, Checkpoint, Event, Prepare, Confirm, Log, Copy, Format}
 use Rattle.state.specs.Wide.{noWide, entryFor, withEntry}
 use Rattle.refinement.specs.Frames.{frameOf}
 use Rattle.refinement.specs.Commit.{closedWriter}
@@ -57,6 +57,7 @@ isCopy (Event k m a) = false
 isCopy (Prepare w) = false
 isCopy (Confirm w) = false
 isCopy (Log p l o n) = false
+isCopy Format = false
 
 -- the frame that the line with key k is copied to: the one of its committed copy. A page-table word that names no frame is none that the calls leave; the
 -- remainder keeps the store inside the image

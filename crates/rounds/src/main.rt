@@ -32,7 +32,7 @@ fn play(image: &mut Image, words: &mut [u64; 256], n: usize, stay: usize) -> u64
         places: 64,
         entries: 0,
     };
-    call_mount::format(image, words, z);
+    call_mount::format_whole(image, words, z);
     let mut stores = 0;
     let mut r = 0;
     while r < n {

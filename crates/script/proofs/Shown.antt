@@ -6,43 +6,49 @@ use mathlib.Core.Path.{_≡_, sym, ap, _∙_}
 use lib.Dec.{eqb}
 use lib.ListN.{getD, replicate}
 use borrow.Author.Tests.{ne-eqb, lt-ltb, le-ltb}
+use Rattle.bounded.proofs.Tests.{row-yes}
 use Rattle.layout.specs.declared.Sizes.{Sizes}
-use Rattle.fresh.specs.Fresh.{formatBytes}
 use Rattle.state.specs.State.{State}
 use Rattle.answers.specs.declared.Answer.{Answer}
-use Rattle.refinement.specs.Outcome.{Outcome}
-use Rattle.answers.specs.Answers.{numberOf, answeredAt}
+use Rattle.answers.specs.Answers.{numberOf}
 use Rattle.refinement.specs.Calls.{readRow, readBytes}
-use Rattle.refinement.specs.Mount.{formatCall}
-use Rattle.refinement.specs.Run.{exec}
+use Rattle.refinement.specs.Mount.{formatOf}
+use Rattle.refinement.specs.Run.{Result, result, exec}
 use Rattle.state_words.specs.Decoded.{decoded}
-use Rattle.call_mount.specs.Replacing.{replacing}
+use Rattle.op_stores.specs.declared.Until.the-variants.{Asked}
+use Rattle.call_mount.specs.Replacing.{replacing, FormatStarted}
 use Rattle.printing.specs.declared.Output.the-variants.{Answered, Shown}
 use Rattle.executing.specs.declared.Mode.{Mode}
 use Rattle.executing.specs.declared.Turned.{Turned}
-use Rattle.executing.specs.Called.{machineAt, turnAt}
+use Rattle.executing.specs.Called.{Turn, turn, machineAt, resultAt, turnAt, finished}
+use Rattle.executing.proofs.Finished.{ask-told}
 use Rattle.script.specs.Turns.{formats, shown}
 
--- a format, of which an answer, words and bytes came
-module _ (m : Mode) (words img : List ℕ) (z : Sizes) (a : Answer) (words′ img′ : List ℕ) (number : ℕ) (r : Turned)
-    (e : answeredAt a (decoded words′) ≡ replacing (decoded words) (formatCall z img)) (b : img′ ≡ formatBytes z img) (h : number ≡ numberOf a) where
-  number-called : number ≡ formatCall z img .number
-  number-called = h ∙ ap (λ (o : Outcome). o .number) e
+-- a format asked for, of which an answer, words and bytes came
+module _ (m : Mode) (words img : List ℕ) (z : Sizes) (a : Answer) (words′ img′ : List ℕ) (number : ℕ)
+    (e : FormatStarted a (decoded words′) img′ z (decoded words) img Asked) (h : number ≡ numberOf a) where
+  told : resultAt a words′ img′ ≡ result (replacing (decoded words) (formatOf z img)) img
+  told = ask-told a words′ img′ (replacing (decoded words) (formatOf z img)) img e
 
-  pub format-refused : (number ≡ 0 → ⊥) → r ≡ record { mode = m; output = Answered 70 number 0 } → turnAt r words′ img′ ≡ formats (machineAt m words) img z
-  unfolding formats
-  format-refused n q =
-      let t : eqb (formatCall z img .number) 0 ≡ false = ne-eqb (formatCall z img .number) 0 (λ x. n (number-called ∙ x)) in
-      let s : decoded words′ ≡ decoded words = ap (λ (o : Outcome). o .state) e ∙ rw t in
-      rw (q, s, b, t, ← number-called)
+  number-called : number ≡ formatOf z img .number
+  number-called = h ∙ ap (λ (d : Result). d .number) told
 
-  pub format-taken : number ≡ 0 → r ≡ record { mode = record { formatted = true; cut = m .cut }; output = Answered 70 number 0 }
+  pub format-refused : (r : Turned) → (number ≡ 0 → ⊥) → r ≡ record { mode = m; output = Answered 70 number 0 }
       → turnAt r words′ img′ ≡ formats (machineAt m words) img z
   unfolding formats
-  format-taken n q =
-      let t : eqb (formatCall z img .number) 0 ≡ true = ap (λ (x : ℕ). eqb x 0) (sym number-called ∙ n) in
-      let s : decoded words′ ≡ formatCall z img .state = ap (λ (o : Outcome). o .state) e ∙ rw t in
+  format-refused r n q =
+      let t : eqb (formatOf z img .number) 0 ≡ false = ne-eqb (formatOf z img .number) 0 (λ x. n (number-called ∙ x)) in
+      let s : decoded words′ ≡ decoded words = ap (λ (d : Result). d .world .st) told ∙ rw t in
+      let b : img′ ≡ img = ap (λ (d : Result). d .world .image) told in
       rw (q, s, b, t, ← number-called)
+
+  -- a taken one makes its stores
+  pub format-taken : (t : Turn) → number ≡ 0 → t ≡ finished 70 (m .cut) (resultAt a words′ img′) → t ≡ formats (machineAt m words) img z
+  unfolding formats
+  format-taken t n q =
+      let y : eqb (formatOf z img .number) 0 ≡ true = ap (λ (x : ℕ). eqb x 0) (sym number-called ∙ n) in
+      q ∙ ap (finished 70 (m .cut)) told ∙ row-yes (eqb (formatOf z img .number) 0)
+      (finished 70 (m .cut) (result (replacing (decoded words) (formatOf z img)) img)) (turn (machineAt m words) (Answered 70 (formatOf z img .number) 0) img) y
 
 -- a read, of which an answer and a target came
 module _ (st : State) (img : List ℕ) (w p l offset : ℕ) (a : Answer) (number : ℕ)

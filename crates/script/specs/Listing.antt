@@ -26,5 +26,5 @@ input =
 
 abbrev pub output : List (List ℕ)
 output =
-    text "1,F,0,0,-\n" ∷ text "2,B,0,0,-\n" ∷ text "3,W,0,8,-\n" ∷ text "4,K,0,0,-\n" ∷ text "5,C,0,4,-\n" ∷ text "6,R,0,0,0\n"
+    text "1,F,0,1561,-\n" ∷ text "2,B,0,0,-\n" ∷ text "3,W,0,8,-\n" ∷ text "4,K,0,0,-\n" ∷ text "5,C,0,4,-\n" ∷ text "6,R,0,0,0\n"
     ∷ text "7,B,0,0,-\n" ∷ text "8,W,0,8,-\n" ∷ text "9,C,0,5,-\n" ∷ text "10,X,0,0,-\n" ∷ text "11,R,0,0,165\n" ∷ []

@@ -7,12 +7,12 @@ use lib.Dec.{eqb, ltb}
 use lib.ListN.{getD, replicate}
 use Rattle.bounded.specs.Rows.{refusal}
 use Rattle.layout.specs.declared.Sizes.{Sizes}
-use Rattle.fresh.specs.Fresh.{formatBytes}
 use Rattle.state.specs.State.{State}
 use Rattle.refinement.specs.Calls.{worldOf}
-use Rattle.refinement.specs.Mount.{formatCall}
-use Rattle.refinement.specs.Run.{read, exec}
+use Rattle.refinement.specs.Mount.{formatOf}
+use Rattle.refinement.specs.Run.{read, result, exec}
 use Rattle.text.specs.declared.Line.{Line}
+use Rattle.call_mount.specs.Replacing.{replacing}
 use Rattle.calling.specs.WriteLine.{num}
 use Rattle.forms.specs.declared.Form.{Form}
 use Rattle.forms.specs.declared.Form.the-variants.{Formats, Asks, Reads, Cuts, Other}
@@ -25,11 +25,11 @@ use Rattle.executing.specs.Called.{callOf, Machine, Turn, turn, ready, finished
 abbrev pub sizesIn : List ℕ → Sizes
 sizesIn numbers = record { pages = num numbers 0; slots = num numbers 1; places = num numbers 2; entries = 0 }
 
--- F: after a refused format the state stays; a K stays after any
+-- F: a format is asked for, and makes its stores as every call does; a refused one leaves the machine as it is
 unfoldable pub formats : Machine → List ℕ → Sizes → Turn
 formats m img z =
-    let d = formatCall z img in
-    turn (cond (eqb (d .number) 0) (ready (d .state) (m .cut)) m) (Answered (code "F") (d .number) 0) (formatBytes z img)
+    let o = replacing (m .st) (formatOf z img) in
+    cond (eqb (o .number) 0) (finished (code "F") (m .cut) (result o img)) (turn m (Answered (code "F") (o .number) 0) img)
 
 -- R: the byte at an offset of the line read; an offset above 63 is 11
 unfoldable pub shown : State → List ℕ → ℕ → ℕ → ℕ → ℕ → Output

@@ -10,6 +10,7 @@ use executing::calls;
 use executing::finishing;
 use forms::Form;
 use layout::Sizes;
+use op_stores::Until;
 use printing::Output;
 use text::Line;
 
@@ -25,11 +26,11 @@ fn sizes_in(numbers: &[u64; 69]) -> Sizes
     }
 }
 
-// F: a format; after a refused one the machine stays as it was.
+// F: a format asked for, and its stores; after a refused one the machine stays as it was.
 fn format_turn(image: &mut [u8], words: &mut [u64; 256], m: Mode, z: Sizes) -> Turned
     ensures { λ r. ⌜ turnAt r (now (words .exit)) (now (image .exit)) ≡ formats (machineAt m (now (words .entry))) (now (image .entry)) z ⌝ }
 {
-    let answer = call_mount::format(image, words, z);
+    let answer = call_mount::format(image, words, z, Until::Asked);
     let number = answers::number_of(answer);
     if number != 0 {
         let output = Output::Answered {
@@ -40,7 +41,7 @@ fn format_turn(image: &mut [u8], words: &mut [u64; 256], m: Mode, z: Sizes) -> T
         return Turned { mode: m, output };
     }
     let cut = m.cut;
-    finishing::answered(cut, b'F', number, 0)
+    finishing::finish(image, words, cut, b'F', answer)
 }
 
 // R: the byte at an offset of a line.

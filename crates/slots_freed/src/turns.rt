@@ -15,7 +15,7 @@ pub fn play(image: &mut [u8]) {
         entries: 0,
     };
     let mut words = [0u64; 256];
-    call_mount::format(image, &mut words, z);
+    call_mount::format_whole(image, &mut words, z);
     let mut sum = 0;
     let mut call = 0;
     for _turn in 0..TURNS {

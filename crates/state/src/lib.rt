@@ -2,7 +2,8 @@
 pub mod held;
 pub mod slots;
 
-// An operation that has been asked for, with its arguments. `Log` and `Copy` are the wide writer's write and commit.
+// An operation that has been asked for, with its arguments. `Log` and `Copy` are the wide writer's write and commit;
+// `Format` is of the sizes that the state has.
 pub enum Op {
     Idle,
     Write {
@@ -37,6 +38,7 @@ pub enum Op {
         length: usize,
     },
     Copy,
+    Format,
 }
 
 // What stands for no writer where one is prepared or wide; so does any other number above 3.

@@ -6,7 +6,7 @@ ghost use Rattle.bounded.specs.Below.{allBelow};
 ghost use Rattle.layout.specs.Layout.{Legal};
 ghost use Rattle.entries.specs.Entries.{entryOf, keyRight, entriesOk};
 ghost use Rattle.state.specs.Held.{holderOk, heldOk, othersHold, someHold, heldSlots};
-ghost use Rattle.state.specs.Wide.{wideOf, aloneOpen, noneHeld, wideOk};
+ghost use Rattle.state.specs.Wide.{wideOf, someOpen, aloneOpen, noneHeld, wideOk};
 ghost use Rattle.state_words.specs.Decoded.{decoded};
 use layout::Sizes;
 use state::Places;
@@ -14,6 +14,17 @@ use state_words::held_at;
 use state_words::key_at;
 use state_words::open_at;
 use state_words::page_at;
+
+// Whether a writer is open.
+pub fn some_open(words: &[u64; 256]) -> bool
+    ensures { λ r. ⌜ r ≡ someOpen (decoded (now (words .entry)) .writers .opened) ⌝ }
+{
+    let a = open_at(words, 0);
+    let b = open_at(words, 1);
+    let c = open_at(words, 2);
+    let d = open_at(words, 3);
+    a | b | c | d
+}
 
 // Whether a writer holds a line of slot s: one test of all four, with no branch between them.
 pub fn some_hold(words: &[u64; 256], s: usize) -> bool

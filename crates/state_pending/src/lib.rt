@@ -70,6 +70,7 @@ fn op_words(op: Op, made: usize, frame: usize) -> [u64; 8]
             length,
         } => written(8, page, line, offset, length, 0, m, f),
         Op::Copy => [9, 0, 0, 0, 0, 0, m, f],
+        Op::Format => [10, 0, 0, 0, 0, 0, m, f],
     }
 }
 

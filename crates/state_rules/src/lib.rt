@@ -1,11 +1,12 @@
 // Row 8 of a state in words: whether it keeps the rules. Nothing of it reads the image.
+mod fresh_state;
 mod slots;
 
 ghost use mathlib.Core.Path.{_≡_};
 ghost use Prim.Native.Nat.{_*_, _<_, _≤_};
 ghost use Rattle.layout.specs.Layout.{Legal};
 ghost use Rattle.journal.specs.Records.{liveCount};
-ghost use Rattle.validity.specs.Validity.{slotsOk, isLiveOf, lastOkOf, lastsOk, preparedOk, opFits, pendingOk, stateOk};
+ghost use Rattle.validity.specs.Validity.{slotsOk, isLiveOf, lastOkOf, lastsOk, preparedOk, isFresh, opFits, pendingOk, stateOk};
 ghost use Rattle.state_words.specs.Decoded.{decoded, placesOf};
 ghost use Rattle.op_rows.specs.Seen.{Low, seen};
 ghost use Rattle.state_rules.specs.Quiet.{quietIn, opOk};
@@ -119,9 +120,10 @@ fn quiet_ok(z: Sizes, at: Places, words: &[u64; 256]) -> bool
     held::wide_ok(z, at, words)
 }
 
-// Whether a write or a commit that is pending is not one by the wide writer, whose are `Log` and `Copy`.
-fn op_fits(wide: usize, op: Op) -> bool
-    ensures { λ r. ⌜ r ≡ opFits wide op ⌝ }
+// Whether a write or a commit that is pending is not one by the wide writer, whose are `Log` and `Copy`, and a format is beside the fresh state.
+fn op_fits(z: Sizes, at: Places, words: &[u64; 256], op: Op) -> bool
+    requires { ⌜ Legal z ⌝ }
+    ensures { λ r. ⌜ r ≡ opFits (at .wide) (isFresh (seen z at (decoded (now (words .entry))))) op ⌝ }
 {
     match op {
         Op::Write {
@@ -130,9 +132,9 @@ fn op_fits(wide: usize, op: Op) -> bool
             line: _,
             offset: _,
             length: _,
-        } => wide != writer,
+        } => at.wide != writer,
         Op::Idle => true,
-        Op::Commit { writer } => wide != writer,
+        Op::Commit { writer } => at.wide != writer,
         Op::Consolidate { page: _ } => true,
         Op::Checkpoint => true,
         Op::Event {
@@ -149,6 +151,7 @@ fn op_fits(wide: usize, op: Op) -> bool
             length: _,
         } => true,
         Op::Copy => true,
+        Op::Format => fresh_state::is_fresh(z, at, words),
     }
 }
 
@@ -157,7 +160,7 @@ fn op_ok(z: Sizes, at: Places, words: &[u64; 256], op: Op, made: usize, frame: u
     requires { ⌜ Low z at × (at .count ≤ 64) ⌝ }
     ensures { λ r. ⌜ r ≡ opOk (seen z at (decoded (now (words .entry)))) op made frame ⌝ }
 {
-    if !op_fits(at.wide, op) {
+    if !op_fits(z, at, words, op) {
         return false;
     }
     if op_rows::op_row(z, at, words, op, frame) != 0 {

@@ -26,15 +26,15 @@ copied c a n l e =
     let low : i < n = omega (arith, same, h) in
     getD-filled n (λ j. getD c (a + j) 0) (replicate n 0) i 0 low (omega (arith, length-replicate {A = ℕ} n 0)) ∙ sym (getD-take n (drop a c) i low ∙ getD-drop a c i 0))
 
--- an operation of another number than 1 to 9 is none
+-- an operation of another number than 1 to 10 is none
 module _ (k a b c d e : ℕ) where
   past4 : (k ≡ 0 → ⊥) → (k ≡ 1 → ⊥) → (k ≡ 2 → ⊥) → (k ≡ 3 → ⊥) → (k ≡ 4 → ⊥) → 4 < k
   past4 a b c d e = omega arith
 
-  past9 : 4 < k → (k ≡ 5 → ⊥) → (k ≡ 6 → ⊥) → (k ≡ 7 → ⊥) → (k ≡ 8 → ⊥) → (k ≡ 9 → ⊥) → 9 < k
-  past9 l a b c d e = omega arith
+  past10 : 4 < k → (k ≡ 5 → ⊥) → (k ≡ 6 → ⊥) → (k ≡ 7 → ⊥) → (k ≡ 8 → ⊥) → (k ≡ 9 → ⊥) → (k ≡ 10 → ⊥) → 10 < k
+  past10 l a b c d e f = omega arith
 
-  pub op-idle : isIdle (opBy k a b c d e) ≡ eqb k 0 || ltb 9 k
+  pub op-idle : isIdle (opBy k a b c d e) ≡ eqb k 0 || ltb 10 k
   op-idle =
       caseOn (eqb k 1) (λ t. rw (eqb-true k 1 t))
       (λ f1. caseOn (eqb k 2) (λ t. rw (eqb-true k 2 t))
@@ -45,13 +45,14 @@ module _ (k a b c d e : ℕ) where
       (λ f6. caseOn (eqb k 7) (λ t. rw (eqb-true k 7 t))
       (λ f7. caseOn (eqb k 8) (λ t. rw (eqb-true k 8 t))
       (λ f8. caseOn (eqb k 9) (λ t. rw (eqb-true k 9 t))
-      (λ f9. caseOn (eqb k 0) (λ t. rw (eqb-true k 0 t))
+      (λ f9. caseOn (eqb k 10) (λ t. rw (eqb-true k 10 t))
+      (λ f10. caseOn (eqb k 0) (λ t. rw (eqb-true k 0 t))
       (λ f0.
       let low : 4 < k = past4 (eqb-false k 0 f0) (eqb-false k 1 f1) (eqb-false k 2 f2) (eqb-false k 3 f3) (eqb-false k 4 f4) in
-      let h : 9 < k = past9 low (eqb-false k 5 f5) (eqb-false k 6 f6) (eqb-false k 7 f7) (eqb-false k 8 f8) (eqb-false k 9 f9) in
-      rw (f1, f2, f3, f4, f5, f6, f7, f8, f9, f0, lt-ltb 9 k h)))))))))))
+      let h : 10 < k = past10 low (eqb-false k 5 f5) (eqb-false k 6 f6) (eqb-false k 7 f7) (eqb-false k 8 f8) (eqb-false k 9 f9) (eqb-false k 10 f10) in
+      rw (f1, f2, f3, f4, f5, f6, f7, f8, f9, f10, f0, lt-ltb 10 k h))))))))))))
 
-pub idle-read : (c : List ℕ) → eqb (getD c 14 0) 0 || ltb 9 (getD c 14 0) ≡ isIdle (decoded c .pending .op)
+pub idle-read : (c : List ℕ) → eqb (getD c 14 0) 0 || ltb 10 (getD c 14 0) ≡ isIdle (decoded c .pending .op)
 unfolding decoded start size
 idle-read c =
     let n = part c 8 in
@@ -67,7 +68,7 @@ module _ (c : List ℕ) where
       (caseOn (eqb (getD c 14 0) 0) (λ t. rw (t, eqb-true (getD c 14 0) 0 t)) (λ t. rw t))
 
   busy : isIdle (decoded c .pending .op) ≡ false → eqb (getD c 14 0) 0 ≡ false
-  busy e = or-left (eqb (getD c 14 0) 0) (ltb 9 (getD c 14 0)) (idle-read c ∙ e)
+  busy e = or-left (eqb (getD c 14 0) 0) (ltb 10 (getD c 14 0)) (idle-read c ∙ e)
 
   pub made-read : isIdle (decoded c .pending .op) ≡ false → getD c 20 0 ≡ decoded c .pending .made
   unfolding decoded start size

@@ -9,7 +9,7 @@ use Rattle.state.specs.State.{State, Writers, Wide}
 use Rattle.state.specs.declared.Places.{Places}
 use Rattle.state.specs.declared.Pending.{Pending}
 use Rattle.state.specs.declared.Op.{Op}
-use Rattle.state.specs.declared.Op.the-variants.{Idle, Write, Commit, Consolidate, Checkpoint, Event, Prepare, Confirm, Log, Copy}
+use Rattle.state.specs.declared.Op.the-variants.{Idle, Write, Commit, Consolidate, Checkpoint, Event, Prepare, Confirm, Log, Copy, Format}
 
 -- the parts: 0 sizes, 1 head, 2 tail, 3 next, 4 prepared, 5 wide, 6 count, 7 opened, 8 pending, 9 line, 10 second line,
 -- 11 pages, 12 originals, 13 spares, 14 bitmaps, 15 last positions, 16 held lines, 17 keys
@@ -31,7 +31,7 @@ flags (n ∷ l) = not (eqb n 0) ∷ flags l
 abbrev pub opBy : ℕ → ℕ → ℕ → ℕ → ℕ → ℕ → Op
 opBy k a b c d e =
     cond (eqb k 1) (Write a b c d e) (cond (eqb k 2) (Commit a) (cond (eqb k 3) (Consolidate a) (cond (eqb k 4) Checkpoint (cond (eqb k 5) (Event a b c)
-    (cond (eqb k 6) (Prepare a) (cond (eqb k 7) (Confirm a) (cond (eqb k 8) (Log a b c d) (cond (eqb k 9) Copy Idle))))))))
+    (cond (eqb k 6) (Prepare a) (cond (eqb k 7) (Confirm a) (cond (eqb k 8) (Log a b c d) (cond (eqb k 9) Copy (cond (eqb k 10) Format Idle)))))))))
 
 -- what is pending: nothing where the number is 0, whatever the other words are
 abbrev pub nothing : Pending

@@ -16,7 +16,7 @@ pub fn idle_in(words: &[u64; 256]) -> bool
     ensures { λ r. ⌜ r ≡ isIdle (decoded (now (words .entry)) .pending .op) ⌝ }
 {
     let k = words[PENDING];
-    (k == 0) | (9 < k)
+    (k == 0) | (10 < k)
 }
 
 // The operation by its number.
@@ -48,6 +48,7 @@ fn op_by(k: usize, a: usize, b: usize, c: usize, d: usize, e: usize) -> Op
             length: d,
         },
         9 => Op::Copy,
+        10 => Op::Format,
         _ => Op::Idle,
     }
 }

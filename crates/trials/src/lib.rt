@@ -59,7 +59,7 @@ pub fn nothing_tried() -> Trial
 pub fn start(image: &mut [u8], words: &mut [u64; 256], z: Sizes) -> Trial
     ensures { λ r. ⌜ trialOf r (now (words .exit)) (now (image .exit)) ≡ formatted z (worldOf (decoded (now (words .entry))) (now (image .entry))) ⌝ }
 {
-    let answer = call_mount::format(image, words, z);
+    let answer = call_mount::format_whole(image, words, z);
     let mut t = nothing_tried();
     t.number = answers::number_of(answer);
     t

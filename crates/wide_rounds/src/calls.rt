@@ -203,7 +203,7 @@ pub fn fresh(image: &mut [u8], words: &mut [u64; 256]) {
         places: 3,
         entries: 5,
     };
-    let _ = call_mount::format(image, words, z);
+    let _ = call_mount::format_whole(image, words, z);
 }
 
 // Writes a byte to the start of the row's line.

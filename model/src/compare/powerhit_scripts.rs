@@ -1,4 +1,4 @@
-//! Scripts for powerhit: game rounds with cuts and mounts, and in some of them lines of another form.
+//! Scripts for powerhit: game rounds with cuts and mounts, formats that are cut, and in some of them lines of another form.
 
 use super::aim::{self, Aim};
 use super::malform::malform;
@@ -18,6 +18,7 @@ enum Action {
     Call,
     Fill,
     Format,
+    CutFormat,
 }
 
 pub fn script(rng: Rng, limit: usize) -> Vec<u8> {
@@ -32,12 +33,24 @@ pub fn script(rng: Rng, limit: usize) -> Vec<u8> {
             broken_line(&mut scribe);
             continue;
         }
-        let choices = [(30, Action::Round), (66, Action::Call), (3, Action::Fill), (1, Action::Format)];
+        // a format that was cut left nothing, or none was taken: not too many of the lines that follow are `?`
+        if scribe.session.state().is_none() && scribe.rng.percent(40) {
+            format(&mut scribe, 20);
+            continue;
+        }
+        let choices = [
+            (30, Action::Round),
+            (66, Action::Call),
+            (3, Action::Fill),
+            (1, Action::Format),
+            (3, Action::CutFormat),
+        ];
         match scribe.rng.weighted(&choices) {
             Action::Round => round(&mut scribe),
             Action::Call => call(&mut scribe),
             Action::Fill => fill(&mut scribe),
             Action::Format => format(&mut scribe, 40),
+            Action::CutFormat => cut_format(&mut scribe),
         }
     }
     scribe.finish()
@@ -54,6 +67,25 @@ fn format(scribe: &mut Scribe, percent_bad: u64) {
     let bad = scribe.rng.percent(percent_bad);
     let sizes = if bad { aim::bad_sizes(&mut scribe.rng, HUGE) } else { aim::sizes(&mut scribe.rng) };
     scribe.say(format!("F,{},{},{}", sizes.p, sizes.s, sizes.j));
+}
+
+/// A K, now and then an F that is turned back and leaves it, an F, and a look at what is left.
+fn cut_format(scribe: &mut Scribe) {
+    let sizes = aim::sizes(&mut scribe.rng);
+    let words = sizes.image_length() as u64 / 8;
+    let k = match scribe.rng.below(4) {
+        0 => scribe.rng.pick(&[0, 0, 1, 2, 3, 4, 5, 8]),
+        1 => scribe.rng.pick(&[words - 1, words, words, words + 1, words + 1, words + 2, HUGE]),
+        _ => scribe.rng.below(words + 2),
+    };
+    scribe.say(format!("K,{k}"));
+    if scribe.rng.percent(15) {
+        format(scribe, 100);
+    }
+    scribe.say(format!("F,{},{},{}", sizes.p, sizes.s, sizes.j));
+    for _ in 0..scribe.rng.below(4) {
+        call(scribe);
+    }
 }
 
 fn broken_line(scribe: &mut Scribe) {

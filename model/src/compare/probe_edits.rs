@@ -106,7 +106,8 @@ pub fn set_pending(scribe: &mut Scribe) {
         | Operation::Prepare { .. }
         | Operation::Confirm { .. }
         | Operation::Log(_)
-        | Operation::Copy => unreachable!("probe has none of these"),
+        | Operation::Copy
+        | Operation::Format => unreachable!("probe has none of these"),
     };
     state.pending = Some(Pending { operation: operation.clone(), made: 0 });
     let needed = if breach(&state).is_none() { plan(&state, &operation).len() as u64 } else { 8 };

@@ -1,11 +1,9 @@
 //! Program powerhit: calls as lines, each operation run to its end or to a cut.
 
-use std::fmt::Write as _;
-
 use super::{lines, BUFFER, OTHER_FORM};
 use crate::calls::{self, Patch};
 use crate::layout::Sizes;
-use crate::mount::{format, mount};
+use crate::mount::{ask_format, mount};
 use crate::refusal::{Answer, Refusal};
 use crate::state::State;
 
@@ -50,15 +48,29 @@ fn parse(line: &[u8]) -> Option<(char, Command)> {
 /// The program between two lines.
 pub struct Session {
     buffer: Vec<u8>,
-    /// None before a taken F.
+    /// None before a taken F, and after one whose cut left nothing that mounts.
     state: Option<State>,
     /// A K not yet used.
     cut: Option<u64>,
     line: u64,
 }
 
-/// What a taken line prints: stores made and, for a read, the byte.
-type Printed = (u64, Option<u8>);
+/// What a line of a right form prints behind its letter: 0 or the row that turned it back, stores made and, for a read, the byte.
+struct Printed {
+    answer: u8,
+    stores: u64,
+    byte: Option<u8>,
+}
+
+impl Printed {
+    fn taken(stores: u64, byte: Option<u8>) -> Printed {
+        Printed { answer: 0, stores, byte }
+    }
+
+    fn turned_back(refusal: Refusal, stores: u64) -> Printed {
+        Printed { answer: refusal.number(), stores, byte: None }
+    }
+}
 
 impl Default for Session {
     fn default() -> Session {
@@ -75,19 +87,16 @@ impl Session {
     pub fn turn(&mut self, line: &[u8]) -> String {
         self.line += 1;
         let turned = parse(line).and_then(|(letter, command)| Some((letter, self.perform(command)?)));
-        let mut printed = format!("{},", self.line);
-        match turned {
-            None => writeln!(printed, "{OTHER_FORM},{OTHER_FORM},0,-"),
-            Some((letter, Ok((stores, Some(byte))))) => writeln!(printed, "{letter},0,{stores},{byte}"),
-            Some((letter, Ok((stores, None)))) => writeln!(printed, "{letter},0,{stores},-"),
-            Some((letter, Err(refusal))) => writeln!(printed, "{letter},{},0,-", refusal.number()),
-        }
-        .expect("a String takes all that is written");
-        printed
+        let number = self.line;
+        let Some((letter, Printed { answer, stores, byte })) = turned else {
+            return format!("{number},{OTHER_FORM},{OTHER_FORM},0,-\n");
+        };
+        let byte = byte.map_or("-".to_string(), |byte| byte.to_string());
+        format!("{number},{letter},{answer},{stores},{byte}\n")
     }
 
-    /// None where no F was taken yet and this is not one.
-    fn perform(&mut self, command: Command) -> Option<Answer<Printed>> {
+    /// None where there is no state and this is not an F.
+    fn perform(&mut self, command: Command) -> Option<Printed> {
         if let Command::Format(sizes) = command {
             return Some(self.format(sizes));
         }
@@ -97,41 +106,60 @@ impl Session {
                 self.cut = Some(k);
                 Ok(0)
             }
-            Command::Mount => mount(&self.buffer).map(|mounted| {
-                *state = mounted;
-                0
-            }),
+            Command::Mount => return Some(self.mount(0)),
             Command::Read { place, offset } => return Some(self.read(place, offset)),
             operation => ask(state, &self.buffer, operation),
         };
-        Some(asked.and_then(|needed| self.run(needed)).map(|stores| (stores, None)))
+        Some(asked.map_or_else(|refusal| Printed::turned_back(refusal, 0), |needed| self.run(needed)))
     }
 
-    fn format(&mut self, sizes: Sizes) -> Answer<Printed> {
-        self.state = Some(format(sizes, &mut self.buffer)?);
-        Ok((0, None))
+    /// An F that is turned back leaves everything as it is, a K not yet used too.
+    fn format(&mut self, sizes: Sizes) -> Printed {
+        match ask_format(sizes, &self.buffer) {
+            Err(refusal) => Printed::turned_back(refusal, 0),
+            Ok((state, needed)) => {
+                self.state = Some(state);
+                self.run(needed)
+            }
+        }
     }
 
-    fn read(&mut self, place: (u64, u64, u64), offset: u64) -> Answer<Printed> {
+    fn read(&self, place: (u64, u64, u64), offset: u64) -> Printed {
         let state = self.state.as_ref().expect("an F was taken");
         let mut target = [0; 64];
-        calls::read(state, &self.buffer, place, &mut target)?;
-        let byte = usize::try_from(offset).ok().and_then(|offset| target.get(offset));
-        byte.map(|&byte| (0, Some(byte))).ok_or(Refusal::BadArgument)
+        if let Err(refusal) = calls::read(state, &self.buffer, place, &mut target) {
+            return Printed::turned_back(refusal, 0);
+        }
+        match usize::try_from(offset).ok().and_then(|offset| target.get(offset)) {
+            Some(&byte) => Printed::taken(0, Some(byte)),
+            None => Printed::turned_back(Refusal::BadArgument, 0),
+        }
     }
 
     /// Runs a taken operation to its end or, under a K, to the cut and the mount that follows.
-    fn run(&mut self, needed: u64) -> Answer<u64> {
+    fn run(&mut self, needed: u64) -> Printed {
         if needed == 0 {
-            return Ok(0);
+            return Printed::taken(0, None);
         }
         let state = self.state.as_mut().expect("an F was taken");
         let cut = self.cut.take();
-        let made = calls::run(state, &mut self.buffer, cut.unwrap_or(needed))?;
-        if cut.is_some() {
-            *state = mount(&self.buffer)?;
+        let made = calls::run(state, &mut self.buffer, cut.unwrap_or(needed));
+        let made = made.expect("an operation was taken just now");
+        match cut {
+            Some(_) => self.mount(made),
+            None => Printed::taken(made, None),
         }
-        Ok(made)
+    }
+
+    /// The mount of a line that made so many stores. Where it is turned back, no state is left.
+    fn mount(&mut self, stores: u64) -> Printed {
+        let mounted = mount(&self.buffer);
+        let printed = match &mounted {
+            Ok(_) => Printed::taken(stores, None),
+            Err(refusal) => Printed::turned_back(*refusal, stores),
+        };
+        self.state = mounted.ok();
+        printed
     }
 }
 

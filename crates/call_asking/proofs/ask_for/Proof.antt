@@ -5,6 +5,7 @@ use lib.ListN.{length}
 use Rattle.bounded.specs.Rows.{Row}
 use Rattle.state.specs.State.{State}
 use Rattle.operations.specs.Operations.{opRows}
+use Rattle.validity.specs.Validity.{isFresh}
 use Rattle.refinement.specs.Calls.{quietRows}
 use Rattle.answers.specs.Answers.{numberOf}
 use Rattle.answers.proofs.AskKnown.{ask-known}
@@ -32,7 +33,7 @@ ask-requires c κs =
     let e = c .before .before in
     let p = e .before .before .before in
     let s = p .before .before .before .before .before in
-    may-ask-for (st s) (s .args .image .now) (own s) _ (e .before .ask-row .ensures) (e .if1 .left) (s .args .op) _ _ (p .before .before .sizes-in .ensures) (p .places-in .ensures) (s .pre .0) (s .pre .1 (st s .wide .writer)) (λ h. h)
+    may-ask-for (st s) (s .args .image .now) (own s) _ (e .before .ask-row .ensures) (e .if1 .left) (s .args .op) _ _ (p .before .before .sizes-in .ensures) (p .places-in .ensures) (s .pre .0) (s .pre .1 (st s .wide .writer) (isFresh (st s))) (λ h. h)
 
 returns-2 : tie.Need-returns-2
 returns-2 c =

@@ -8,7 +8,7 @@ use Rattle.call_checkpoint.proofs.checkpoint.Statement.{statement}
 use Rattle.call_checkpoint.proofs.checkpoint.Tie as tie
 
 ask-for-requires : tie.Need-ask-for-requires
-ask-for-requires c κs = (refl, λ wide. refl)
+ask-for-requires c κs = (refl, λ wide fresh. refl)
 
 returns : tie.Need-returns
 unfolding checkpointOf

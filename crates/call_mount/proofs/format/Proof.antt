@@ -1,38 +1,56 @@
 use borrow.Author.Needs.{needs}
 use mathlib.Core.Path.{_≡_, refl, sym, ap, _∙_}
 use Rattle.replay.specs.declared.Table.{Table}
-use Rattle.fresh.specs.Fresh.{formatRow}
-use Rattle.refinement.specs.Mount.{quietState, formatCall, freshState}
-use Rattle.call_mount.proofs.Found.{format-known, format-legal}
+use Rattle.refinement.specs.Mount.{quietState, freshState}
+use Rattle.answers.specs.Answers.{numberOf}
 use Rattle.state_words.specs.Decoded.{decoded}
-use Rattle.call_mount.proofs.Replaced.{replace-refused, replace-taken}
+use Rattle.call_mount.proofs.Found.{format-legal}
+use Rattle.call_mount.proofs.Formatting.{format-refused, long-enough, format-allowed, format-started}
 use Rattle.call_mount.proofs.format.Statement.{statement}
 use Rattle.call_mount.proofs.format.Tie as tie
 
 returns : tie.Need-returns
-unfolding formatCall
 returns c =
-    let f = c .before .before .before .before in
+    let t = c .before in
+    let f = t .before in
     let s = f .before .before .before in
-    let e = f .format .ensures .0 in
-    (replace-refused (decoded (s .args .words .now)) (freshState (s .args .z)) (formatRow (s .args .z) (s .args .image .now)) _ (rw e at (c .answer-of .ensures)) (rw (← e) (format-known (s .args .z) (s .args .image .now) _ e)) (λ q. c .before .if1 .taken (e ∙ q)), (f .format .ensures .1, λ n. refl))
+    let e = f .format-row .ensures in
+    (format-refused (s .args .z) (s .args .image .now) _ e (t .if1 .taken) _ (c .answer-of .ensures) (decoded (s .args .words .now)) (s .args .until), λ n. refl)
 
 fresh-table-requires : tie.Need-fresh-table-requires
 fresh-table-requires c κs =
-    let f = c .before .before .before .before in
+    let t = c .before in
+    let f = t .before in
     let s = f .before .before .before in
-    format-legal (s .args .z) (s .args .image .now) _ (f .format .ensures .0) (c .before .if1 .left)
+    format-legal (s .args .z) (s .args .image .now) _ (f .format-row .ensures) (t .if1 .left)
+
+ask-requires : tie.Need-ask-requires
+ask-requires c κs =
+    let p = c .before .before in
+    let q = p .before .before in
+    let b = q .before in
+    let t = b .before .before in
+    let f = t .before in
+    let s = f .before .before .before in
+    let e = f .format-row .ensures in
+    let none = t .if1 .left in
+    (format-allowed (s .args .z) (s .args .image .now) _ e none _ (q .put-quiet .ensures ∙ ap (λ (u : Table). quietState (s .args .z) 0 0 u) (b .fresh-table .ensures)) _ (p .places-in .ensures), long-enough (s .args .z) (s .args .image .now) _ e none)
 
 returns-2 : tie.Need-returns-2
-unfolding formatCall
 returns-2 c =
-    let t = c .before in
-    let f = t .before .before .before .before .before in
+    let k = c .before .before in
+    let p = k .before .before .before in
+    let q = p .before .before in
+    let b = q .before in
+    let t = b .before .before in
+    let f = t .before in
     let s = f .before .before .before in
-    let e = f .format .ensures .0 in (
-      replace-taken (decoded (s .args .words .now)) (freshState (s .args .z)) (formatRow (s .args .z) (s .args .image .now)) _ (sym e ∙ t .before .before .if1 .left)
-          (c .put-quiet .ensures ∙ ap (λ (u : Table). quietState (s .args .z) 0 0 u) (t .fresh-table .ensures)),
-      (f .format .ensures .1, λ n. absurd (n refl)),
+    let e = f .format-row .ensures in
+    let none = t .if1 .left in
+    let h = k .ask .ensures in (
+      format-started (s .args .z) (s .args .image .now) _ e none (decoded (s .args .words .now)) _ _ _ (k .ask .result) (s .args .until)
+          (q .put-quiet .ensures ∙ ap (λ (u : Table). quietState (s .args .z) 0 0 u) (b .fresh-table .ensures)) (h .1),
+      λ n. absurd (n (ap numberOf (h .0))),
     )
 
 pub format-spec : {M : Type 1} → statement M
@@ -45,5 +63,7 @@ format-spec =
     returns
     fresh-table-requires
     (λ c κs. search needs)
+    (λ c κs. search needs)
+    ask-requires
     (λ c. search needs)
     returns-2)

@@ -5,7 +5,7 @@ use Rattle.call_prepare.proofs.prepare.Statement.{statement}
 use Rattle.call_prepare.proofs.prepare.Tie as tie
 
 ask-for-requires : tie.Need-ask-for-requires
-ask-for-requires c κs = (refl, λ wide. refl)
+ask-for-requires c κs = (refl, λ wide fresh. refl)
 
 returns : tie.Need-returns
 unfolding prepareOf

@@ -10,7 +10,7 @@ returns : tie.Need-returns
 returns c =
     let f = c .before .before .before in
     let form = eq-eqb _ 3 (f .before .before .before .before .before .before .if1 .taken) in
-    (has-formatted _ _ _ _ (f .format .result) form (c .answered .ensures) _ _ (f .format .ensures .0), f .format .ensures .1 .0 ∙ row-yes _ _ _ form)
+    (has-formatted _ _ _ _ (f .format-whole .result) form (c .answered .ensures) _ _ (f .format-whole .ensures .0), f .format-whole .ensures .1 .0 ∙ row-yes _ _ _ form)
 
 returns-2 : tie.Need-returns-2
 returns-2 c = rw (ne-eqb _ 3 (c .if1 .left)) (refl, refl)

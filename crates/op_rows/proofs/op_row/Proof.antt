@@ -49,6 +49,9 @@ returns-9 c =
 returns-10 : tie.Need-returns-10
 returns-10 c = c .copy-row .ensures ∙ sym (ap (row (c .before .before .before)) (c .before .enum-told3 .given .1))
 
+returns-11 : tie.Need-returns-11
+returns-11 c = sym (ap (row (c .before .before)) (c .enum-told4 .given .1))
+
 pub op-row-spec : {M : Type 1} → statement M
 op-row-spec =
     tie.close
@@ -75,6 +78,7 @@ op-row-spec =
     (λ c κs. search needs)
     (λ c. search needs)
     (λ c κs. search needs)
+    (λ c. search needs)
     returns
     returns-2
     returns-3
@@ -84,4 +88,5 @@ op-row-spec =
     returns-7
     returns-8
     returns-9
-    returns-10)
+    returns-10
+    returns-11)

@@ -24,10 +24,18 @@ returns-10 c = rw (c .before .enum-told10 .given .1, eq-eqb _ 0 (c .if1 .taken))
 returns-11 : tie.Need-returns-11
 returns-11 c = rw (c .before .enum-told10 .given .1, ne-eqb _ 0 (c .if1 .left))
 
+returns-12 : tie.Need-returns-12
+returns-12 c = rw (c .before .enum-told11 .given .1, eq-eqb _ 0 (c .if2 .taken))
+
+returns-13 : tie.Need-returns-13
+returns-13 c = rw (c .before .enum-told11 .given .1, ne-eqb _ 0 (c .if2 .left))
+
 pub before-fence-spec : {M : Type 1} → statement M
 before-fence-spec =
     tie.close
     (tie.spec
+    (λ c. search needs)
+    (λ c. search needs)
     (λ c. search needs)
     (λ c. search needs)
     (λ c. search needs)
@@ -54,4 +62,6 @@ before-fence-spec =
     returns-8
     (λ c. search needs)
     returns-10
-    returns-11)
+    returns-11
+    returns-12
+    returns-13)

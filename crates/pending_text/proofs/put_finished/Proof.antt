@@ -43,6 +43,10 @@ returns-10 : tie.Need-returns-10
 unfolding blanked
 returns-10 c = rw (c .enum-told10 .given .1) (put-none (c .before .before .before .args .out .now) (c .before .before .before .args .at))
 
+returns-11 : tie.Need-returns-11
+unfolding blanked
+returns-11 c = rw (c .enum-told11 .given .1) (put-none (c .before .before .before .args .out .now) (c .before .before .before .args .at))
+
 pub put-finished-spec : {M : Type 1} → statement M
 put-finished-spec =
     tie.close
@@ -50,6 +54,7 @@ put-finished-spec =
     (λ c. search needs)
     (λ c. search needs)
     (λ c κs. search needs)
+    (λ c. search needs)
     (λ c. search needs)
     (λ c. search needs)
     (λ c. search needs)
@@ -68,4 +73,5 @@ put-finished-spec =
     returns-7
     returns-8
     returns-9
-    returns-10)
+    returns-10
+    returns-11)

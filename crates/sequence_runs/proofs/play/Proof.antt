@@ -10,8 +10,8 @@ returns c =
     let fresh = made .before .before .before .before .before in
     let zeros = fresh .before .before .before in
     let a = zeros .before .before .before .args in
-    played (a .k) (a .numbers .now) (fresh .format .result) _ _ (zeros .blank .result) _ _ _ _ _ _
-    (zeros .blank .ensures) (fresh .format .ensures .0) (fresh .format .ensures .1 .0) (made .perform .ensures)
+    played (a .k) (a .numbers .now) (fresh .format-whole .result) _ _ (zeros .blank .result) _ _ _ _ _ _
+    (zeros .blank .ensures) (fresh .format-whole .ensures .0) (fresh .format-whole .ensures .1 .0) (made .perform .ensures)
     (one .first-byte .ensures) (c .first-byte2 .ensures)
 
 pub play-spec : {M : Type 1} → statement M

@@ -37,6 +37,7 @@ op-words-spec =
     (λ c κs. search needs)
     (λ c. search needs)
     (λ c. search needs)
+    (λ c. search needs)
     returns-2
     (λ c. search needs)
     (λ c. search needs)
@@ -45,4 +46,5 @@ op-words-spec =
     (λ c. search needs)
     (λ c. search needs)
     returns-9
+    (λ c. search needs)
     (λ c. search needs))

@@ -4,7 +4,7 @@ use mathlib.Core.Path.{_≡_, sym, _∙_}
 use borrow.Author.Tests.{eq-eqb, ne-eqb}
 use Rattle.bounded.proofs.Tests.{and-stops, held}
 use Rattle.operations.proofs.Taken.{op-asked}
-use Rattle.validity.specs.Validity.{opFits}
+use Rattle.validity.specs.Validity.{opFits, isFresh}
 use Rattle.state_words.specs.Decoded.{decoded}
 use Rattle.op_rows.specs.Seen.{seen}
 use Rattle.state_rules.proofs.op_ok.Statement.{statement}
@@ -14,7 +14,7 @@ returns : tie.Need-returns
 returns c = and-stops _ _ _ (c .before .op-fits .ensures) (c .if1 .taken)
 
 -- past the first test
-fits : (c : tie.Else1) → let a = c .before .before .args in opFits (a .at .wide) (a .op) ≡ true
+fits : (c : tie.Else1) → let a = c .before .before .args in opFits (a .at .wide) (isFresh (seen (a .z) (a .at) (decoded (a .words .now)))) (a .op) ≡ true
 fits c = held _ _ (c .before .op-fits .ensures) (c .if1 .left)
 
 returns-2 : tie.Need-returns-2

@@ -45,5 +45,7 @@ fn pending(state: &State) -> Vec<u64> {
         Operation::Log(log) => vec![8, log.page, log.line, log.offset, log.length, 0, made, log.frame],
         // only a mount leaves one
         Operation::Copy => vec![9, 0, 0, 0, 0, 0, made, 0],
+        // a format is run to its end
+        Operation::Format => vec![10, 0, 0, 0, 0, 0, made, 0],
     }
 }

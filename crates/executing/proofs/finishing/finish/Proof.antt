@@ -22,8 +22,8 @@ returns-2 c =
     let number = needed .before in
     let a = number .before .before .args in
     finish-made (a .answer) (a .words .now) (a .image .now) (a .cut) (a .letter) _ _ (number .number-of .ensures) (needed .stores-of .ensures) _
-    (else .if1 .left) _ _ (ran .run .result) _ _ _ (budget .budget-of .ensures) (ran .run .ensures .0) (ran .run .ensures .1 .0)
-    (made .stores-of2 .ensures) (mounted .mount-cut .ensures) (c .answered2 .ensures)
+    (else .if1 .left) _ _ (mounted .mount-cut .result) (ran .run .result) _ _ _ (budget .budget-of .ensures) (ran .run .ensures .0) (ran .run .ensures .1 .0)
+    (made .stores-of2 .ensures) (mounted .mount-cut .ensures .0) (mounted .mount-cut .ensures .1) (c .ended .ensures)
 
 pub finish-spec : {M : Type 1} → statement M
 finish-spec =

@@ -84,6 +84,10 @@ returns-10 : tie.Need-returns-10
 unfolding storesNeeded
 returns-10 c = c .copy-needs .ensures ∙ sym (ap (stores (c .before .before .before)) (c .before .enum-told5 .given .1))
 
+returns-11 : tie.Need-returns-11
+unfolding storesNeeded
+returns-11 c = c .format-needs .ensures ∙ sym (ap (stores (c .before .before .before)) (c .before .enum-told6 .given .1))
+
 pub op-needs-spec : {M : Type 1} → statement M
 op-needs-spec =
     tie.close
@@ -110,6 +114,8 @@ op-needs-spec =
     (λ c. search needs)
     (λ c. search needs)
     (λ c κs. search needs)
+    (λ c. search needs)
+    (λ c κs. search needs)
     returns
     returns-2
     returns-3
@@ -119,4 +125,5 @@ op-needs-spec =
     returns-7
     returns-8
     returns-9
-    returns-10)
+    returns-10
+    returns-11)

@@ -6,7 +6,7 @@ use Rattle.state.specs.declared.Places.{Places}
 use Rattle.operations.specs.Operations.{isIdle, needs as needsOf}
 use Rattle.refinement.specs.Stores.{completed}
 use Rattle.refinement.proofs.Going.{ranges-of}
-use Rattle.asked.proofs.Asked.{write-needs, consolidate-needs, event-needs, log-needs}
+use Rattle.asked.proofs.Asked.{write-needs, consolidate-needs, event-needs, log-needs, format-needs}
 use Rattle.state_words.specs.Decoded.{decoded}
 use Rattle.op_stores.proofs.Allowing.{now-commit, now-confirm}
 use Rattle.op_stores.proofs.calling.complete_now.Statement.{statement}
@@ -93,6 +93,11 @@ returns-10 c =
     let s = c .before .before .before .before in
     c .complete-copy .ensures ∙ ap (completed (st s)) (sym (c .before .before .enum-told7 .given .1))
 
+returns-11 : tie.Need-returns-11
+returns-11 c =
+    let s = c .before .before in
+    absurd (format-needs (st s) (sym (ap (needsOf (st s)) (c .enum-told8 .given .1)) ∙ s .pre .1))
+
 pub complete-now-spec : {M : Type 1} → statement M
 complete-now-spec =
     tie.close
@@ -112,6 +117,7 @@ complete-now-spec =
     (λ c. search needs)
     (λ c. search needs)
     complete-copy-requires
+    (λ c. search needs)
     returns
     returns-2
     returns-3
@@ -121,4 +127,5 @@ complete-now-spec =
     returns-7
     returns-8
     returns-9
-    returns-10)
+    returns-10
+    returns-11)

@@ -119,6 +119,11 @@ returns-10 c =
     let s = c .before .before .before .before in
     c .complete-copy .ensures ∙ ap (completed (st s)) (sym (c .before .before .enum-told3 .given .1))
 
+returns-11 : tie.Need-returns-11
+returns-11 c =
+    let s = c .before .before .before .before in
+    c .complete-format .ensures ∙ ap (completed (st s)) (sym (c .before .before .enum-told4 .given .1))
+
 pub complete-spec : {M : Type 1} → statement M
 complete-spec =
     tie.close
@@ -142,6 +147,8 @@ complete-spec =
     complete-log-requires
     (λ c. search needs)
     complete-copy-requires
+    (λ c. search needs)
+    (λ c κs. search needs)
     returns
     returns-2
     returns-3
@@ -151,4 +158,5 @@ complete-spec =
     returns-7
     returns-8
     returns-9
-    returns-10)
+    returns-10
+    returns-11)

@@ -5,7 +5,7 @@ use Rattle.state.specs.State.{State}
 use Rattle.state.specs.declared.Places.{Places}
 use Rattle.operations.specs.Operations.{isIdle}
 use Rattle.state_words.specs.Decoded.{decoded}
-use Rattle.op_stores.proofs.Leaning.{legal, head-low, next-low, shapes, few, write-taken, commit-low, prepare-low, confirm-low, consolidate-leans, event-leans, log-leans, copy-pages, write-below, log-below, next-of, commit-next, prepare-next, confirm-next, copy-next}
+use Rattle.op_stores.proofs.Leaning.{legal, head-low, next-low, shapes, few, write-taken, commit-low, prepare-low, confirm-low, consolidate-leans, event-leans, log-leans, copy-pages, write-below, log-below, next-of, commit-next, prepare-next, confirm-next, copy-next, format-below, format-next}
 use Rattle.op_stores.proofs.making.next_piece.Statement.{statement}
 use Rattle.op_stores.proofs.making.next_piece.Tie as tie
 
@@ -66,6 +66,11 @@ copy-piece-requires c κs =
     let s = c .before .before .before in
     (legal (s .args .z) (s .args .at) (st s) (s .pre .0), few (s .args .z) (s .args .at) (st s) (s .pre .0), copy-pages (s .args .z) (s .args .at) (st s) (s .pre .0), s .pre .3)
 
+format-piece-requires : tie.Need-format-piece-requires
+format-piece-requires c κs =
+    let s = c .before .before .before in
+    (legal (s .args .z) (s .args .at) (st s) (s .pre .0), format-below (s .args .z) (s .args .at) (st s) (s .pre .0) (c .enum-told4 .given .1) (s .pre .2))
+
 returns : tie.Need-returns
 returns c =
     let s = c .before .before .before .before in
@@ -116,6 +121,11 @@ returns-10 c =
     let s = c .before .before .before .before in
     next-of (s .args .z) (s .args .at) (st s) (s .pre .0) (s .args .i) (s .args .image .now) _ (c .before .enum-told3 .given .1) (copy-next (s .args .z) (s .args .at) (st s) (s .pre .0) (s .args .i) (s .args .image .now) _ (c .copy-piece .ensures))
 
+returns-11 : tie.Need-returns-11
+returns-11 c =
+    let s = c .before .before .before .before in
+    next-of (s .args .z) (s .args .at) (st s) (s .pre .0) (s .args .i) (s .args .image .now) _ (c .before .enum-told4 .given .1) (format-next (s .args .z) (s .args .at) (st s) (s .pre .0) (s .args .i) (s .args .image .now) _ (c .format-piece .ensures (s .args .image .now)))
+
 pub next-piece-spec : {M : Type 1} → statement M
 next-piece-spec =
     tie.close
@@ -140,6 +150,8 @@ next-piece-spec =
     log-piece-requires
     (λ c. search needs)
     copy-piece-requires
+    (λ c. search needs)
+    format-piece-requires
     returns
     returns-2
     returns-3
@@ -149,4 +161,5 @@ next-piece-spec =
     returns-7
     returns-8
     returns-9
-    returns-10)
+    returns-10
+    returns-11)

@@ -10,17 +10,17 @@ returns c =
     let format = number .before .before .before in
     let a = format .before .before .before .before .args in
     let f = format .format in
-    format-refused (a .m) (a .words .now) (a .image .now) (a .z) (f .result) _ _ _ _ (f .ensures .0) (f .ensures .1 .0) (number .number-of .ensures)
-    (c .if1 .taken) refl
+    format-refused (a .m) (a .words .now) (a .image .now) (a .z) (f .result) _ _ _ (f .ensures .0) (number .number-of .ensures) _ (c .if1 .taken) refl
 
 returns-2 : tie.Need-returns-2
 returns-2 c =
-    let number = c .before .before in
+    let finished = c .before .before in
+    let number = finished .before .before .before .before in
     let format = number .before .before .before in
     let a = format .before .before .before .before .args in
     let f = format .format in
-    format-taken (a .m) (a .words .now) (a .image .now) (a .z) (f .result) _ _ _ _ (f .ensures .0) (f .ensures .1 .0) (number .number-of .ensures)
-    (c .before .if1 .left) (c .answered .ensures)
+    format-taken (a .m) (a .words .now) (a .image .now) (a .z) (f .result) _ _ _ (f .ensures .0) (number .number-of .ensures) _
+    (finished .before .before .before .if1 .left) (finished .finish .ensures)
 
 pub format-turn-spec : {M : Type 1} → statement M
 format-turn-spec =
