@@ -14,7 +14,7 @@
 //! - `validity`: row 8
 //! - `mount`: format, mount, recall (rows 1 to 7)
 //! - `calls`: every call that takes a state
-//! - `script`: the programs powerhit and probe as functions from bytes to bytes
+//! - `script`: the programs powerhit, probe and wear_by_frame as functions from bytes to bytes
 //! - `compare`: random scripts, and holding another program against this one
 
 pub mod calls;

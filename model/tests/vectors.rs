@@ -1,4 +1,4 @@
-//! Both programs over every vector of the repository.
+//! The programs over every vector of the repository.
 
 use std::fs;
 use std::path::PathBuf;
@@ -42,4 +42,9 @@ fn powerhit_vectors() {
 #[test]
 fn probe_vectors() {
     all_agree("probe", model::script::probe::probe, 60);
+}
+
+#[test]
+fn wear_vectors() {
+    all_agree("wear", model::script::wear::wear, 25);
 }

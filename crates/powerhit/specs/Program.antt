@@ -1,53 +1,21 @@
 -- Program powerhit (document 01): where it stands after any bytes of input, in pieces of any size. A newline has the line before it performed.
-use Prim.Native.Nat.{ℕ, _+_, _-_, _%_, _^_}
-use mathlib.Core.Bool.{cond}
-use mathlib.Core.List.{List, [], _++_}
+use Prim.Native.Nat.{ℕ, _-_}
+use mathlib.Core.List.{List, []}
 use mathlib.Core.Path.{_≡_}
-use lib.Dec.{leb, ltb}
-use lib.ListN.{length, take, drop}
+use lib.Dec.{ltb}
+use lib.ListN.{take, drop}
 use Rattle.words.specs.Words.{part}
 use Rattle.cutting.specs.Buffers.{Holds, Ends}
 use Rattle.cutting.specs.Feeding.{Fed, fed, ended}
 use Rattle.executing.specs.Called.{Machine, machineAt}
-use Rattle.printing.specs.Output.{outputLine}
-use Rattle.script.specs.Listing.{text}
-use Rattle.script.specs.Performed.{started, lineTurn}
+use Rattle.script.specs.Work.{opening}
+pub use Rattle.script.specs.Work.{Work, roomed}
+unfoldable pub use Rattle.script.specs.Work.{act}
 use Rattle.powerhit.specs.declared.Session.{Session}
-
--- what the lines so far came to: the machine, its image, how many they were, all that is printed, and how many of its last bytes
--- are not yet handed to a write
-pub record Work : Type 0 where
-  pub machine : Machine
-  pub image : List ℕ
-  pub lines : ℕ
-  pub printed : List ℕ
-  pub waiting : ℕ
-
--- before a line all that waits is written where there may be too little room for what the line prints
-abbrev pub roomed : ℕ → ℕ
-roomed waiting = cond (leb waiting 65000) waiting 0
-
--- one line more; the count of lines is a machine word
-unfoldable pub act : Work → List ℕ → Work
-act w line =
-    let n = (w .lines + 1) % 2 ^ 64 in
-    let t = lineTurn (w .machine) (w .image) line in
-    let text = outputLine n (t .output) in
-    record {
-      machine = t .machine;
-      image = t .image;
-      lines = n;
-      printed = w .printed ++ text;
-      waiting = roomed (w .waiting) + length text;
-    }
 
 -- before the first byte
 abbrev pub first : List ℕ → Fed Work
-first image =
-    record {
-      done = record { machine = started; image = image; lines = 0; printed = text "line,call,answer,stores,byte\n"; waiting = 0 };
-      begun = [];
-    }
+first image = record { done = opening image; begun = [] }
 
 -- that a machine, its image, a count of lines and the first bytes of an output buffer are what the lines came to: the bytes are
 -- those that wait to be written (what a write does with them no contract says)

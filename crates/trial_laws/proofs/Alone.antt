@@ -37,7 +37,7 @@ use Rattle.refinement.proofs.Standing.{Standing}
 use Rattle.refinement.proofs.StateValid.{valid}
 use Rattle.refinement.proofs.Valid.{legal-sizes}
 use Rattle.refinement.proofs.Viewed.{viewed-fits}
-use Rattle.trial_laws.proofs.Needed.{held-few}
+use Rattle.placing.proofs.Needed.{held-few}
 
 -- of a state, whatever is pending
 pub record Only (mine : Bool) (st : State) : Type 0 where

@@ -33,7 +33,7 @@ use Rattle.trials.specs.Trials.{callOf, nothing, storesFor, plus, Tried, format
 use Rattle.trial_lines.specs.Lines.{Work, first, numbersOf, sizesOf, withSetting, isRound, withRound, acted, act}
 use Rattle.trial_laws.specs.Pages.{after}
 use Rattle.trial_laws.specs.Counts.{Within, exactly, ofCall}
-use Rattle.trial_laws.proofs.Needed.{answered-low, taken-valid, consolidate-low, commit-low, wide-low, checkpoint-low}
+use Rattle.placing.proofs.Needed.{answered-low, taken-valid, consolidate-low, commit-low, wide-low, checkpoint-low}
 
 -- ---- a call
 

@@ -1,86 +1,64 @@
 -- Where the stores of a round's operations go.
-use Prim.Native.Nat.{ℕ, _+_, _-_, _*_, _/_, _%_, _<_, _≤_}
-use mathlib.Core.Bool.{Bool, true, false, cond}
+use Prim.Native.Nat.{ℕ, _+_, _*_, _<_, _≤_}
 use mathlib.Core.List.{List}
 use mathlib.Core.Logic.{inl, inr}
-use mathlib.Core.Path.{_≡_, refl}
-use native.Mathlib.Nat.{mod-lt}
+use mathlib.Core.Path.{_≡_, refl, sym, subst}
 use native.Mathlib.Omega.{arith}
-use lib.Dec.{ltb, eqb}
-use lib.ListN.{length, getD}
-use borrow.Author.Tests.{lt-ltb, le-ltb, ltb-true, eq-eqb, ne-eqb}
+use lib.Dec.{ltb}
+use borrow.Author.Tests.{ltb-true, ltb-false}
 use Rattle.bounded.proofs.Tests.{caseOn}
 use Rattle.layout.specs.declared.Sizes.{Sizes}
-use Rattle.layout.specs.Layout.{Legal, headWord, tailWord, pageWord, slotWord, recordWord, paddingWord, lineWord}
-use Rattle.journal.specs.Records.{position}
+use Rattle.layout.specs.Layout.{Legal}
 use Rattle.state.specs.State.{State}
 use Rattle.state.specs.declared.Op.the-variants.{Write, Commit, Consolidate, Checkpoint}
-use Rattle.state.specs.Held.{heldSlots}
-use Rattle.operations.specs.Operations.{needs, copyCount, recordedSlots}
-use Rattle.refinement.specs.Frames.{pageSlot}
-use Rattle.refinement.specs.Commit.{commitAtOf}
-use Rattle.refinement.specs.Consolidate.{copyStoreCount, consolidationAt, consolidateAt}
-use Rattle.refinement.specs.Checkpoint.{checkpointSlotOf, checkpointAtOf}
+use Rattle.operations.specs.Operations.{needs}
 use Rattle.refinement.specs.Stores.{storeAt}
-use Rattle.refinement.proofs.CheckpointPlaces.{recorded-slot-low}
-use Rattle.trial_laws.specs.Places.{OfFrames, OfJournal, OfTables, Placed, StoresPlaced}
+use Rattle.placing.specs.Placing.{InJournal, recordsOf, recordedIn, copiesOf, Placed as Placing}
+use Rattle.placing.proofs.Placed.{each-placed}
+use Rattle.trial_laws.specs.Places.{OfFrames, OfJournal, OfTables, StoresPlaced}
 
--- word k of a record
-in-journal : (z : Sizes) → Legal z → (q k : ℕ) → k < 4 → OfJournal z (recordWord z q + k)
-in-journal z legal q k h =
-    let low : q % z .places < z .places = mod-lt q (omega (arith, legal .slots-low, legal .places-low)) in
-    inr (omega arith, omega (arith, low))
+-- a word of a record
+of-journal : (z : Sizes) (a : ℕ) → InJournal z a → OfJournal z a
+of-journal z a h = inr (h .from, h .below)
 
 module _ (st : State) (img : List ℕ) (legal : Legal (st .sizes)) where
   abbrev z : Sizes
   z = st .sizes
 
+  placed : Placing st img
+  placed = each-placed st img legal
+
   commit-placed : (w i : ℕ) → OfJournal z (storeAt st img (Commit w) i)
-  unfolding commitAtOf
   commit-placed w i =
-      caseOn (ltb i (4 * length (heldSlots z (st .writers .held) w)))
-      (λ t. rw t (in-journal z legal (position z (st .head) (i / 4)) (i % 4) (omega arith)))
-      (λ t. rw t (inl refl))
+      caseOn (ltb i (4 * recordsOf st w))
+      (λ t. of-journal z (storeAt st img (Commit w) i) (placed .records w i (ltb-true i (4 * recordsOf st w) t)))
+      (λ t. inl (placed .head w i (ltb-false i (4 * recordsOf st w) t)))
 
   checkpoint-placed : (i : ℕ) → OfTables z (storeAt st img Checkpoint i)
-  unfolding checkpointAtOf
   checkpoint-placed i =
-      let s = checkpointSlotOf z (st .table .last) i in
-      let low : s < z .slots = recorded-slot-low z (st .table .last) (i / 3) s legal refl in
-      caseOn (ltb i (3 * length (recordedSlots z (st .table .last))))
-      (λ t. rw t (inr (omega arith, omega (arith, low))))
-      (λ t. rw t (inl refl))
+      caseOn (ltb i (3 * recordedIn st))
+      (λ t. let h = placed .slots i (ltb-true i (3 * recordedIn st) t) in inr (omega (arith, h .from), h .below))
+      (λ t. inl (placed .tail i (ltb-false i (3 * recordedIn st) t)))
 
   -- a consolidation copies before its last six stores
-  needed : (p : ℕ) → needs st (Consolidate p) ≡ copyStoreCount (pageSlot st p) + 6
+  needed : (p : ℕ) → needs st (Consolidate p) ≡ 8 * copiesOf st p + 6
   unfolding needs
   needed p = refl
 
   copies-placed : (p i : ℕ) → i + 6 < needs st (Consolidate p) → OfFrames z (storeAt st img (Consolidate p) i)
-  unfolding consolidateAt
-  copies-placed p i h =
-      let c = copyStoreCount (pageSlot st p) in
-      let t : ltb i c ≡ true = lt-ltb i c (omega (arith, needed p)) in
-      rw t (omega arith)
+  copies-placed p i h = omega (arith, placed .copies p i (omega (arith, needed p)))
 
   page-placed : (p i : ℕ) → i + 6 ≡ needs st (Consolidate p) → p < z .pages → OfTables z (storeAt st img (Consolidate p) i)
-  unfolding consolidateAt
   page-placed p i h low =
-      let c = copyStoreCount (pageSlot st p) in
-      let e : i ≡ c = omega (arith, needed p) in
-      let t : ltb i c ≡ false = le-ltb i c (omega arith) in
-      let u : eqb i c ≡ true = eq-eqb i c e in
-      rw (t, u) (inr (omega arith, omega arith))
+      let e = placed .page p i (omega (arith, needed p)) in
+      inr (omega (arith, e), omega (arith, e))
 
   freeing-placed : (p i : ℕ) → needs st (Consolidate p) < i + 6 → OfJournal z (storeAt st img (Consolidate p) i)
-  unfolding consolidateAt
   freeing-placed p i h =
-      let c = copyStoreCount (pageSlot st p) in
-      let t : ltb i c ≡ false = le-ltb i c (omega (arith, needed p)) in
-      let u : eqb i c ≡ false = ne-eqb i c (λ e. omega (arith, needed p)) in
+      let c = 8 * copiesOf st p in
       caseOn (ltb i (c + 5))
-      (λ d. rw (t, u, d) (in-journal z legal (st .head) (i - (c + 1)) (omega (arith, ltb-true i (c + 5) d))))
-      (λ d. rw (t, u, d) (inl refl))
+      (λ t. of-journal z (storeAt st img (Consolidate p) i) (placed .freeing p i (omega (arith, needed p)) (ltb-true i (c + 5) t)))
+      (λ t. inl (placed .freed p i (ltb-false i (c + 5) t)))
 
 pub stores-placed : StoresPlaced
 stores-placed st img legal =

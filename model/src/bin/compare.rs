@@ -12,7 +12,7 @@ use model::compare::Kind;
 use model::script::lines::lines;
 
 const USAGE: &str =
-    "compare --kind powerhit|probe [--program PATH] --scripts N --calls M --seed S [--skip-recall]
+    "compare --kind powerhit|probe|wear [--program PATH] --scripts N --calls M --seed S [--skip-recall]
   N scripts of at most M lines or so are made from seed S; without a program only the coverage is printed";
 
 struct Wanted {

@@ -4,7 +4,7 @@
 //! - `scribe`: a script as it grows, beside the model's own session, so that choices can follow the state
 //! - `aim`: sensible arguments for the state at hand, and some that are not
 //! - `malform`: lines of another form
-//! - `powerhit_scripts`, `probe_scripts`: the generators
+//! - `powerhit_scripts`, `probe_scripts`, `wear_scripts`: the generators
 //! - `probe_edits`, `probe_wholes`: the parts of probe's scripts that set numbers, whole states and whole images
 //! - `breaches`, `states`: which numbers these are
 //! - `coverage`: how often each answer was seen
@@ -23,14 +23,16 @@ pub mod rng;
 pub mod scribe;
 pub mod shrink;
 pub mod states;
+mod wear_scripts;
 
-use crate::script::{powerhit::powerhit, probe::probe};
+use crate::script::{powerhit::powerhit, probe::probe, wear::wear};
 use rng::Rng;
 
 #[derive(Clone, Copy, Debug, PartialEq, Eq)]
 pub enum Kind {
     Powerhit,
     Probe,
+    Wear,
 }
 
 impl Kind {
@@ -38,6 +40,7 @@ impl Kind {
         match name {
             "powerhit" => Some(Kind::Powerhit),
             "probe" => Some(Kind::Probe),
+            "wear" => Some(Kind::Wear),
             _ => None,
         }
     }
@@ -47,6 +50,7 @@ impl Kind {
         match self {
             Kind::Powerhit => powerhit(script),
             Kind::Probe => probe(script),
+            Kind::Wear => wear(script),
         }
     }
 
@@ -58,6 +62,7 @@ impl Kind {
         match self {
             Kind::Powerhit => powerhit_scripts::script(rng, lines as usize),
             Kind::Probe => probe_scripts::script(rng, lines as usize),
+            Kind::Wear => wear_scripts::script(rng, lines as usize),
         }
     }
 }

@@ -1,10 +1,11 @@
-//! The programs powerhit and probe, as functions from the bytes read to the bytes printed.
+//! The programs powerhit, probe and wear_by_frame, as functions from the bytes read to the bytes printed.
 
 pub mod lines;
 pub mod powerhit;
 pub mod probe;
+pub mod wear;
 
-/// Both programs work on a buffer of this many bytes.
+/// The programs work on a buffer of this many bytes.
 pub const BUFFER: usize = 65_536;
 
 /// The letter in front of each line, and of each printed line of another form.

@@ -4,6 +4,7 @@ use super::{lines, BUFFER, OTHER_FORM};
 use crate::calls::{self, Patch};
 use crate::layout::Sizes;
 use crate::mount::{ask_format, mount};
+use crate::plan::plan;
 use crate::refusal::{Answer, Refusal};
 use crate::state::State;
 
@@ -53,6 +54,15 @@ pub struct Session {
     /// A K not yet used.
     cut: Option<u64>,
     line: u64,
+    /// Where the stores of the last line went, one after the other.
+    stored: Stored,
+}
+
+/// Byte addresses of stores, and the sizes of the state that made them.
+#[derive(Default)]
+pub struct Stored {
+    pub sizes: Sizes,
+    pub at: Vec<usize>,
 }
 
 /// What a line of a right form prints behind its letter: 0 or the row that turned it back, stores made and, for a read, the byte.
@@ -74,7 +84,7 @@ impl Printed {
 
 impl Default for Session {
     fn default() -> Session {
-        Session { buffer: vec![0; BUFFER], state: None, cut: None, line: 0 }
+        Session { buffer: vec![0; BUFFER], state: None, cut: None, line: 0, stored: Stored::default() }
     }
 }
 
@@ -83,9 +93,14 @@ impl Session {
         self.state.as_ref()
     }
 
+    pub fn stored(&self) -> &Stored {
+        &self.stored
+    }
+
     /// One line's turn: the line that it prints, with its newline.
     pub fn turn(&mut self, line: &[u8]) -> String {
         self.line += 1;
+        self.stored = Stored::default();
         let turned = parse(line).and_then(|(letter, command)| Some((letter, self.perform(command)?)));
         let number = self.line;
         let Some((letter, Printed { answer, stores, byte })) = turned else {
@@ -143,8 +158,12 @@ impl Session {
         }
         let state = self.state.as_mut().expect("an F was taken");
         let cut = self.cut.take();
+        let operation = &state.pending.as_ref().expect("stores are needed").operation;
+        let at = plan(state, operation).iter().map(|store| store.at.address(&self.buffer)).collect();
+        self.stored = Stored { sizes: state.sizes, at };
         let made = calls::run(state, &mut self.buffer, cut.unwrap_or(needed));
         let made = made.expect("an operation was taken just now");
+        self.stored.at.truncate(made as usize);
         match cut {
             Some(_) => self.mount(made),
             None => Printed::taken(made, None),

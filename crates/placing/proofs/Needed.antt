@@ -4,24 +4,26 @@ use mathlib.Core.Bool.{Bool, true, false, cond, not}
 use mathlib.Core.List.{List, _∷_}
 use mathlib.Core.Path.{_≡_, refl}
 use native.Mathlib.Omega.{arith}
-use lib.Dec.{leb, eqb}
+use lib.Dec.{eqb}
 use lib.ListN.{length, getD}
-use borrow.Author.Tests.{leb-true, leb-false, eqb-true}
+use borrow.Author.Tests.{eqb-true}
 use Rattle.bounded.specs.Rows.{Row, refusal}
 use Rattle.bounded.proofs.Below.{count-le}
 use Rattle.bounded.proofs.Those.{length-those}
-use Rattle.bounded.proofs.Tests.{caseOn}
+use Rattle.bounded.proofs.Tests.{caseOn, row-keeps}
 use Rattle.layout.specs.declared.Sizes.{Sizes}
-use Rattle.masks.specs.Lines.{countLines}
+use Rattle.meters.specs.Meters.{movesCredit}
 use Rattle.replay.specs.Table.{noPosition}
 use Rattle.state.specs.State.{State}
-use Rattle.state.specs.declared.Op.the-variants.{Commit, Consolidate, Checkpoint, Copy}
+use Rattle.state.specs.declared.Op.{Op}
+use Rattle.state.specs.declared.Op.the-variants.{Idle, Write, Commit, Consolidate, Checkpoint, Event, Prepare, Confirm, Log, Copy, Format}
 use Rattle.state.specs.Held.{heldAt, heldSlots}
 use Rattle.state.specs.Slots.{slotOfPage}
-use Rattle.operations.specs.Operations.{needs, copyCount, recordedSlots}
+use Rattle.operations.specs.Operations.{needs, recordedSlots}
 use Rattle.validity.specs.Validity.{stateOk}
 use Rattle.refinement.proofs.Valid.{legal-sizes}
 use Rattle.refinement.proofs.StateValid.{valid}
+use Rattle.placing.proofs.Placed.{copies-few}
 
 -- a refused call has none
 pub answered-low : (row n b : ℕ) → (row ≡ 0 → n ≤ b) → cond (eqb row 0) n 0 ≤ b
@@ -32,16 +34,9 @@ pub taken-valid : (ok : Bool) (rs : List Row) → refusal ((not ok, 8) ∷ rs) �
 taken-valid true rs e = refl
 taken-valid false rs e = absurd (let z : _≡_ {A = ℕ} 8 0 = e in omega arith)
 
-copy-low : (m : ℕ) → copyCount m ≤ 32
-unfolding copyCount
-copy-low m =
-    caseOn (leb (countLines m) 32)
-    (λ t. rw t (leb-true (countLines m) 32 t))
-    (λ t. rw t (omega (arith, leb-false (countLines m) 32 t)))
-
 pub consolidate-low : (st : State) (p : ℕ) → needs st (Consolidate p) ≤ 262
 unfolding needs
-consolidate-low st p = omega (arith, copy-low (getD (st .table .bitmap) (slotOfPage (st .sizes) (st .table .page) p) 0))
+consolidate-low st p = omega (arith, copies-few (getD (st .table .bitmap) (slotOfPage (st .sizes) (st .table .page) p) 0))
 
 -- a writer holds lines of at most S slots
 pub held-few : (z : Sizes) (held : List ℕ) (w : ℕ) → length (heldSlots z held w) ≤ z .slots
@@ -76,3 +71,32 @@ module _ (st : State) (ok : stateOk st ≡ true) where
   pub checkpoint-low : needs st Checkpoint ≤ 262
   unfolding needs
   checkpoint-low = caseOn (eqb (st .head) (st .tail)) (λ t. rw t (omega arith)) (λ t. rw t (omega (arith, recorded-low)))
+
+  prepare-low : (w : ℕ) → needs st (Prepare w) ≤ 64
+  unfolding needs
+  prepare-low w = omega (arith, held-low w)
+
+  confirm-low : (w : ℕ) → needs st (Confirm w) ≤ 1
+  unfolding needs
+  confirm-low w =
+      row-keeps (λ (n : ℕ). n ≤ 1) (eqb (length (heldSlots (st .sizes) (st .writers .held) w)) 0) 0 1 (omega arith) (omega arith)
+
+  -- a format's image has at most 535,160 words
+  format-low : needs st Format ≤ 535161
+  unfolding needs
+  format-low = omega (arith, legal-sizes st ok)
+
+  -- of any operation
+  pub needs-low : (op : Op) → needs st op ≤ 535161
+  unfolding needs
+  needs-low Idle = omega arith
+  needs-low (Write w p l o n) = omega arith
+  needs-low (Commit w) = omega (arith, commit-low w)
+  needs-low (Consolidate p) = omega (arith, consolidate-low st p)
+  needs-low Checkpoint = omega (arith, checkpoint-low)
+  needs-low (Event k m a) = row-keeps (λ (n : ℕ). n ≤ 535161) (movesCredit k) 21 13 (omega arith) (omega arith)
+  needs-low (Prepare w) = omega (arith, prepare-low w)
+  needs-low (Confirm w) = omega (arith, confirm-low w)
+  needs-low (Log p l o n) = omega arith
+  needs-low Copy = omega (arith, wide-low, legal-sizes st ok .entries-high)
+  needs-low Format = format-low

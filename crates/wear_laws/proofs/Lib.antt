@@ -1,0 +1,11 @@
+pub mod Counted
+pub mod Turned
+pub mod Reading
+pub mod Told
+pub mod Beside
+pub mod Plain
+pub mod Runs
+pub mod Operations
+pub mod Copies
+pub mod Frames
+pub mod Witness
