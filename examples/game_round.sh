@@ -24,4 +24,5 @@ for k in 0 1 2 3 4 5; do
     printf '%6s  %-56s %s\n' $k "${stores[$k]}" "$byte"
 done
 echo
-echo "Before the last store the round is absent; with it the round is whole. docs/ANSWER.md says why no store can show anything else."
+echo "Before the last store the round is absent; with it the round is whole."
+echo "docs/ANSWER.md says why no store can show anything else."

@@ -10,5 +10,5 @@ for kind in powerhit probe wear; do
     # into a file: a reader that ends early would end compare by a broken pipe
     model/target/release/compare --kind $kind --program "target/bin/${kind/%wear/wear_by_frame}" \
         --scripts "${SCRIPTS:-400}" --calls "${CALLS:-80}" --seed "${SEED:-1}" > "$report" || { cat "$report"; exit 1; }
-    head -n 1 "$report"
+    head -n 1 "$report" | sed "s/^/$kind: /"
 done

@@ -4,7 +4,7 @@
  * of model/src/bin/model-stores.rs and prints the lines that it prints.
  *
  *     stores end|fence|run|threes|step < calls       how the stores of an operation are asked for
- *     stores once < calls                            the lines F alone, each a format in one call over bytes of no image
+ *     stores once < calls                            the lines F alone, each a format in one call over bytes of no image, and a stepped one
  *
  * Ends with status 1 where a store that decides (words 3 to 6) is not made by one instruction of 8 aligned bytes; where a step is not one
  * such store, to the word that next_store told; where what is to stop before a store that decides makes it; and where a call that is to
@@ -167,7 +167,7 @@ static size_t format(void)
 {
     length = badgerdross_image_length(number[0], number[1], number[2], number[3]);
     memset(image, 0, ROOM);
-    return badgerdross_format(&store, image, length, number[0], number[1], number[2], number[3]);
+    return badgerdross_format(&store, image, length, number[0], number[1], number[2], number[3], BADGERDROSS_END);
 }
 
 static size_t write_line(size_t until)
@@ -221,14 +221,14 @@ static void step(size_t word, size_t decides)
 /* What is pending, store by store; or up to each store that decides, and that one by itself. */
 static void finish_by_steps(int fences)
 {
-    size_t word, decides, before;
-    while (badgerdross_next_store(&store, image, length, &word, &decides, &before) == 0)
-        if (fences && before > 0) {
-            size_t from = made_count;
-            badgerdross_run(&store, image, length, before);
+    struct badgerdross_next next;
+    while (badgerdross_next_store(&store, image, length, &next) == 0)
+        if (fences && next.before > 0) {
+            size_t from = made_count, made_now;
+            badgerdross_run(&store, image, length, next.before, &made_now);
             none_decides(from);
         } else {
-            step(word, decides);
+            step(next.word, next.decides);
         }
 }
 
@@ -238,7 +238,7 @@ static void finish(char mode)
     if (mode == 's' || mode == 'f')
         finish_by_steps(mode == 'f');
     else
-        while (badgerdross_run(&store, image, length, mode == 't' ? 3 : SIZE_MAX) == 0)
+        for (size_t made_now; badgerdross_run(&store, image, length, mode == 't' ? 3 : SIZE_MAX, &made_now) == 0;)
             ;
 }
 
@@ -247,7 +247,8 @@ static size_t play_cut(char letter, size_t cut)
 {
     mprotect(image, ROOM, PROT_READ | PROT_WRITE);
     size_t answer = call(letter, BADGERDROSS_ASKED);
-    badgerdross_run(&store, image, length, cut);
+    size_t made_now;
+    badgerdross_run(&store, image, length, cut, &made_now);
     mprotect(image, ROOM, PROT_READ);
     if (badgerdross_mount(&store, image, length) != 0)
         fail("a mount was turned back");
@@ -270,13 +271,32 @@ static size_t play(char letter, char mode)
  * reads it there; and every other word is stored. */
 static int layout_store(struct made m) { return one_word(m) && m.first == 24; }
 
+/* The same asked for and stepped: one store a step, to the words in their order, the layout word first and last. */
+static void format_by_steps(void)
+{
+    made_count = 0;
+    if (badgerdross_format(&store, image, length, number[0], number[1], number[2], number[3], BADGERDROSS_ASKED) != 0 || made_count != 0)
+        fail("a format that was asked for was turned back, or made a store");
+    size_t all = length / 8 + 1;
+    struct badgerdross_next next;
+    for (size_t i = 0; badgerdross_next_store(&store, image, length, &next) == 0; i++) {
+        size_t word = i == 0 || i == all - 1 ? 3 : i <= 3 ? i - 1 : i;
+        if (badgerdross_step(&store, image, length) != 0 || made_count != i + 1 || !one_word(made[i]) || made[i].first != 8 * word)
+            fail("a step of a format is not one store to the word that is its turn");
+        if (next.word != word || next.decides != (word == 3) || next.left != all - i)
+            fail("a step of a format was told otherwise");
+    }
+    if (made_count != all || made[0].value != 0 || made[all - 1].value == 0)
+        fail("a format made other stores, or others first and last");
+}
+
 static void format_once(void)
 {
     length = badgerdross_image_length(number[0], number[1], number[2], number[3]);
     for (size_t i = 0; i < ROOM; i++)
         image[i] = (uint8_t)(37 * i % 200);
     mprotect(image, ROOM, PROT_READ);
-    if (badgerdross_format(&store, image, length, number[0], number[1], number[2], number[3]) != 0)
+    if (badgerdross_format(&store, image, length, number[0], number[1], number[2], number[3], BADGERDROSS_END) != 0)
         fail("a format was turned back");
     struct made *last = made + made_count - 1;
     if (made_count < 3 || !layout_store(made[0]) || made[0].value != 0 || !layout_store(*last) || last->value == 0)
@@ -289,8 +309,9 @@ static void format_once(void)
             fail("a format stored the layout word in between, or left out another");
         group[word] = 0;
     }
-    mprotect(image, ROOM, PROT_READ | PROT_WRITE);
     printf("F %zu stored by %zu instructions\n", length / 8, made_count);
+    format_by_steps();
+    mprotect(image, ROOM, PROT_READ | PROT_WRITE);
 }
 
 static uint64_t hash(void)

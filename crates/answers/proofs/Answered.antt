@@ -63,15 +63,6 @@ refused-known a row st l e =
     let s : storesOf a ≡ 0 = ap storesOf e ∙ k .1 in
     caseOn (eqb row 0) (λ t. rw (t, n, s)) (λ t. rw (t, n, s))
 
--- the answer with a row's number, or taken with n stores
-pub answer-known : (a : Answer) (row n : ℕ) (st : State) → row ≤ 30 → a ≡ asAnswer row n → answeredAt a st ≡ answered row st n st
-answer-known a row n st l e =
-    caseOn (eqb row 0)
-    (λ t. let z = eqb-true row 0 t in rw (z, rw z at e))
-    (λ t.
-    let f : a ≡ asAnswer row 0 = rw t (rw t at e) in
-    rw t (rw t at (refused-known a row st l f)))
-
 -- a call turned back by a row of its table, or taken with the state that the code leaves
 module _ (st after : State) (rs : List Row) (row : ℕ) (e : row ≡ refusal rs) where
   pub row-refused : (a : Answer) → (row ≡ 0 → ⊥) → refusal rs ≤ 30 → a ≡ asAnswer row 0 → answeredAt a st ≡ answered (refusal rs) st 0 after

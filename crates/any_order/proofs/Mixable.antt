@@ -24,7 +24,7 @@ use Rattle.refinement.specs.Calls.{worldOf}
 use Rattle.leftovers.specs.Leftovers.{Leftover, journal-place, under-record, slotted-page, padding, other-copy, past-entries, under-entry, Replaced, Scribbled}
 use Rattle.leftovers.proofs.AfterMount.{foundState, Found, copies, quiet-found, copying-found}
 use Rattle.leftovers.proofs.EveryWord.{scribbled}
-use Rattle.leftovers.proofs.Replaced.{copied-inside, key-page, frame-same, still-shows, still-taken}
+use Rattle.leftovers.proofs.Replaced.{copied-inside, key-page, frame-same, still-shows}
 use Rattle.any_order.proofs.Harmless.{LeftIn, Harmless}
 
 -- of every image of a list
@@ -67,9 +67,6 @@ module _ (img : List ℕ) (view : View) (shows : Shows img view) (taken : Taken 
     -- a mount finds the same
     pub harmless-shows : Shows image view
     harmless-shows = some-found view (λ d p F. still-shows img view shows taken d p F image (harmless-replaced d p F))
-
-    pub harmless-taken : Taken (length image) view
-    harmless-taken = some-found view (λ d p F. still-taken img view shows taken d p F image (harmless-replaced d p F))
 
     module _ (d : Wide) (p : Pending) (F : Found view d p) where
       abbrev key : ℕ → ℕ

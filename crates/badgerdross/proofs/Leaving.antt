@@ -10,7 +10,12 @@ use Rattle.answers.specs.declared.Answer.{Answer}
 use Rattle.answers.specs.Answers.{numberOf, storesOf}
 use Rattle.op_stores.specs.declared.Until.{Until}
 use Rattle.op_stores.specs.Started.{startedOf, Started}
-use Rattle.badgerdross.specs.Left.{Leaves, Starts, Keeps}
+use Rattle.refinement.specs.Stores.{World}
+use Rattle.refinement.specs.Calls.{worldOf}
+use Rattle.call_round.specs.declared.Room.{Room}
+use Rattle.call_round.specs.declared.Round.{Round}
+use Rattle.call_round.specs.Round.{Played, roundOf}
+use Rattle.badgerdross.specs.Left.{Leaves, Starts, Keeps, Plays}
 
 -- r is the answer's number
 module _ (a : Answer) (r : ℕ) (e : r ≡ numberOf a) where
@@ -26,3 +31,11 @@ module _ (a : Answer) (r : ℕ) (e : r ≡ numberOf a) where
 
   pub keeps : (after before : List ℕ) → ((numberOf a ≡ 0 → ⊥) → after ≡ before) → Keeps r after before
   keeps after before h n = h (λ z. n (e ∙ z))
+
+-- a round in one call
+pub plays : (r : Round) (after : State) (bytes : List ℕ) (room asked : Room) (w : ℕ) (writes lent : List ℕ) (v : World) → room ≡ asked
+    → record { world = worldOf after bytes; number = r .number; call = r .call; stores = r .stores } ≡ roundOf room w writes lent v
+    → Plays (r .number) after bytes (r .call) (roundOf asked w writes lent v)
+plays r after bytes room asked w writes lent v s h =
+    let g = rw s at h in
+    (ap (λ (t : Played). t .number) g, ap (λ (t : Played). t .world .st) g, ap (λ (t : Played). t .world .image) g, ap (λ (t : Played). t .call) g)

@@ -3,16 +3,17 @@ mod meters;
 mod pending;
 mod room;
 mod round;
+mod service;
+mod whole;
 
 ghost use mathlib.Core.Bool.{cond};
 ghost use mathlib.Core.Path.{_≡_};
 ghost use Rattle.layout.specs.Layout.{sizesOk, imageLength};
-ghost use Rattle.fresh.specs.Fresh.{formatBytes};
-ghost use Rattle.refinement.specs.Mount.{formatCall, mountCall};
+ghost use Rattle.refinement.specs.Mount.{formatOf, mountCall};
 ghost use Rattle.refinement.specs.Recall.{recallRow, recallBytes};
 ghost use Rattle.state_words.specs.Decoded.{decoded};
 ghost use Rattle.call_mount.specs.Replacing.{replacing};
-ghost use Rattle.badgerdross.specs.Left.{Leaves, Keeps, untilBy, sizesBy};
+ghost use Rattle.badgerdross.specs.Left.{Leaves, Starts, Keeps, untilBy, sizesBy, version};
 use layout::Sizes;
 use op_stores::Until;
 
@@ -27,6 +28,14 @@ fn until_of(n: usize) -> Until
         return Until::Fence;
     }
     Until::End
+}
+
+// The version of the header that the library goes with.
+#[no_mangle]
+pub extern "C" fn badgerdross_version() -> usize
+    ensures { λ r. ⌜ r ≡ version ⌝ }
+{
+    1000
 }
 
 // How many bytes an image of these sizes has, or 0.
@@ -51,7 +60,7 @@ pub extern "C" fn badgerdross_image_length(
     layout::image_length(z)
 }
 
-// Writes a fresh image.
+// Asks for a fresh image.
 #[no_mangle]
 pub extern "C" fn badgerdross_format(
     words: &mut [u64; 256],
@@ -60,10 +69,10 @@ pub extern "C" fn badgerdross_format(
     slots: usize,
     places: usize,
     entries: usize,
+    until: usize,
 ) -> usize
-    ensures state { λ r. ⌜ Leaves r (decoded (now (words .exit)))
-        (replacing (decoded (now (words .entry))) (formatCall (sizesBy pages slots places entries) (now (image .entry)))) ⌝ }
-    ensures bytes { λ _. ⌜ now (image .exit) ≡ formatBytes (sizesBy pages slots places entries) (now (image .entry)) ⌝ }
+    ensures state { λ r. ⌜ Starts r (decoded (now (words .exit))) (now (image .exit))
+        (replacing (decoded (now (words .entry))) (formatOf (sizesBy pages slots places entries) (now (image .entry)))) (now (image .entry)) (untilBy until) ⌝ }
     ensures words { λ r. ⌜ Keeps r (now (words .exit)) (now (words .entry)) ⌝ }
 {
     let z = Sizes {
@@ -72,7 +81,8 @@ pub extern "C" fn badgerdross_format(
         places,
         entries,
     };
-    answers::number_of(call_mount::format_whole(image, words, z))
+    let u = until_of(until);
+    answers::number_of(call_mount::format(image, words, z, u))
 }
 
 // Mounts an image.

@@ -1,7 +1,7 @@
 -- The numbers below a bound that pass a test, as a list: how many, the n-th of them, and each of them.
 use Prim.Native.Nat.{ℕ, zero, suc, _+_, _<_, _≤_}
-use mathlib.Core.Bool.{Bool, true, false, cond}
-use mathlib.Core.List.{List, [], _∷_, _++_, append-nil}
+use mathlib.Core.Bool.{Bool, true, cond}
+use mathlib.Core.List.{List, [], _∷_, _++_}
 use mathlib.Core.Path.{_≡_, refl, sym, ap, ap₂, subst, _∙_}
 use lib.Dec.{ltb}
 use lib.ListN.{length, getD, length-append, List·getD-append, List·getD-eq-default}
@@ -17,10 +17,6 @@ use Rattle.bounded.proofs.Below.{split-below, count-before}
 those-in : (f : ℕ → Bool) (n : ℕ) → f n ≡ true → those (suc n) f ≡ those n f ++ (n ∷ [])
 unfolding those
 those-in f n t = rw t
-
-those-out : (f : ℕ → Bool) (n : ℕ) → f n ≡ false → those (suc n) f ≡ those n f
-unfolding those
-those-out f n t = rw t (append-nil (those n f))
 
 pub length-those : (f : ℕ → Bool) (n : ℕ) → length (those n f) ≡ countBelow n f
 unfolding those countBelow one

@@ -1,17 +1,19 @@
 // Commits on a state in words. A narrow writer's has a loop of its own: the one that finds pieces by operation takes a third more instructions.
+ghost use mathlib.Core.Bool.{true};
 ghost use mathlib.Core.Path.{_≡_};
 ghost use Prim.Native.Nat.{_≤_};
 ghost use lib.ListN.{length, replicate};
 ghost use Rattle.layout.specs.Layout.{imageLength};
 ghost use Rattle.state.specs.declared.Op.the-variants.{Commit};
 ghost use Rattle.operations.specs.Operations.{needs};
+ghost use Rattle.validity.specs.Validity.{stateOk};
 ghost use Rattle.refinement.specs.Stores.{storesMade, stateAfter};
 ghost use Rattle.refinement.specs.Calls.{asked, commitOf};
 ghost use Rattle.answers.specs.declared.Answer.the-variants.{Taken};
 ghost use Rattle.answers.specs.Answers.{numberOf};
 ghost use Rattle.op_stores.specs.Asks.{Allowed};
 ghost use Rattle.op_stores.specs.Started.{Started};
-ghost use Rattle.state_words.specs.Decoded.{decoded};
+ghost use Rattle.state_words.specs.Decoded.{decoded, placesOf};
 ghost use Rattle.call_commit.specs.Commits.{Commits};
 use answers::Answer;
 use layout::Sizes;
@@ -100,14 +102,20 @@ fn commit_narrow(
     Answer::Taken(n)
 }
 
-// Commits, and goes on with it as far as is said. The wide writer's commit is a copying. A call that is turned back changes no word.
-pub fn commit(image: &mut [u8], words: &mut [u64; 256], writer: usize, until: Until) -> Answer
+// Commit on a state that row 8 accepts.
+pub fn commit_valid(
+    image: &mut [u8],
+    z: Sizes,
+    at: Places,
+    words: &mut [u64; 256],
+    writer: usize,
+    until: Until,
+) -> Answer
+    requires { ⌜ (z ≡ decoded (now words) .sizes) × (at ≡ placesOf (decoded (now words))) × (stateOk (decoded (now words)) ≡ true) ⌝ }
     ensures started { λ r. ⌜ Started r (decoded (now (words .exit))) (now (image .exit))
         (commitOf (decoded (now (words .entry))) (now (image .entry)) writer) (now (image .entry)) until ⌝ }
     ensures words { λ r. ⌜ ((numberOf r ≡ 0 → ⊥) → now (words .exit) ≡ now (words .entry)) ⌝ }
 {
-    let z = state_words::sizes_in(words);
-    let at = state_words::places_in(words);
     let row = call_rows::commit_row(z, at, words, writer, image.len());
     if row != 0 {
         return answers::answer_of(row, 0);
@@ -116,4 +124,18 @@ pub fn commit(image: &mut [u8], words: &mut [u64; 256], writer: usize, until: Un
         return op_stores::ask(image, z, at, words, Op::Copy, until);
     }
     commit_narrow(image, z, at, words, writer, until)
+}
+
+// Commits, and goes on with it as far as is said. The wide writer's commit is a copying. A call that is turned back changes no word.
+pub fn commit(image: &mut [u8], words: &mut [u64; 256], writer: usize, until: Until) -> Answer
+    ensures started { λ r. ⌜ Started r (decoded (now (words .exit))) (now (image .exit))
+        (commitOf (decoded (now (words .entry))) (now (image .entry)) writer) (now (image .entry)) until ⌝ }
+    ensures words { λ r. ⌜ ((numberOf r ≡ 0 → ⊥) → now (words .exit) ≡ now (words .entry)) ⌝ }
+{
+    let z = state_words::sizes_in(words);
+    let at = state_words::places_in(words);
+    if !state_rules::state_ok(z, at, words) {
+        return Answer::BadState;
+    }
+    commit_valid(image, z, at, words, writer, until)
 }

@@ -21,14 +21,15 @@ use Rattle.refinement.proofs.Quiet.{Busy, busy}
 use Rattle.refinement.proofs.Steps.{run-image, run-after}
 use Rattle.answers.specs.declared.Answer.{Answer}
 use Rattle.answers.specs.declared.Answer.the-variants.{Taken}
-use Rattle.answers.specs.Answers.{asAnswer, answeredAt}
+use Rattle.answers.specs.Answers.{asAnswer, numberOf, answeredAt}
+use Rattle.refinement.specs.Outcome.{Outcome}
 use Rattle.answers.proofs.Answered.{row-known, refused-known}
 use Rattle.state_words.specs.Decoded.{placesOf}
 use Rattle.op_writer.specs.Served.{Served}
 use Rattle.any_order.specs.AnyOrder.{toFence}
 use Rattle.op_stores.specs.Started.{beforeFence}
 use Rattle.call_step.specs.declared.telling.NextStore.{NextStore}
-use Rattle.call_step.specs.NextStore.{beforeDeciding, nextStoreOf}
+use Rattle.call_step.specs.NextStore.{beforeDeciding, nextStoreOf, leftOf}
 use Rattle.call_step.proofs.Told.{decides-now, stops-where-it-decides}
 
 module _ (st : State) (img : List ℕ) (row : ℕ) (e : row ≡ refusal (busyRows st (length img))) where
@@ -43,6 +44,14 @@ module _ (st : State) (img : List ℕ) (row : ℕ) (e : row ≡ refusal (busyRow
   next-refused n a h =
       let f : eqb (stepRow st img) 0 ≡ false = ne-eqb (stepRow st img) 0 (λ q. n (e ∙ q)) in
       row-no (eqb (stepRow st img) 0) _ _ _ f (ap (λ (x : Answer). record { answer = x; at = 0; decides = false; before = 0 }) (h ∙ ap (λ (r : ℕ). asAnswer r 0) e))
+
+  pub refused-number : (row ≡ 0 → ⊥) → (a : Answer) → a ≡ asAnswer row 0 → numberOf a ≡ 0 → ⊥
+  refused-number n a h z =
+      let low : row ≤ 30 = rw e (row-known (stepRows st img) (omega arith)) in
+      n (sym (ap (λ (o : Outcome). o .number) (refused-known a row st low h)) ∙ z)
+
+  pub none-left : (row ≡ 0 → ⊥) → 0 ≡ leftOf st img
+  none-left n = let f : eqb (stepRow st img) 0 ≡ false = ne-eqb (stepRow st img) 0 (λ q. n (e ∙ q)) in rw f
 
   module _ (none : row ≡ 0) where
     taken : stepRow st img ≡ 0
@@ -71,3 +80,6 @@ module _ (st : State) (img : List ℕ) (row : ℕ) (e : row ≡ refusal (busyRow
         let same : before ≡ beforeDeciding st = q ∙ stops-where-it-decides st low in
         let d : eqb before 0 ≡ toFence st (st .pending .op) = decides-now st (needs st (st .pending .op)) refl low before same in
         rw (taken, p, ← d, ← same)
+
+    pub all-left : (n : ℕ) → n ≡ left st → n ≡ leftOf st img
+    all-left n q = rw taken q

@@ -31,6 +31,10 @@ nextStoreOf st img =
     })
     (record { answer = asAnswer (stepRow st img) 0; at = 0; decides = false; before = 0 })
 
+-- how many stores are left, none where the call is turned back
+abbrev pub leftOf : State → List ℕ → ℕ
+leftOf st img = cond (eqb (stepRow st img) 0) (left st) 0
+
 -- where a call that is told to stop before a fence stops is where the theorem over memory in any order wants one
 abbrev pub StopsWhereItDecides : Type 0
 StopsWhereItDecides = (st : State) → st .pending .made < needs st (st .pending .op) → beforeFence st ≡ beforeDeciding st

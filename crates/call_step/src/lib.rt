@@ -1,4 +1,5 @@
 // Step makes one store of what is pending; run makes at most k; next_store tells of the next one.
+mod ranges;
 mod telling;
 
 ghost use mathlib.Core.Path.{_≡_};
@@ -6,6 +7,8 @@ ghost use Rattle.refinement.specs.Calls.{stepOf, stepBytes, runOf, runBytes};
 ghost use Rattle.answers.specs.Answers.{numberOf, answeredAt};
 ghost use Rattle.state_words.specs.Decoded.{decoded};
 use answers::Answer;
+pub use ranges::NextRange;
+pub use ranges::next_range;
 pub use telling::NextStore;
 pub use telling::next_store;
 

@@ -16,24 +16,6 @@ pub struct NextStore {
 pub fn next_store(image: &[u8], words: &[u64; 256]) -> NextStore
     ensures { λ r. ⌜ r ≡ nextStoreOf (decoded (now (words .entry))) (now (image .entry)) ⌝ }
 {
-    let z = state_words::sizes_in(words);
-    let at = state_words::places_in(words);
-    let row = call_rows::busy_row(z, at, words, image.len());
-    if row != 0 {
-        let answer = answers::answer_of(row, 0);
-        return NextStore {
-            answer,
-            at: 0,
-            decides: false,
-            before: 0,
-        };
-    }
-    let place = op_stores::next_place(image, z, at, words);
-    let before = op_stores::stores_before_fence(z, at, words);
-    NextStore {
-        answer: Answer::Taken(0),
-        at: place,
-        decides: before == 0,
-        before,
-    }
+    let told = crate::next_range(image, words);
+    told.next
 }

@@ -1,6 +1,6 @@
 // What a write finds before it is taken: the row that turns it back, or the frames of its page and its line and whether the writer holds the line.
 ghost use mathlib.Core.Path.{_≡_};
-ghost use mathlib.Core.Bool.{false, _&&_};
+ghost use mathlib.Core.Bool.{true, false, _&&_};
 ghost use Prim.Native.Nat.{_+_, _<_, _≤_};
 ghost use lib.Dec.{ltb};
 ghost use lib.ListN.{length};
@@ -8,6 +8,7 @@ ghost use Rattle.layout.specs.Layout.{Legal, imageLength};
 ghost use Rattle.masks.specs.Lines.{inMask};
 ghost use Rattle.image.specs.Lines.{merged, mergeChanges, lineWords};
 ghost use Rattle.state.specs.Held.{heldAt};
+ghost use Rattle.validity.specs.Validity.{stateOk};
 ghost use Rattle.call_write.specs.Found.{WriteFound, SeenLow, foundLine};
 ghost use Rattle.state_words.specs.Decoded.{decoded, placesOf};
 ghost use Rattle.call_write.specs.Finding.{FramesIn, EntryIn};
@@ -111,7 +112,7 @@ fn entry_found(image: &[u8], z: Sizes, at: Places, words: &[u64; 256], a: Span) 
     }
 }
 
-// All rows of a write, and what it then finds.
+// All rows of a write on a state that row 8 accepts, and what it then finds.
 pub fn write_found(
     image: &[u8],
     z: Sizes,
@@ -121,11 +122,11 @@ pub fn write_found(
     a: Span,
     data: &[u8],
 ) -> Found
-    requires { ⌜ (z ≡ decoded (now words) .sizes) × (at ≡ placesOf (decoded (now words))) ⌝ }
+    requires { ⌜ (z ≡ decoded (now words) .sizes) × (at ≡ placesOf (decoded (now words))) × (stateOk (decoded (now words)) ≡ true) ⌝ }
     ensures { λ r. ⌜ WriteFound (decoded (now (words .entry))) (now (image .entry)) writer (a .page) (a .line) (a .offset)
         (a .length) (now («data» .entry)) r ⌝ }
 {
-    let row = call_rows::quiet_row(z, at, words, image.len());
+    let row = call_rows::valid_row(z, words, image.len());
     if row != 0 {
         return turned_back(row);
     }

@@ -1,15 +1,17 @@
 // Write, on a state in words.
 pub mod found;
 
+ghost use mathlib.Core.Bool.{true};
 ghost use mathlib.Core.Path.{_≡_};
 ghost use lib.ListN.{replicate};
 ghost use Rattle.state.specs.declared.Op.the-variants.{Write, Log};
 ghost use Rattle.operations.specs.Operations.{needs};
+ghost use Rattle.validity.specs.Validity.{stateOk};
 ghost use Rattle.refinement.specs.Stores.{storesMade, stateAfter};
 ghost use Rattle.refinement.specs.Calls.{writeOf};
 ghost use Rattle.answers.specs.declared.Answer.the-variants.{Taken};
 ghost use Rattle.answers.specs.Answers.{numberOf};
-ghost use Rattle.state_words.specs.Decoded.{decoded};
+ghost use Rattle.state_words.specs.Decoded.{decoded, placesOf};
 ghost use Rattle.state_pending.specs.Put.{withPending};
 ghost use Rattle.op_stores.specs.Asks.{Asks};
 ghost use Rattle.op_stores.specs.Started.{budget, Started};
@@ -88,6 +90,40 @@ fn put_line(
     Answer::Taken(8)
 }
 
+// Write on a state that row 8 accepts.
+pub fn write_valid(
+    image: &mut [u8],
+    z: Sizes,
+    at: Places,
+    words: &mut [u64; 256],
+    writer: usize,
+    span: Span,
+    data: &[u8],
+    until: Until,
+) -> Answer
+    requires { ⌜ (z ≡ decoded (now words) .sizes) × (at ≡ placesOf (decoded (now words))) × (stateOk (decoded (now words)) ≡ true) ⌝ }
+    ensures started { λ r. ⌜ Started r (decoded (now (words .exit))) (now (image .exit))
+        (writeOf (decoded (now (words .entry))) (now (image .entry)) writer (span .page) (span .line) (span .offset)
+        (span .length) (now («data» .entry))) (now (image .entry)) until ⌝ }
+    ensures words { λ r. ⌜ ((numberOf r ≡ 0 → ⊥) → now (words .exit) ≡ now (words .entry)) ⌝ }
+{
+    let found = found::write_found(image, z, at, words, writer, span, data);
+    if found.row != 0 {
+        return answers::answer_of(found.row, 0);
+    }
+    let merged = found::merged(image, z, found, span.line, span.offset, data, span.length);
+    if found.held & !merged.changed {
+        return Answer::Taken(0);
+    }
+    let line = merged.words;
+    if found.wide {
+        let p = pending(wide(span), line, found.frame);
+        return op_stores::start(image, z, at, words, p, until);
+    }
+    let p = pending(narrow(writer, span), line, found.frame);
+    put_line(image, z, at, words, writer, span, p, until)
+}
+
 // Writes the data's first bytes, and goes on with the write as far as is said. It makes no stores if the writer holds the line and no byte of it changes. A
 // call that is turned back changes no word.
 pub fn write(
@@ -105,19 +141,8 @@ pub fn write(
 {
     let z = state_words::sizes_in(words);
     let at = state_words::places_in(words);
-    let found = found::write_found(image, z, at, words, writer, span, data);
-    if found.row != 0 {
-        return answers::answer_of(found.row, 0);
+    if !state_rules::state_ok(z, at, words) {
+        return Answer::BadState;
     }
-    let merged = found::merged(image, z, found, span.line, span.offset, data, span.length);
-    if found.held & !merged.changed {
-        return Answer::Taken(0);
-    }
-    let line = merged.words;
-    if found.wide {
-        let p = pending(wide(span), line, found.frame);
-        return op_stores::start(image, z, at, words, p, until);
-    }
-    let p = pending(narrow(writer, span), line, found.frame);
-    put_line(image, z, at, words, writer, span, p, until)
+    write_valid(image, z, at, words, writer, span, data, until)
 }

@@ -12,23 +12,12 @@ fn eight(a: usize, b: usize, w: [u64; 8]) {
     out::end();
 }
 
+// Frame 0 starts at byte 192.
 fn put(image: &mut [u8; 12480], l: usize, k: usize, v: u64)
     requires { ⌜ l < 64 ⌝ }
     requires { ⌜ k < 8 ⌝ }
 {
-    image::store_line_word(
-        image,
-        Sizes {
-            pages: 2,
-            slots: 1,
-            places: 2,
-            entries: 0,
-        },
-        0,
-        l,
-        k,
-        v,
-    );
+    words::put_word(image, 192 + 64 * l + 8 * k, v);
 }
 
 fn read(image: &[u8; 12480], f: usize, l: usize, target: &mut [u8; 64])
@@ -99,21 +88,19 @@ fn merge(image: &[u8; 12480], offset: usize, n: usize)
     lay(image, offset, n, &s);
 }
 
+// Frame 2 starts at byte 8,384.
+fn put_line(image: &mut [u8; 12480], l: usize, target: &[u8; 64])
+    requires { ⌜ l < 64 ⌝ }
+{
+    runs::copy_words(target, 0, image, 8384 + 64 * l, 8);
+}
+
 fn copy(image: &mut [u8; 12480], l: usize)
     requires { ⌜ l < 64 ⌝ }
 {
-    lines::copy_line(
-        image,
-        Sizes {
-            pages: 2,
-            slots: 1,
-            places: 2,
-            entries: 0,
-        },
-        0,
-        2,
-        l,
-    );
+    let mut target = [0u8; 64];
+    read(image, 0, l, &mut target);
+    put_line(image, l, &target);
     line(image, 2, l);
 }
 

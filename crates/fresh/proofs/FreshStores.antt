@@ -1,5 +1,5 @@
 -- Format store by store: where a store goes, what the stores so far leave of a word, and what all of them come to.
-use Prim.Native.Nat.{ℕ, zero, suc, _+_, _-_, _*_, _^_, _≤_, _<_}
+use Prim.Native.Nat.{ℕ, zero, suc, _+_, _-_, _*_, _≤_, _<_}
 use mathlib.Core.Path.{_≡_, refl, sym, ap, ap₂, _∙_}
 use mathlib.Core.List.{List}
 use native.Mathlib.Omega.{arith}
@@ -17,7 +17,7 @@ use Rattle.layout.specs.Layout.{Legal, layoutOf, layoutWord, imageWords, imageL
 use Rattle.words.specs.Words.{Bytes, word, store, flat, over, putWord, putWords}
 use Rattle.words.proofs.WordLaws.{word-store, word-store-other, length-store, bytes-store, store-store, store-comm, drop-store}
 use Rattle.fresh.specs.Fresh.{freshHeader, freshWords, freshWord, formatAt, formatValue, formatStores, formatted}
-use Rattle.fresh.proofs.FreshWords.{low-fresh, length-fresh, fresh-header}
+use Rattle.fresh.proofs.FreshWords.{length-fresh, fresh-header}
 use Rattle.fresh.proofs.Puts.{puts-none, puts-turn, words-over}
 
 -- ---- where a store goes, and its value
@@ -68,12 +68,6 @@ module _ (z : Sizes) (g : Legal z) where
       caseOn (leb i 3)
       (λ q. omega (arith, e, leb-true i 3 q, low-at z i some (leb-true i 3 q) (omega arith)))
       (λ q. omega (arith, e, leb-false i 3 q, high-at z i (leb-false i 3 q) low))
-
-  pub format-low : (i : ℕ) → formatValue z i < 2 ^ 64
-  format-low i =
-      caseOn (eqb i 0)
-      (λ t. rw (eqb-true i 0 t, first-value z) (omega arith))
-      (λ t. rw (later-value z i (omega (arith, eqb-false i 0 t))) (low-fresh z g (formatAt z i)))
 
   pub fresh-layout : freshWord z 3 ≡ layoutOf z
   fresh-layout = fresh-header z g 3 (omega arith)

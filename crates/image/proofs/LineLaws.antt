@@ -1,28 +1,26 @@
--- Lines of the frames: as parts of a frame, by their words, with data laid over them, and copied.
-use mathlib.Core.Path.{_≡_, refl, sym, ap, _∙_}
+-- Lines of the frames: as parts of a frame, by their words, and with data laid over them.
+use mathlib.Core.Path.{_≡_, sym, ap, _∙_}
 use mathlib.Core.Bool.{false, not}
 use mathlib.Core.List.{List, _++_}
 use mathlib.Core.Logic.{_⊎_}
-use Prim.Native.Nat.{ℕ, zero, suc, _+_, _-_, _*_, _≤_, _<_}
+use Prim.Native.Nat.{ℕ, _+_, _-_, _*_, _≤_, _<_}
 use native.Mathlib.Omega.{arith}
 use lib.Dec.{eqb}
 use lib.ListN.{length, take, drop, getD, length-take, length-drop}
 use lib.Seq.{length-take-le, getD-take, take-all, ext-getD}
 use borrow.Author.Tests.{eqb-true, eq-eqb, not-false}
-use Rattle.bounded.specs.Below.{upTo}
 use Rattle.bounded.specs.Tab.{tab}
-use Rattle.bounded.proofs.Below.{split-below, none-at, none-made, up-keeps}
+use Rattle.bounded.proofs.Below.{none-at, none-made}
 use Rattle.bounded.proofs.Tab.{tab-ext}
 use Rattle.bounded.proofs.Tests.{caseOn}
 use Rattle.layout.specs.declared.Sizes.{Sizes}
 use Rattle.words.specs.Words.{part, over, wordAt, word, Bytes, flat}
 use Rattle.layout.specs.Layout.{frames, lineWord, imageLength}
-use Rattle.image.specs.Lines.{lineBytes, merged, differ, mergeChanges, lineWords, copyStore, copyStores}
+use Rattle.image.specs.Lines.{lineBytes, merged, differ, mergeChanges, lineWords}
 use Rattle.words.proofs.Bytes.{bytes-take}
 use Rattle.words.proofs.Parts.{length-part, part-part, length-over, bytes-over, getD-over, getD-over-other, over-whole, over-back, copied}
-use Rattle.words.proofs.WordLaws.{word-part, word-lt, word-store, word-store-other, length-store, bytes-store}
+use Rattle.words.proofs.WordLaws.{word-part}
 use Rattle.words.proofs.Runs.{length-words, flat-words, words-tab}
-use Rattle.layout.proofs.LayoutLaws.{line-apart}
 
 -- ---- a frame's bytes, cut out of the image
 
@@ -143,53 +141,3 @@ module _ (line : List ℕ) (offset n : ℕ) (bytes : List ℕ) (sized : length l
       let ld : length (take (offset + n - offset) (drop offset w)) ≡ length (take (n - 0) bytes) = simp (length-take, length-drop) (omega arith) in
       let y′ : y ≡ take n bytes = q ∙ copied (take (n - 0) bytes) (take (offset + n - offset) (drop offset w)) ld ∙ ap (λ (m : ℕ). take m bytes) s in
       over-back w offset (offset + n) y′ (omega (arith, laid-length)) ∙ ap (λ (t : List ℕ). over t offset (take n bytes)) w′
-
--- ---- a line copied, after the first n of its eight stores
-
-pub bytes-copies : (z : Sizes) (from to l n : ℕ) (img : List ℕ) → Bytes img → Bytes (copyStores z from to l n img)
-bytes-copies z from to l n img b =
-    up-keeps Bytes (copyStore z from to l) n img (λ k y _ h. bytes-store y (lineWord z to l + k) (word y (lineWord z from l + k)) h) b
-
-module _ (z : Sizes) (from to l : ℕ) (in-frames : to < frames z) (in-frame : l < 64) (img : List ℕ) (whole : imageLength z ≤ length img) where
-  pub length-copies : (n : ℕ) → n ≤ 8 → length (copyStores z from to l n img) ≡ length img
-  unfolding upTo
-  length-copies zero h = refl
-  length-copies (suc n) h =
-      let m : length (copyStores z from to l n img) ≡ length img = length-copies n (omega arith) in
-      length-store (copyStores z from to l n img) (lineWord z to l + n) _ (omega arith) ∙ m
-
-  pub word-copies-other : (n j : ℕ) → n ≤ 8 → ((k : ℕ) → k < n → lineWord z to l + k ≡ j → ⊥) → word (copyStores z from to l n img) j ≡ word img j
-  unfolding upTo
-  word-copies-other zero j h ne = refl
-  word-copies-other (suc n) j h ne =
-      let m : length (copyStores z from to l n img) ≡ length img = length-copies n (omega arith) in
-      word-store-other (copyStores z from to l n img) (lineWord z to l + n) _ j (omega arith) (ne n (omega arith))
-      ∙ word-copies-other n j (omega arith) (λ k p. ne k (omega arith))
-
-  module _ (b : Bytes img) (apart : from ≡ to → ⊥) where
-    -- the source is as it was
-    word-source : (n k : ℕ) → n ≤ 8 → k < 8 → word (copyStores z from to l n img) (lineWord z from l + k) ≡ word img (lineWord z from l + k)
-    word-source n k h p =
-        word-copies-other n (lineWord z from l + k) h (λ j q e. apart (sym (line-apart z to l j from l k in-frame in-frame (omega arith) p e .0)))
-
-    pub word-copies : (n k : ℕ) → n ≤ 8 → k < n → word (copyStores z from to l n img) (lineWord z to l + k) ≡ word img (lineWord z from l + k)
-    unfolding upTo
-    word-copies zero k h p = absurd (omega arith)
-    word-copies (suc n) k h p =
-        let y : List ℕ = copyStores z from to l n img in
-        let m : length y ≡ length img = length-copies n (omega arith) in
-        split-below p
-        (λ q.
-        rw q
-        (word-store y (lineWord z to l + n) (word y (lineWord z from l + n)) (omega arith) (word-lt y (lineWord z from l + n) (bytes-copies z from to l n img b))
-        ∙ word-source n n (omega arith) (omega arith)))
-        (λ q.
-        word-store-other y (lineWord z to l + n) (word y (lineWord z from l + n)) (lineWord z to l + k) (omega arith) (λ e. omega arith)
-        ∙ word-copies n k (omega arith) q)
-
-    -- after all eight the target's line is the source's
-    pub line-copied : from < frames z → lineBytes (copyStores z from to l 8 img) z to l ≡ lineBytes img z from l
-    line-copied h =
-        let m : length (copyStores z from to l 8 img) ≡ length img = length-copies 8 (omega arith) in
-        line-ext (copyStores z from to l 8 img) img z to l from l (bytes-copies z from to l 8 img b) b in-frames in-frame h in-frame (omega arith) whole
-        (λ k p. word-copies 8 k (omega arith) p)

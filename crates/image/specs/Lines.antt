@@ -1,13 +1,13 @@
--- Lines of 64 bytes: a line's bytes, a line with data laid over it, and a line copied word by word.
-use Prim.Native.Nat.{ℕ, _+_, _*_}
+-- Lines of 64 bytes: a line's bytes, and a line with data laid over it.
+use Prim.Native.Nat.{ℕ, _*_}
 use mathlib.Core.Bool.{Bool, not}
 use mathlib.Core.List.{List}
 use lib.Dec.{eqb}
 use lib.ListN.{take, getD}
-use Rattle.bounded.specs.Below.{someBelow, upTo}
+use Rattle.bounded.specs.Below.{someBelow}
 use Rattle.layout.specs.declared.Sizes.{Sizes}
 use Rattle.layout.specs.Layout.{lineWord}
-use Rattle.words.specs.Words.{part, over, word, store, wordsAt}
+use Rattle.words.specs.Words.{part, over, wordsAt}
 
 -- the 64 bytes of line l of frame f
 abbrev pub lineBytes : List ℕ → Sizes → ℕ → ℕ → List ℕ
@@ -28,11 +28,3 @@ mergeChanges line offset n bytes = differ 64 (merged line offset n bytes) line
 -- the eight words of a line
 abbrev pub lineWords : List ℕ → List ℕ
 lineWords line = wordsAt line 0 8
-
--- store k of the eight that copy a line from one frame to another
-abbrev pub copyStore : Sizes → ℕ → ℕ → ℕ → ℕ → List ℕ → List ℕ
-copyStore z from to l k img = store img (lineWord z to l + k) (word img (lineWord z from l + k))
-
--- the first n of them
-abbrev pub copyStores : Sizes → ℕ → ℕ → ℕ → ℕ → List ℕ → List ℕ
-copyStores z from to l n img = upTo n (copyStore z from to l) img

@@ -1,11 +1,10 @@
-// Words of the lines of the frames. A reader or writer is passed one frame's 4,096 bytes, cut out of the image.
+// Words of the lines of the frames. A reader is passed one frame's 4,096 bytes, cut out of the image.
 ghost use mathlib.Core.Path.{_≡_};
 ghost use mathlib.Core.Logic.{_⊎_};
 ghost use Prim.Native.Nat.{_+_, _*_, _≤_, _<_};
 ghost use lib.ListN.{length};
-ghost use Rattle.words.specs.Words.{wordAt, putWord, word, store, part};
+ghost use Rattle.words.specs.Words.{wordAt, word, part};
 ghost use Rattle.layout.specs.Layout.{Legal, frames, lineWord, imageLength};
-ghost use Rattle.image.specs.Lines.{copyStore};
 use layout::Sizes;
 
 // One frame's bytes.
@@ -25,36 +24,10 @@ fn frame_line_word(frame: &[u8], l: usize, k: usize) -> u64
     words::word_at(frame, 64 * l + 8 * k)
 }
 
-// Stores v as word k of line l of a frame.
-fn put_frame_line_word(frame: &mut [u8], l: usize, k: usize, v: u64)
-    requires { ⌜ (length (now frame) ≡ 4096) × (l < 64) × (k < 8) ⌝ }
-    ensures { λ _. ⌜ now (frame .exit) ≡ putWord (now (frame .entry)) (64 * l + 8 * k) v ⌝ }
-{
-    words::put_word(frame, 64 * l + 8 * k, v);
-}
-
 // Word k of line l of frame f of an image.
 pub fn read_line_word(image: &[u8], z: Sizes, f: usize, l: usize, k: usize) -> u64
     requires { ⌜ Legal z × (f < frames z) × (l < 64) × (k < 8) × (imageLength z ≤ length (now image)) ⌝ }
     ensures { λ r. ⌜ r ≡ word (now (image .entry)) (lineWord z f l + k) ⌝ }
 {
     frame_line_word(frame(image, z, f), l, k)
-}
-
-// Stores v as word k of line l of frame f of an image.
-pub fn store_line_word(image: &mut [u8], z: Sizes, f: usize, l: usize, k: usize, v: u64)
-    requires { ⌜ Legal z × (f < frames z) × (l < 64) × (k < 8) × (imageLength z ≤ length (now image)) ⌝ }
-    ensures { λ _. ⌜ now (image .exit) ≡ store (now (image .entry)) (lineWord z f l + k) v ⌝ }
-{
-    let at = 8 * layout::line_word(z, f, 0);
-    put_frame_line_word(&mut image[at..at + 4096], l, k, v);
-}
-
-// Store k of the eight that copy line l from one frame to another.
-pub fn copy_line_word(image: &mut [u8], z: Sizes, from: usize, to: usize, l: usize, k: usize)
-    requires { ⌜ Legal z × (from < frames z) × (to < frames z) × (l < 64) × (k < 8) × (imageLength z ≤ length (now image)) ⌝ }
-    ensures { λ _. ⌜ now (image .exit) ≡ copyStore z from to l k (now (image .entry)) ⌝ }
-{
-    let v = read_line_word(image, z, from, l, k);
-    store_line_word(image, z, to, l, k, v);
 }

@@ -106,9 +106,6 @@ module _ (z : Sizes) (legal : Legal z) where
   pub pos-lt : (from i : ℕ) → position z from i < 2 * z .places
   pos-lt from i = mod-lt (from + i) (omega arith)
 
-  pub live-lt : (head tail : ℕ) → liveCount z head tail < 2 * z .places
-  live-lt head tail = mod-lt (head + 2 * z .places - tail) (omega arith)
-
   -- the positions counted from tail on: n of them end at the n-th, and the n-th is as far as they count
   pub live-of : (tail n : ℕ) → tail < 2 * z .places → n < 2 * z .places → liveCount z (position z tail n) tail ≡ n
   live-of tail n p q = mod-forth tail n (2 * z .places) p q

@@ -34,12 +34,6 @@ place-lt z h q = mod-lt q (omega arith)
 pub page-end : (z : Sizes) (p : ℕ) → p < z .pages → pageWord p < slotWord z 0
 page-end z p h = omega arith
 
-pub slot-end : (z : Sizes) (s : ℕ) → s < z .slots → slotWord z s + 3 ≤ slotWord z (z .slots)
-slot-end z s h = omega arith
-
-pub record-start : (z : Sizes) (q : ℕ) → slotWord z (z .slots) ≤ recordWord z q
-record-start z q = omega arith
-
 pub record-end : (z : Sizes) → Legal z → (q : ℕ) → recordWord z q + 4 ≤ paddingWord z
 record-end z h q = omega (arith, place-lt z h q)
 
@@ -52,10 +46,6 @@ line-end z f l h k = omega arith
 
 pub entry-end : (z : Sizes) (e : ℕ) → e < z .entries → entryWord z e + 9 ≤ imageWords z
 entry-end z e h = omega arith
-
--- the largest image: no sum of places in it wraps
-pub image-words : (z : Sizes) → Legal z → imageWords z ≤ 535160
-image-words z h = omega arith
 
 pub image-length : (z : Sizes) → Legal z → imageLength z ≤ 4281280
 image-length z h = omega arith

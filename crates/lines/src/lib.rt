@@ -1,23 +1,13 @@
-// Whole lines of the frames: copied, read, and merged with data.
+// Whole lines of the frames: read, and merged with data.
 ghost use mathlib.Core.Path.{_≡_};
 ghost use Prim.Native.Nat.{_+_, _≤_, _<_};
-ghost use lib.ListN.{length};
+ghost use mathlib.Core.Bool.{not};
+ghost use lib.Dec.{eqb};
+ghost use lib.ListN.{length, getD};
 ghost use Rattle.words.specs.Words.{part, over};
 ghost use Rattle.layout.specs.Layout.{Legal, frames, imageLength};
-ghost use Rattle.image.specs.Lines.{lineBytes, merged, differ, mergeChanges, lineWords, copyStores};
+ghost use Rattle.image.specs.Lines.{lineBytes, merged, differ, mergeChanges, lineWords};
 use layout::Sizes;
-
-// Copies line l from one frame to another.
-pub fn copy_line(image: &mut [u8], z: Sizes, from: usize, to: usize, l: usize)
-    requires { ⌜ Legal z × (from < frames z) × (to < frames z) × (l < 64) × (imageLength z ≤ length (now image)) ⌝ }
-    ensures { λ _. ⌜ now (image .exit) ≡ copyStores z from to l 8 (now (image .entry)) ⌝ }
-{
-    let mut k = 0;
-    while k < 8 {
-        image::copy_line_word(image, z, from, to, l, k);
-        k += 1;
-    }
-}
 
 // Copies line l of frame f to the start of target.
 pub fn read_line(image: &[u8], z: Sizes, f: usize, l: usize, target: &mut [u8])
@@ -27,18 +17,26 @@ pub fn read_line(image: &[u8], z: Sizes, f: usize, l: usize, target: &mut [u8])
     runs::copy_words(image::frame(image, z, f), 64 * l, target, 0, 8);
 }
 
+// Whether two lines differ in word k.
+fn word_differs<'a>(a: &'a [u64; 8], b: &'a [u64; 8], k: usize) -> bool
+    requires { ⌜ k < 8 ⌝ }
+    ensures { λ r. ⌜ r ≡ not (eqb (getD (now (a .entry)) k 0) (getD (now (b .entry)) k 0)) ⌝ }
+{
+    a[k] != b[k]
+}
+
 // Whether two lines differ, told by their words.
 pub fn words_differ<'a>(a: &'a [u64; 8], b: &'a [u64; 8]) -> bool
     ensures { λ r. ⌜ r ≡ differ 8 (now (a .entry)) (now (b .entry)) ⌝ }
 {
-    (a[0] != b[0])
-        | (a[1] != b[1])
-        | (a[2] != b[2])
-        | (a[3] != b[3])
-        | (a[4] != b[4])
-        | (a[5] != b[5])
-        | (a[6] != b[6])
-        | (a[7] != b[7])
+    word_differs(a, b, 0)
+        | word_differs(a, b, 1)
+        | word_differs(a, b, 2)
+        | word_differs(a, b, 3)
+        | word_differs(a, b, 4)
+        | word_differs(a, b, 5)
+        | word_differs(a, b, 6)
+        | word_differs(a, b, 7)
 }
 
 // The words of a line that data were laid over, and whether any byte changed.

@@ -36,10 +36,6 @@ pub count-lines-le : (m : ℕ) → countLines m ≤ 64
 unfolding countLines
 count-lines-le m = count-le (inMask m) 64
 
-pub count-lines : (m : ℕ) → countLines m ≡ length (linesIn m)
-unfolding linesIn countLines
-count-lines m = sym (length-those (inMask m) 64)
-
 -- the lines in a set and the lines that are not are 64
 pub count-lines-not : (m : ℕ) → countLines m + length (linesNotIn m) ≡ 64
 unfolding linesNotIn countLines

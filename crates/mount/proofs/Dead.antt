@@ -4,7 +4,6 @@
 use Prim.Native.Nat.{ℕ, zero, suc, _+_, _*_, _≤_, _<_}
 use mathlib.Core.Path.{_≡_, refl, sym, ap, _∙_, subst}
 use mathlib.Core.List.{List}
-use mathlib.Core.Logic.{_⊎_, ⊎-elim}
 use native.Mathlib.Omega.{arith}
 use lib.ListN.{length}
 use Rattle.bounded.specs.Below.{upTo}
@@ -14,17 +13,11 @@ use Rattle.words.proofs.WordLaws.{word-store-other, length-store, store-same}
 use Rattle.layout.proofs.LayoutLaws.{place-lt}
 use Rattle.journal.specs.Records.{position}
 use Rattle.replay.specs.Table.{noPosition, lastIn, slotOf}
-use Rattle.mount.specs.Mount.{mountOf}
 use Rattle.journal.proofs.Ring.{Positions, new-apart}
-use Rattle.mount.proofs.View.{View, live, viewOf, Shows, Read, header, wide, journal, slot, page, entry, Agree, same-view}
-use Rattle.mount.proofs.Verdict.{equal-views}
+use Rattle.mount.proofs.View.{View, live, viewOf, Shows, Read, header, wide, journal, slot, page, entry, same-view}
 
 abbrev pub Dead : View → ℕ → Type 0
 Dead v a = Read v a → ⊥
-
--- words that differ only where they are dead agree on what mount reads
-pub agree-dead : (v : View) (r r′ : ℕ → ℕ) → ((a : ℕ) → (r a ≡ r′ a) ⊎ Dead v a) → Agree v r r′
-agree-dead v r r′ h a q = ⊎-elim (λ e. e) (λ d. absurd (d q)) (h a)
 
 -- ---- a store to a dead word
 
@@ -34,9 +27,6 @@ module _ (img : List ℕ) (v : View) (shows : Shows img v) (a w : ℕ) (fits : 8
       sym (same-view (word img) (word (store img a w)) (λ b q.
       sym (word-store-other img a w b fits (λ e. dead (subst (λ (u : View). Read u a) shows (subst (Read (viewOf (word img))) (sym e) q))))))
       ∙ shows
-
-  pub dead-mount : mountOf (store img a w) ≡ mountOf img
-  dead-mount = equal-views (store img a w) img v (length-store img a w fits) dead-view shows
 
 -- stores to dead words, one after the other, each of a value that may be read from the image as it then is
 abbrev pub stores : ℕ → (ℕ → ℕ) → (ℕ → List ℕ → ℕ) → List ℕ → List ℕ
@@ -49,15 +39,6 @@ module _ (a : ℕ → ℕ) (w : ℕ → List ℕ → ℕ) (img : List ℕ) where
   length-stores (suc n) h =
       let k : length (stores n a w img) ≡ length img = length-stores n (λ i l. h i (omega arith)) in
       length-store (stores n a w img) (a n) (w n (stores n a w img)) (omega (arith, h n (omega arith))) ∙ k
-
-  pub dead-stores : (n : ℕ) (v : View) → Shows img v → ((i : ℕ) → i < n → 8 * a i + 8 ≤ length img) → ((i : ℕ) → i < n → Dead v (a i))
-      → Shows (stores n a w img) v
-  unfolding upTo
-  dead-stores zero v shows h d = shows
-  dead-stores (suc n) v shows h d =
-      let k : length (stores n a w img) ≡ length img = length-stores n (λ i l. h i (omega arith)) in
-      dead-view (stores n a w img) v (dead-stores n v shows (λ i l. h i (omega arith)) (λ i l. d i (omega arith)))
-      (a n) (w n (stores n a w img)) (omega (arith, h n (omega arith))) (d n (omega arith))
 
 -- the value that a word already has
 pub store-old : (img : List ℕ) (a w : ℕ) → Bytes img → 8 * a + 8 ≤ length img → w ≡ word img a → store img a w ≡ img

@@ -1,7 +1,7 @@
 -- Mount judges the view alone: images of one length that show the same view have the same mount, and what a taken
 -- mount tells of the view.
 use Prim.Native.Nat.{ℕ, _-_, _≤_, _<_}
-use mathlib.Core.Path.{_≡_, refl, sym, ap, ap₂, _∙_}
+use mathlib.Core.Path.{_≡_, sym, ap, ap₂, _∙_}
 use mathlib.Core.Bool.{Bool, true, cond, not, _&&_, _||_}
 use mathlib.Core.List.{List, [], _∷_, _++_}
 use native.Mathlib.Omega.{arith}
@@ -28,7 +28,7 @@ use Rattle.journal.specs.Records.{position, liveCount, positionsOk, liveRecord,
 use Rattle.replay.specs.Table.{slotIn, slotsShaped, pagesApart, frameNames}
 use Rattle.mount.specs.Mount.{sizesFrom, liveFrom, countFrom, turnedBack, mountRead, mountOf}
 use Rattle.journal.proofs.Ring.{Positions, positions, positions-ok}
-use Rattle.mount.proofs.View.{View, live, viewWith, viewOf, Shows, shown, Agree, same-view}
+use Rattle.mount.proofs.View.{View, live, viewWith, viewOf, Shows, shown}
 
 -- the i-th live record
 abbrev noRecord : Record
@@ -92,10 +92,6 @@ mount-view img v shows = through-view (length img) (word img) ∙ ap (verdict (l
 
 pub equal-views : (img img′ : List ℕ) (v : View) → length img ≡ length img′ → Shows img v → Shows img′ v → mountOf img ≡ mountOf img′
 equal-views img img′ v l a b = mount-view img v a ∙ ap (λ (n : ℕ). verdict n v) l ∙ sym (mount-view img′ v b)
-
--- images of one length that agree on the words that a mount of one of them reads have the same mount
-pub same-mount : (img img′ : List ℕ) → length img ≡ length img′ → Agree (viewOf (word img)) (word img) (word img′) → mountOf img ≡ mountOf img′
-same-mount img img′ l g = equal-views img img′ (viewOf (word img′)) l (same-view (word img) (word img′) g) refl
 
 -- ---- a taken mount
 

@@ -168,6 +168,14 @@ first-place st op made bound img p eo em n =
     let some = n .some in
     from ∙ sym (n .place 0 (omega (arith, some))) ∙ ap (storeAt st img op) here ∙ ap₂ (storeAt st img) eo em
 
+-- the piece that was found with the operation as it was read is that of what is pending
+pub pending-here : (st : State) (op : Op) (made bound : ℕ) (img : List ℕ) (p : Piece) → op ≡ st .pending .op → made ≡ st .pending .made
+    → Next (λ m. storeAt st m op) (λ m. storeValue st m op) made bound img p
+    → Next (λ m. storeAt st m (st .pending .op)) (λ m. storeValue st m (st .pending .op)) (st .pending .made) bound img p
+pending-here st op made bound img p eo em n =
+    subst (λ (o : Op). Next (λ m. storeAt st m o) (λ m. storeValue st m o) (st .pending .made) bound img p) eo
+    (subst (λ (k : ℕ). Next (λ m. storeAt st m op) (λ m. storeValue st m op) k bound img p) em n)
+
 -- the piece that store i of the pending operation lies in, found with the operation as it was read, is the next of what is pending, inside the image
 pub pending-next : (z : Sizes) (st : State) (op : Op) (made i : ℕ) (img : List ℕ) (p : Piece) → op ≡ st .pending .op → made ≡ st .pending .made → imageLength z ≤ length img
     → Next (λ m. storeAt st m op) (λ m. storeValue st m op) (made + i) (imageLength z) img p

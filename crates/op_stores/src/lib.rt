@@ -22,9 +22,9 @@ use layout::Sizes;
 use state::Op;
 use state::Pending;
 use state::Places;
+pub use telling::Ahead;
 pub use telling::left_in;
-pub use telling::next_place;
-pub use telling::stores_before_fence;
+pub use telling::look_ahead;
 
 // How far a call goes with the operation that it asks for: not at all, to before the first store that decides, or to its end.
 pub enum Until {

@@ -1,4 +1,4 @@
-// What is left of the pending operation, and where its next store goes.
+// What is left of the pending operation, and what comes next.
 ghost use mathlib.Core.Path.{_≡_};
 ghost use Prim.Native.Nat.{_≤_};
 ghost use lib.ListN.{length};
@@ -6,6 +6,7 @@ ghost use Rattle.layout.specs.Layout.{imageLength};
 ghost use Rattle.refinement.specs.Stores.{storeAt, left};
 ghost use Rattle.state_words.specs.Decoded.{decoded};
 ghost use Rattle.op_writer.specs.Served.{Served};
+ghost use Rattle.op_stores.specs.Beside.{Beside};
 ghost use Rattle.op_stores.specs.Started.{beforeFence};
 use crate::making;
 use layout::Sizes;
@@ -23,24 +24,34 @@ pub fn left_in(z: Sizes, at: Places, words: &[u64; 256]) -> usize
     all - made_in(words)
 }
 
-// How many of them come before the next one that decides.
-pub fn stores_before_fence(z: Sizes, at: Places, words: &[u64; 256]) -> usize
-    requires { ⌜ Served z at (decoded (now words)) ⌝ }
-    ensures { λ r. ⌜ r ≡ beforeFence (decoded (now (words .entry))) ⌝ }
-{
-    let op = op_in(words);
-    let n = left_in(z, at, words);
-    crate::before_fence(op, made_in(words), n)
+// What comes next: the word that its next store goes to, how many stores from that one on go to words side by side (there may be more of them), how many
+// come before the next one that decides, and how many are left.
+pub struct Ahead {
+    pub at: usize,
+    pub beside: usize,
+    pub before: usize,
+    pub left: usize,
 }
 
-// The word that its next store goes to.
-pub fn next_place(image: &[u8], z: Sizes, at: Places, words: &[u64; 256]) -> usize
+// Tells what comes next.
+pub fn look_ahead(image: &[u8], z: Sizes, at: Places, words: &[u64; 256]) -> Ahead
     requires { ⌜ Served z at (decoded (now words)) × (imageLength z ≤ length (now image)) ⌝ }
-    ensures { λ r. ⌜ r ≡ storeAt (decoded (now (words .entry))) (now (image .entry)) (decoded (now (words .entry)) .pending .op)
+    ensures at { λ r. ⌜ r .at ≡ storeAt (decoded (now (words .entry))) (now (image .entry)) (decoded (now (words .entry)) .pending .op)
         (decoded (now (words .entry)) .pending .made) ⌝ }
+    ensures beside { λ r. ⌜ Beside (decoded (now (words .entry))) (now (image .entry)) (r .beside) ⌝ }
+    ensures before { λ r. ⌜ r .before ≡ beforeFence (decoded (now (words .entry))) ⌝ }
+    ensures left { λ r. ⌜ r .left ≡ left (decoded (now (words .entry))) ⌝ }
 {
     let op = op_in(words);
     let made = made_in(words);
     let p = making::next_piece(image, z, at, words, op, made);
-    p.at + p.from
+    let left = left_in(z, at, words);
+    let before = crate::before_fence(op, made, left);
+    let beside = bounded::smaller(p.count - p.from, left);
+    Ahead {
+        at: p.at + p.from,
+        beside,
+        before,
+        left,
+    }
 }

@@ -30,9 +30,6 @@ module _ (st : State) (line : List ℕ) (frame : ℕ) where
   pub needs-asked : (op o : Op) → needs (withPending st o line frame) op ≡ needs st op
   needs-asked = needs-lines st line (replicate 8 0) frame
 
-  pub rows-asked : (op o : Op) (f : ℕ) → refusal (opRows (withPending st o line frame) op f) ≡ refusal (opRows st op f)
-  rows-asked = rows-lines st line (replicate 8 0) frame
-
   pub pending-valid : (op : Op) → stateOk st ≡ true → opFits (st .wide .writer) (isFresh st) op ≡ true → refusal (opRows st op frame) ≡ 0 → 0 < needs st op → stateOk (withPending st op line frame) ≡ true
   pending-valid = lines-valid st line (replicate 8 0) frame
 

@@ -53,8 +53,3 @@ call-bytes (read w p l target) v b = b
 call-bytes (recall p l target) v b = b
 call-bytes (event ms k m a) v b = b
 call-bytes (load text) v b = b
-
-pub after-good : (cs : List Call) (v : World) → Bytes (v .image) → Good (v .st) → Good (after cs v .st)
-unfolding after
-after-good [] v b g = g
-after-good (c ∷ cs) v b g = after-good cs (exec c v .world) (call-bytes c v b) (call-good c v b g)

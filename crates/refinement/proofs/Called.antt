@@ -188,14 +188,6 @@ mount-good v b g =
     subst Good (sym k) (record { is-valid = mounted-valid (v .image) r; sized = mounted-sized (v .image) r b }))
     (λ e. subst Good (ap (λ (x : Bool). cond x (cond x (mountedState m) noState) (v .st)) (sym e)) g)
 
--- a taken format's state
-pub format-good : (z : Sizes) (buffer : List ℕ) → formatRow z buffer ≡ 0 → Good (formatCall z buffer .state)
-unfolding formatCall
-format-good z buffer r =
-    let e : sizesOk z ≡ true = not-false (sizesOk z) (none-apply (formatRows z (length buffer)) (omega arith) r .0) in
-    subst Good (ap (λ (b : Bool). cond b (freshState z) noState) (sym (eq-eqb (formatRow z buffer) 0 r)))
-    (record { is-valid = fresh-valid z e; sized = fresh-sized z e })
-
 pub call-good : (c : Call) (v : World) → Bytes (v .image) → Good (v .st) → Good (exec c v .world .st)
 unfolding exec
 call-good mount v b g = mount-good v b g

@@ -39,11 +39,6 @@ module _ (st : State) (img ms : List ℕ) (k m a : ℕ) (e : refusal (eventCallR
   pub event-moduli : moduliOk ms ≡ true
   event-moduli = not-false (moduliOk ms) (none-apply (eventCallRows st img ms k m a) (omega arith) e .1 .1 .1 .1 .1 .0)
 
--- its sizes
-pub line-sizes : (s : State) (l : ℕ) (words : List ℕ) (f : ℕ) → lineDone s l words f .sizes ≡ s .sizes
-unfolding lineDone
-line-sizes s l words f = refl
-
 pub first-sizes : (st : State) (k m : ℕ) → firstDone st k m .sizes ≡ st .sizes
 unfolding lineDone
 first-sizes st k m = refl

@@ -79,48 +79,10 @@ module _ (st : State) (g : Going st) (n : ℕ) (h : n ≤ left st) where
       let q : needs st (st .pending .op) ≡ 8 = rw e in
       omega (arith, g .made-low)
 
-  pub commit-left : {w : ℕ} → st .pending .op ≡ Commit w
-      → (st .pending .made ≤ 4 * length (commitSlots st w)) × (st .pending .made + n ≤ 4 * length (commitSlots st w) + 1)
-  unfolding needs
-  commit-left {w} e =
-      let q : needs st (st .pending .op) ≡ commitNeeds (length (commitSlots st w)) = rw e in
-      let m : commitNeeds (length (commitSlots st w)) ≤ 4 * length (commitSlots st w) + 1 = row-keeps (λ (x : ℕ). x ≤ 4 * length (commitSlots st w) + 1) (eqb (length (commitSlots st w)) 0) 0 (4 * length (commitSlots st w) + 1) (omega arith) (omega arith) in
-      (omega (arith, g .made-low), omega (arith, g .made-low))
-
   pub prepare-left : {w : ℕ} → st .pending .op ≡ Prepare w → st .pending .made + n ≤ 4 * length (commitSlots st w)
   unfolding needs
   prepare-left {w} e =
       let q : needs st (st .pending .op) ≡ 4 * length (commitSlots st w) = rw e in
-      omega (arith, g .made-low)
-
-  -- all that is left of a confirm is its one store
-  pub confirm-left : {w : ℕ} → st .pending .op ≡ Confirm w → (st .pending .made ≡ 0) × (n ≤ 1)
-  unfolding needs
-  confirm-left {w} e =
-      let c : ℕ = length (commitSlots st w) in
-      let q : needs st (st .pending .op) ≡ confirmNeeds c = rw e in
-      let m : confirmNeeds c ≤ 1 = row-keeps (λ (x : ℕ). x ≤ 1) (eqb c 0) 0 1 (omega arith) (omega arith) in
-      (omega (arith, g .made-low), omega (arith, g .made-low))
-
-  pub consolidate-left : {p : ℕ} → st .pending .op ≡ Consolidate p → st .pending .made + n ≤ copyStoreCount (pageSlot st p) + 6
-  unfolding needs
-  consolidate-left {p} e =
-      let q : needs st (st .pending .op) ≡ copyStoreCount (pageSlot st p) + 6 = rw e in
-      omega (arith, g .made-low)
-
-  pub checkpoint-left : st .pending .op ≡ Checkpoint
-      → (st .pending .made ≤ 3 * length (recordedSlots (st .sizes) (st .table .last))) × (st .pending .made + n ≤ 3 * length (recordedSlots (st .sizes) (st .table .last)) + 1)
-  unfolding needs
-  checkpoint-left e =
-      let c = length (recordedSlots (st .sizes) (st .table .last)) in
-      let q : needs st (st .pending .op) ≡ checkpointNeeds (st .head) (st .tail) c = rw e in
-      let m : checkpointNeeds (st .head) (st .tail) c ≤ 3 * c + 1 = row-keeps (λ (x : ℕ). x ≤ 3 * c + 1) (eqb (st .head) (st .tail)) 0 (3 * c + 1) (omega arith) (omega arith) in
-      (omega (arith, g .made-low), omega (arith, g .made-low))
-
-  pub event-left : {k m a : ℕ} → st .pending .op ≡ Event k m a → st .pending .made + n ≤ eventNeeds k
-  unfolding needs
-  event-left {k} e =
-      let q : needs st (st .pending .op) ≡ eventNeeds k = rw e in
       omega (arith, g .made-low)
 
 -- ---- the stores of the pending operation, its arguments known

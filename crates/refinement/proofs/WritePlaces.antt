@@ -32,8 +32,3 @@ pub write-frame-low : (z : Sizes) (t : Table) (next p l f : ℕ) → Legal z →
 write-frame-low z t next p l f h e q =
     let s = slotToWrite z (t .page) next p in
     rw q (other-low z (slotIn t s) l (slot-shaped z t s e (write-slot-low z (t .page) next p s h refl)))
-
--- a state's
-pub write-slot-of : (st : State) (p : ℕ) → slotToWrite (st .sizes) (st .table .page) (st .next) p ≡ writeSlot st p
-unfolding writeSlot
-write-slot-of st p = refl

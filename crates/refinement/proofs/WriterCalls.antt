@@ -30,9 +30,6 @@ unwide st w e l = ne-eqb (st .wide .writer) w (λ q. omega (arith, q, ltb-false 
 abbrev pub frameLine : State → List ℕ → ℕ → ℕ → ℕ → List ℕ
 frameLine st img w p l = lineBytes img (st .sizes) (seenFrame st w p l (pageFrame st img p)) l
 
-abbrev pub narrowRows : State → List ℕ → ℕ → ℕ → ℕ → ℕ → ℕ → List ℕ → List Row
-narrowRows st img w p l o n bytes = rowState st ∷ rowShort st (length img) ∷ rowPending st ∷ (ltb (length bytes) n, 11) ∷ writeRows st w p l o n (pageFrame st img p)
-
 module _ (st : State) (img : List ℕ) (w : ℕ) (other : isWide (st .wide) w ≡ false) where
   pub seen-narrow : (p l : ℕ) → seenLine st img w p l ≡ frameLine st img w p l
   seen-narrow p l = rw other
@@ -49,9 +46,6 @@ module _ (st : State) (img : List ℕ) (w : ℕ) (other : isWide (st .wide) w �
 
   pub commit-narrow : commitOp st w ≡ Commit w
   commit-narrow = ap (λ (x : Bool). cond x Copy (Commit w)) other
-
-  pub rows-narrow : (p l o n : ℕ) (bytes : List ℕ) → writeCallRows st img w p l o n bytes ≡ narrowRows st img w p l o n bytes
-  rows-narrow p l o n bytes = rw other
 
 -- no row applies, so none of those past the first ones does
 past-row : (b : Bool) (n m : ℕ) → 0 < n → cond b n m ≡ 0 → m ≡ 0

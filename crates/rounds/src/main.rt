@@ -2,7 +2,6 @@
 // of the pages as read shows them.
 mod arguments;
 mod game;
-mod room;
 
 ghost use Prim.Native.Nat.{_<_};
 use layout::Sizes;

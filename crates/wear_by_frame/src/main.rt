@@ -22,7 +22,8 @@ struct Reading {
 // No byte is read yet.
 fn begin(image: &mut [u8], words: &mut [u64; 256]) -> Reading
     ensures sound { λ r. ⌜ Sound r (now (words .exit)) ⌝ }
-    ensures shows { λ r. ⌜ ((line : List ℕ) → Shows r (now (words .exit)) (now (image .exit)) (replicate 22 0) line (nothingRead (length (now (image .entry))))) ⌝ }
+    ensures shows { λ r. ⌜ ((line : List ℕ)
+        → Shows r (now (words .exit)) (now (image .exit)) (replicate 22 0) line (nothingRead (length (now (image .entry))))) ⌝ }
 {
     let mode = wear_lines::open_input(image, words);
     Reading {

@@ -26,20 +26,30 @@ fn mount_and_run(image: &mut [u8; 25192], words: &mut [u64; 256], k: usize) {
     show_lines(image);
 }
 
-// Plays the round up to its commit, and the commit's first stores. Then power goes; what the mount finds is cut, too, and mounted again.
-fn show_cut(image: &mut [u8; 25192], words: &mut [u64; 256], cut: usize) {
+// Plays the round up to its commit.
+fn play_round(image: &mut [u8; 25192], words: &mut [u64; 256]) {
     calls::fresh(image, words);
     for k in 0..10 {
-        let row = calls::ROUND[k];
+        let row = calls::round_row(k);
         let _ = calls::made(image, words, row, (k + 1) as u8);
-        let _ = call_step::run(image, words, row[4]);
+        let _ = call_step::run(image, words, row.stores);
     }
+}
+
+// The commit's first stores: the cut, the commit's answer and the run's, and what a recall shows then.
+fn commit_and_run(image: &mut [u8; 25192], words: &mut [u64; 256], cut: usize) {
     let asked = call_commit::commit(image, words, 2, Until::Asked);
     let ran = call_step::run(image, words, cut);
     write_number(cut as u64, b",");
     write_number(shown::code(asked), b",");
     write_number(shown::code(ran), b"");
     show_lines(image);
+}
+
+// The round and its commit's first stores. Then power goes; what the mount finds is cut, too, and mounted again.
+fn show_cut(image: &mut [u8; 25192], words: &mut [u64; 256], cut: usize) {
+    play_round(image, words);
+    commit_and_run(image, words, cut);
     mount_and_run(image, words, cut % 43 * 5 % 42);
     mount_and_run(image, words, 1000);
     io::write_all(1, b",");

@@ -11,22 +11,27 @@ fn with(sum: u64, number: u64) -> u64 {
     (31 * (sum % 4294967291) + number % 4294967291) % 4294967291
 }
 
+// The numbers of a turn, and the hash of the image.
+fn show(image: &[u8; 25192], made: u64, stores: u64, recalled: u64, read: u64) {
+    write_number(made, b",");
+    write_number(stores, b",");
+    write_number(recalled, b",");
+    write_number(read, b",");
+    write_number(hashing::hash(image), b"\n");
+}
+
 // A turn, and the checksum with its numbers.
 fn turn(image: &mut [u8; 25192], words: &mut [u64; 256], place: usize, sum: u64) -> u64 {
     let row = calls::row_at(place);
     let answer = calls::made(image, words, row, (1 + place / 2 % 3) as u8);
-    let ran = call_step::run(image, words, row[4]);
+    let ran = call_step::run(image, words, row.stores);
     let made = shown::code(answer);
     let stores = shown::code(ran);
-    let recalled = shown::recalled(image, row[2], row[3]);
-    let read = shown::read(image, words, row[1], row[2], row[3]);
+    let recalled = shown::recalled(image, row.page, row.line);
+    let read = shown::read(image, words, row.writer, row.page, row.line);
     let sum = with(with(with(with(sum, made), stores), recalled), read);
     if place < calls::ROWS {
-        write_number(made, b",");
-        write_number(stores, b",");
-        write_number(recalled, b",");
-        write_number(read, b",");
-        write_number(hashing::hash(image), b"\n");
+        show(image, made, stores, recalled, read);
     }
     sum
 }

@@ -1,17 +1,17 @@
 -- Words read and stored: at a byte, as word i of an image, and in a part that is lent.
 use mathlib.Core.Path.{_≡_, sym, ap, _∙_}
-use mathlib.Core.List.{List, _++_}
+use mathlib.Core.List.{List}
 use mathlib.Core.Logic.{_⊎_, inl, inr}
 use Prim.Native.Nat.{ℕ, _+_, _-_, _*_, _^_, _≤_, _<_}
 use native.Mathlib.Nat.{pow-le-pow-right, lt-of-lt-of-le, zero-lt-suc}
 use native.Mathlib.Omega.{arith}
-use lib.ListN.{length, take, drop, length-take}
+use lib.ListN.{length, drop, length-take}
 use lib.Dec.{ltb}
 use borrow.Author.Tests.{ltb-true, ltb-false}
 use Rattle.bounded.proofs.Tests.{caseOn}
 use Rattle.words.specs.Words.{leOf, bytesOf, part, over, wordAt, putWord, word, store, Bytes}
 use Rattle.words.proofs.Bytes.{length-bytes, le-bytes, le-lt, bytes-le, bytes-bytesOf}
-use Rattle.words.proofs.Parts.{length-part, part-part, bytes-part, bytes-over, length-over, part-over, take-over, drop-over-past, part-over-other, over-same, over-again, over-comm, over-back, over-part}
+use Rattle.words.proofs.Parts.{length-part, part-part, bytes-part, bytes-over, length-over, part-over, drop-over-past, part-over-other, over-same, over-again, over-comm, over-part}
 
 -- ---- at a byte
 
@@ -83,11 +83,6 @@ store-comm l i v j w h k ne =
     over-comm l (8 * i) (bytesOf 8 v) (8 * j) (bytesOf 8 w) (put-fits l (8 * i) v h) (put-fits l (8 * j) w k)
     (rw (length-bytes 8 v, length-bytes 8 w) (sides i j ne))
 
--- what lies before a word and past it
-pub take-store : (l : List ℕ) (i v n : ℕ) → 8 * i + 8 ≤ length l → n ≤ 8 * i → take n (store l i v) ≡ take n l
-unfolding putWord
-take-store l i v n h k = take-over l (8 * i) (bytesOf 8 v) (put-fits l (8 * i) v h) n k
-
 pub drop-store : (l : List ℕ) (i v n : ℕ) → 8 * i + 8 ≤ length l → 8 * i + 8 ≤ n → drop n (store l i v) ≡ drop n l
 unfolding putWord
 drop-store l i v n h k = drop-over-past l (8 * i) (bytesOf 8 v) (put-fits l (8 * i) v h) n (rw (length-bytes 8 v) k)
@@ -101,11 +96,3 @@ word-part l a n o h k = ap leOf (part-part l a n o 8 h k)
 put-part : (l : List ℕ) (a n o v : ℕ) → o + 8 ≤ n → a + n ≤ length l → over l a (putWord (part l a n) o v) ≡ putWord l (a + o) v
 unfolding putWord
 put-part l a n o v h k = over-part l a n o (bytesOf 8 v) k (rw (length-bytes 8 v) h)
-
--- a part from a to e, lent to a writer that puts v at o of it, has come back
-pub put-back : (l : List ℕ) (a e o v : ℕ) {ys : List ℕ} → ys ≡ putWord (part l a (e - a)) o v → o + 8 ≤ e - a → e ≤ length l
-    → take a l ++ (ys ++ drop (e - a) (drop a l)) ≡ putWord l (a + o) v
-put-back l a e o v p h k =
-    let m : length (part l a (e - a)) ≡ e - a = length-part l a (e - a) (omega arith) in
-    let q : e - a ≡ length (putWord (part l a (e - a)) o v) = sym (length-put (part l a (e - a)) o v (omega arith) ∙ m) in
-    over-back l a e p q ∙ put-part l a (e - a) o v h (omega arith)

@@ -4,7 +4,7 @@
 
 use std::env;
 
-use model::calls::{begin, checkpoint, commit, consolidate, read, run, write, Patch};
+use model::calls::{begin, checkpoint, commit, free_slot, read, run, write, Patch};
 use model::layout::{Sizes, LINES};
 use model::mount::format;
 use model::refusal::{Answer, Refusal};
@@ -74,23 +74,12 @@ impl Game {
         write(&mut self.state, &self.image, (WRITER, page, line), patch)
     }
 
-    /// Consolidates the first page, in the order of the slots from the next one to try, of which no line is held.
     fn free_slot(&mut self) {
-        let freed = (0..SIZES.s).find(|i| {
-            let slot = (self.state.next + i) % SIZES.s;
-            self.consolidates(self.state.slots[slot as usize].page)
-        });
-        assert!(freed.is_some(), "two pages hold lines, of four with a slot");
-        self.run();
-    }
-
-    fn consolidates(&mut self, page: u64) -> bool {
-        let mut answer = consolidate(&mut self.state, &self.image, page);
-        if answer == Err(Refusal::JournalFull) {
+        if free_slot(&mut self.state, &self.image) == Err(Refusal::JournalFull) {
             self.empty_journal();
-            answer = consolidate(&mut self.state, &self.image, page);
+            taken(free_slot(&mut self.state, &self.image));
         }
-        answer.is_ok()
+        self.run();
     }
 
     fn empty_journal(&mut self) {

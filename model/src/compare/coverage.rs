@@ -21,12 +21,16 @@ impl Coverage {
     /// Counts what the model printed for a script.
     pub fn add(&mut self, kind: Kind, printed: &[u8]) {
         self.scripts += 1;
+        let printed = String::from_utf8_lossy(printed);
         let heading = match kind {
             Kind::Powerhit => 1,
             Kind::Probe => 0,
-            Kind::Wear => return,
+            // the 22 numbers tell no call's answer
+            Kind::Wear => {
+                self.lines += printed.lines().count() as u64;
+                return;
+            }
         };
-        let printed = String::from_utf8_lossy(printed);
         for line in printed.lines().skip(heading) {
             let mut fields = line.split(',').skip(1);
             let call = fields.next().and_then(|field| field.chars().next()).unwrap_or('?');
@@ -88,7 +92,7 @@ fn reachable(kind: Kind) -> &'static [(char, &'static [u8])] {
 
 impl fmt::Display for Coverage {
     fn fmt(&self, f: &mut fmt::Formatter) -> fmt::Result {
-        writeln!(f, "{} scripts, {} lines, {} calls", self.scripts, self.lines, self.calls)?;
+        writeln!(f, "{} scripts, {} lines printed, {} calls told", self.scripts, self.lines, self.calls)?;
         writeln!(f, "answer   lines  by call")?;
         for (answer, calls) in &self.answers {
             let by_call: Vec<String> = calls.iter().map(|(call, count)| format!("{call} {count}")).collect();

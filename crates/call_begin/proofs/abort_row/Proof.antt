@@ -32,11 +32,11 @@ start c = c .before .before
 whole : (c : tie.Else1) (r : ℕ) → r ≡ refusal (rows (start c)) → r ≡ refusal (abortRows (st (start c)) (start c .args .writer))
 whole c r h =
     let s = start c in
-    rows-then (firstRows (st s) (s .args .writer)) (rows s) r (first-past (st s) (s .args .writer) _ (c .before .first-row .ensures) (c .if1 .left)) h
+    rows-then (firstRows (st s) (s .args .writer)) (rows s) r (first-past (st s) (s .args .writer) _ (c .before .valid-row .ensures) (c .if1 .left)) h
 
 -- the prepared writer as it was read
 prepared : (s : tie.Start) → s .args .at .prepared ≡ st s .writers .prepared
-prepared s = ap (λ (p : Places). p .prepared) (s .pre .1)
+prepared s = ap (λ (p : Places). p .prepared) (s .pre .0)
 
 past1 : (c : tie.Else2) → Past (rows (start (c .before .before))) 1
 past1 c = (sym (ap not (c .before .open-at .ensures)) ∙ c .if2 .left, tt)
@@ -44,10 +44,10 @@ past1 c = (sym (ap not (c .before .open-at .ensures)) ∙ c .if2 .left, tt)
 returns : tie.Need-returns
 returns c =
     let s = c .before .before in
-    rows-first (firstRows (st s) (s .args .writer)) (rows s) _ (c .before .first-row .ensures) (c .if1 .taken)
+    rows-first (firstRows (st s) (s .args .writer)) (rows s) _ (c .before .valid-row .ensures) (c .if1 .taken)
 
 open-at-requires : tie.Need-open-at-requires
-open-at-requires c κs = first-low (st (start c)) (start c .args .writer) _ (c .before .first-row .ensures) (c .if1 .left)
+open-at-requires c κs = first-low (st (start c)) (start c .args .writer) _ (c .before .valid-row .ensures) (c .if1 .left)
 
 returns-2 : tie.Need-returns-2
 returns-2 c = let e = c .before .before in whole e _ (row-at (rows (start e)) 0 (omega arith) tt (sym (ap not (c .before .open-at .ensures)) ∙ c .if2 .taken))

@@ -1,16 +1,15 @@
 use borrow.Author.Needs.{needs}
-use Prim.Native.Nat.{_+_}
-use lib.ListN.{set}
-use mathlib.Core.Path.{_≡_, refl, sym, ap, _∙_}
+use mathlib.Core.Bool.{not}
+use mathlib.Core.Path.{refl, sym, ap, _∙_}
 use native.Mathlib.Omega.{arith}
-use Rattle.bounded.specs.Rows.{refusal}
+use Rattle.bounded.proofs.Rows.{row-at}
+use Rattle.bounded.proofs.Tests.{held}
 use Rattle.state.specs.State.{State}
 use Rattle.refinement.specs.Calls.{beginRows, beginOf, withWriters}
-use Rattle.refinement.proofs.Begun.{begin-taken, opening}
-use Rattle.answers.proofs.Answered.{row-known, row-refused, row-taken}
-use Rattle.bounded.specs.Below.{one}
+use Rattle.refinement.proofs.Begun.{opening}
+use Rattle.answers.specs.declared.Answer.the-variants.{BadState}
+use Rattle.answers.proofs.Answered.{row-known, row-refused}
 use Rattle.state_words.specs.Decoded.{decoded}
-use Rattle.call_begin.proofs.CallLaws.{kept-words}
 use Rattle.call_begin.proofs.begin.Statement.{statement}
 use Rattle.call_begin.proofs.begin.Tie as tie
 
@@ -20,26 +19,22 @@ st c = decoded (c .args .words .now)
 returns : tie.Need-returns
 unfolding beginOf
 returns c =
-    let w = c .before .before in
-    let s = w .before .before in
+    let t = c .before in
+    let s = t .before .before .before .before .before .before in
     let rs = beginRows (st s) (s .args .writer) in
-    let after = withWriters (st s) (opening (st s) (s .args .writer)) in
-    let e = row-refused (st s) after rs _ (w .begin-row .ensures) _ (c .before .if1 .taken) (row-known rs (omega arith)) (c .answer-of .ensures) in
-    (e, kept-words (c .answer-of .result) (st s) after rs _ _ (set (s .args .words .now) (10 + s .args .writer) 1) (w .begin-row .ensures) (c .before .if1 .taken) e)
+    let e = row-at rs 0 (omega arith) tt (sym (ap not (t .state-ok .ensures)) ∙ c .if1 .taken) in
+    (row-refused (st s) (withWriters (st s) (opening (st s) (s .args .writer))) rs 8 e BadState (λ q. omega arith) (row-known rs (omega arith)) refl, refl)
 
-put-open-requires : tie.Need-put-open-requires
-put-open-requires c κs =
-    let w = c .before .before in
-    let s = w .before .before in
-    begin-taken (st s) (s .args .writer) (sym (w .begin-row .ensures) ∙ c .before .if1 .left) .writer-low
-
-returns-2 : tie.Need-returns-2
-unfolding beginOf one
-returns-2 c =
-    let w = c .before .before .before in
-    let s = w .before .before in
-    (row-taken (st s) (withWriters (st s) (opening (st s) (s .args .writer))) (beginRows (st s) (s .args .writer)) _ (w .begin-row .ensures) _ (c .before .before .if1 .left) (c .put-open .ensures .0), c .put-open .ensures .1)
+begin-valid-requires : tie.Need-begin-valid-requires
+begin-valid-requires c κs = (c .before .before .before .before .places-in .ensures, held _ _ (c .before .before .state-ok .ensures) (c .before .if1 .left))
 
 pub begin-spec : {M : Type 1} → statement M
 begin-spec =
-    tie.close (tie.spec (λ c κs. search needs) (λ c κs. search needs) returns put-open-requires returns-2)
+    tie.close
+    (tie.spec
+    (λ c κs. search needs)
+    (λ c κs. search needs)
+    (λ c κs. search needs)
+    returns
+    begin-valid-requires
+    (λ c. search needs))

@@ -25,25 +25,25 @@ abbrev rows : tie.Start → List Row
 rows s = (someWide (st s .wide .writer), 29) ∷ (isOpen (st s .writers .opened) (s .args .writer), 12) ∷ []
 
 abbrev start : tie.Else1 → tie.Start
-start c = c .before .before .before .before
+start c = c .before .before
 
 -- the first of them is the first of all
 whole : (c : tie.Else1) (r : ℕ) → r ≡ refusal (rows (start c)) → r ≡ refusal (beginRows (st (start c)) (start c .args .writer))
 whole c r h =
     let s = start c in
-    rows-then (firstRows (st s) (s .args .writer)) (rows s) r (first-past (st s) (s .args .writer) _ (c .before .first-row .ensures) (c .if1 .left)) h
+    rows-then (firstRows (st s) (s .args .writer)) (rows s) r (first-past (st s) (s .args .writer) _ (c .before .valid-row .ensures) (c .if1 .left)) h
 
 -- the wide writer as it was read
-wide : (c : tie.Else1) → c .before .before .places-in .result .wide ≡ st (start c) .wide .writer
-wide c = ap (λ (p : Places). p .wide) (c .before .before .places-in .ensures)
+wide : (c : tie.Else1) → start c .args .at .wide ≡ st (start c) .wide .writer
+wide c = ap (λ (p : Places). p .wide) (start c .pre .0)
 
 past1 : (c : tie.Else2) → Past (rows (start (c .before .before))) 1
 past1 c = (le-ltb _ _ (subst (λ (v : ℕ). 4 ≤ v) (wide (c .before .before)) (c .if2 .left)), tt)
 
 returns : tie.Need-returns
 returns c =
-    let s = c .before .before .before .before in
-    rows-first (firstRows (st s) (s .args .writer)) (rows s) _ (c .before .first-row .ensures) (c .if1 .taken)
+    let s = c .before .before in
+    rows-first (firstRows (st s) (s .args .writer)) (rows s) _ (c .before .valid-row .ensures) (c .if1 .taken)
 
 returns-2 : tie.Need-returns-2
 returns-2 c = let e = c .before .before in whole e _ (row-at (rows (start e)) 0 (omega arith) tt (lt-ltb _ _ (subst (λ (v : ℕ). v < 4) (wide e) (c .if2 .taken))))
@@ -51,7 +51,7 @@ returns-2 c = let e = c .before .before in whole e _ (row-at (rows (start e)) 0 
 open-at-requires : tie.Need-open-at-requires
 open-at-requires c κs =
     let e = c .before .before in
-    first-low (st (start e)) (start e .args .writer) _ (e .before .first-row .ensures) (e .if1 .left)
+    first-low (st (start e)) (start e .args .writer) _ (e .before .valid-row .ensures) (e .if1 .left)
 
 returns-3 : tie.Need-returns-3
 returns-3 c =
@@ -67,8 +67,6 @@ pub begin-row-spec : {M : Type 1} → statement M
 begin-row-spec =
     tie.close
     (tie.spec
-    (λ c κs. search needs)
-    (λ c κs. search needs)
     (λ c κs. search needs)
     returns
     returns-2

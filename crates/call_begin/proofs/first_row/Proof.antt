@@ -1,36 +1,21 @@
 use borrow.Author.Needs.{needs}
 use mathlib.Core.Bool.{not}
-use mathlib.Core.List.{List}
 use mathlib.Core.Path.{sym, ap, _∙_}
 use native.Mathlib.Omega.{arith}
-use borrow.Author.Tests.{lt-ltb, le-ltb}
-use Rattle.bounded.specs.Rows.{Row, Past}
-use Rattle.bounded.proofs.Rows.{row-at, row-none}
+use Rattle.bounded.proofs.Rows.{row-at}
+use Rattle.bounded.proofs.Tests.{held}
 use Rattle.state_words.specs.Decoded.{decoded}
 use Rattle.call_begin.specs.First.{firstRows}
 use Rattle.call_begin.proofs.first_row.Statement.{statement}
 use Rattle.call_begin.proofs.first_row.Tie as tie
 
-abbrev rows : tie.Start → List Row
-rows s = firstRows (decoded (s .args .words .now)) (s .args .writer)
-
-past1 : (c : tie.Else1) → Past (rows (c .before .before)) 1
-past1 c = (sym (ap not (c .before .state-ok .ensures)) ∙ c .if1 .left, tt)
-
-past2 : (c : tie.Else2) → Past (rows (c .before .before .before .before)) 2
-past2 c = (past1 (c .before .before) .0, (sym (ap not (c .before .idle-in .ensures)) ∙ c .if2 .left, tt))
-
 returns : tie.Need-returns
-returns c = row-at (rows (c .before .before)) 0 (omega arith) tt (sym (ap not (c .before .state-ok .ensures)) ∙ c .if1 .taken)
+returns c =
+    let s = c .before .before in
+    row-at (firstRows (decoded (s .args .words .now)) (s .args .writer)) 0 (omega arith) tt (sym (ap not (c .before .state-ok .ensures)) ∙ c .if1 .taken)
 
-returns-2 : tie.Need-returns-2
-returns-2 c = row-at (rows (c .before .before .before .before)) 1 (omega arith) (past1 (c .before .before)) (sym (ap not (c .before .idle-in .ensures)) ∙ c .if2 .taken)
-
-returns-3 : tie.Need-returns-3
-returns-3 c = row-at (rows (c .before .before .before .before .before)) 2 (omega arith) (past2 (c .before)) (lt-ltb _ _ (c .if3 .taken))
-
-returns-4 : tie.Need-returns-4
-returns-4 c = let p = past2 (c .before) in row-none (rows (c .before .before .before .before .before)) (p .0, (p .1 .0, (le-ltb _ _ (c .if3 .left), tt)))
+valid-row-requires : tie.Need-valid-row-requires
+valid-row-requires c κs = held _ _ (c .before .state-ok .ensures) (c .if1 .left)
 
 pub first-row-spec : {M : Type 1} → statement M
-first-row-spec = tie.close (tie.spec (λ c κs. search needs) returns (λ c κs. search needs) returns-2 returns-3 returns-4)
+first-row-spec = tie.close (tie.spec (λ c κs. search needs) returns valid-row-requires (λ c. search needs))

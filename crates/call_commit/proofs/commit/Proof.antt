@@ -1,57 +1,31 @@
 use borrow.Author.Needs.{needs}
-use mathlib.Core.Path.{_≡_, refl, sym, ap, _∙_}
+use mathlib.Core.Bool.{not}
+use mathlib.Core.Path.{refl, sym, ap, _∙_}
+use native.Mathlib.Omega.{arith}
+use Rattle.bounded.proofs.Rows.{row-at}
+use Rattle.bounded.proofs.Tests.{held}
 use Rattle.state.specs.State.{State}
-use Rattle.state.specs.declared.Places.{Places}
-use Rattle.answers.specs.Answers.{numberOf}
+use Rattle.refinement.specs.Calls.{commitCallRows}
+use Rattle.answers.specs.declared.Answer.the-variants.{BadState}
 use Rattle.state_words.specs.Decoded.{decoded}
-use Rattle.call_commit.proofs.Calls.{refused, copy-allowed, commit-allowed, copy-came, commit-came}
+use Rattle.call_commit.proofs.Calls.{refused}
 use Rattle.call_commit.proofs.commit.Statement.{statement}
 use Rattle.call_commit.proofs.commit.Tie as tie
 
 abbrev st : tie.Start → State
 st s = decoded (s .args .words .now)
 
--- the wide writer as it was read
-wide : (c : tie.After-places-in) → c .places-in .result .wide ≡ st (c .before .before .before .before .before) .wide .writer
-wide c = ap (λ (p : Places). p .wide) (c .places-in .ensures)
-
 returns : tie.Need-returns
 returns c =
-    let r = c .before .before in
-    let s = r .before .before .before .before .before .before .before in
-    (refused (st s) (s .args .image .now) (s .args .writer) _ (r .commit-row .ensures) (s .args .until) (c .before .if1 .taken) _ (c .answer-of .ensures), λ n. refl)
+    let t = c .before in
+    let s = t .before .before .before .before .before .before .before in
+    let e = row-at (commitCallRows (st s) (s .args .image .now) (s .args .writer)) 0 (omega arith) tt (sym (ap not (t .state-ok .ensures)) ∙ c .if1 .taken) in
+    (refused (st s) (s .args .image .now) (s .args .writer) 8 e (s .args .until) (λ q. omega arith) BadState refl, λ n. refl)
 
-ask-requires : tie.Need-ask-requires
-ask-requires c κs =
-    let r = c .before .before .before .before .before in
-    let p = r .before .before in
-    let s = p .before .before .before .before .before in
-    copy-allowed (st s) (s .args .image .now) (s .args .writer) _ (r .commit-row .ensures) (c .before .before .before .before .if1 .left) _ _ (p .before .before .sizes-in .ensures) (p .places-in .ensures)
-
-returns-2 : tie.Need-returns-2
-returns-2 c =
-    let i = c .before .before .before .before .before .before .before in
-    let r = i .before in
-    let p = r .before .before in
-    let s = p .before .before .before .before .before in
-    let h = c .before .before .ask .ensures in
-    (copy-came (st s) (s .args .image .now) (s .args .writer) _ (r .commit-row .ensures) (i .if1 .left) (c .before .before .ask .result) _ _ (s .args .until) (sym (wide p) ∙ c .before .before .before .before .before .if2 .taken) (h .1), λ n. absurd (n (ap numberOf (h .0))))
-
-commit-narrow-requires : tie.Need-commit-narrow-requires
-commit-narrow-requires c κs =
-    let r = c .before .before .before .before .before in
-    let p = r .before .before in
-    let s = p .before .before .before .before .before in
-    commit-allowed (st s) (s .args .image .now) (s .args .writer) _ (r .commit-row .ensures) (c .before .before .before .before .if1 .left) _ _ (p .before .before .sizes-in .ensures) (p .places-in .ensures) (λ q. c .before .before .if2 .left (wide p ∙ q))
-
-returns-3 : tie.Need-returns-3
-returns-3 c =
-    let i = c .before .before .before .before .before .before .before in
-    let r = i .before in
-    let p = r .before .before in
-    let s = p .before .before .before .before .before in
-    let h = c .before .before .commit-narrow .ensures in
-    (commit-came (st s) (s .args .image .now) (s .args .writer) _ (r .commit-row .ensures) (i .if1 .left) (c .before .before .commit-narrow .result) _ _ (s .args .until) (λ q. c .before .before .before .before .before .if2 .left (wide p ∙ q)) (h .1), λ n. absurd (n (ap numberOf (h .0))))
+commit-valid-requires : tie.Need-commit-valid-requires
+commit-valid-requires c κs =
+    let t = c .before .before .before in
+    (t .before .before .before .before .sizes-in .ensures, t .before .before .places-in .ensures, held _ _ (t .state-ok .ensures) (c .before .before .if1 .left))
 
 pub commit-spec : {M : Type 1} → statement M
 commit-spec =
@@ -60,11 +34,7 @@ commit-spec =
     (λ c κs. search needs)
     (λ c κs. search needs)
     (λ c κs. search needs)
-    (λ c κs. search needs)
     returns
-    ask-requires
+    commit-valid-requires
     (λ c. search needs)
-    returns-2
-    commit-narrow-requires
-    (λ c. search needs)
-    returns-3)
+    (λ c. search needs))

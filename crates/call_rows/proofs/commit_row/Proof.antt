@@ -33,14 +33,14 @@ rows c = commitRows (st c) (c .args .writer)
 right : (c : tie.Else1) → let a = c .before .before .args in Legal (a .z) × (a .at .head < 2 * a .z .places) × (a .at .tail < 2 * a .z .places) × (liveCount (a .z) (a .at .head) (a .at .tail) ≤ a .z .places)
 right c =
     let s = c .before .before in
-    let h = first-ranges (st s) (s .args .n) _ (c .before .quiet-row .ensures) (c .if1 .left) in
+    let h = first-ranges (st s) (s .args .n) _ (c .before .valid-row .ensures) (c .if1 .left) in
     rw (s .pre .0, s .pre .1) (h .0, h .1, h .2, h .3)
 
 -- the first of the commit's own rows is the first of all
 whole : (c : tie.Else1) (r : ℕ) → let s = c .before .before in r ≡ refusal (rows s) → r ≡ refusal (quietRows (st s) (s .args .n) ++ rows s)
 whole c r h =
     let s = c .before .before in
-    rows-then (quietRows (st s) (s .args .n)) (rows s) r (quiet (st s) (s .args .n) _ (c .before .quiet-row .ensures) (c .if1 .left) .past) h
+    rows-then (quietRows (st s) (s .args .n)) (rows s) r (quiet (st s) (s .args .n) _ (c .before .valid-row .ensures) (c .if1 .left) .past) h
 
 prepared : (s : tie.Start) → s .args .at .prepared ≡ st s .writers .prepared
 prepared s = ap (λ (p : Places). p .prepared) (s .pre .1)
@@ -69,7 +69,7 @@ places s = ap (λ (z : Sizes). z .places) (s .pre .0)
 returns : tie.Need-returns
 returns c =
     let s = c .before .before in
-    rows-first (quietRows (st s) (s .args .n)) (rows s) _ (c .before .quiet-row .ensures) (c .if1 .taken)
+    rows-first (quietRows (st s) (s .args .n)) (rows s) _ (c .before .valid-row .ensures) (c .if1 .taken)
 
 returns-2 : tie.Need-returns-2
 returns-2 c = whole (c .before) _ (row-at (rows (c .before .before .before)) 0 (omega arith) tt (lt-ltb _ _ (c .if2 .taken)))

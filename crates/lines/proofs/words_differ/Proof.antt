@@ -27,27 +27,19 @@ eight f = more f 7 _ (more f 6 _ (more f 5 _ (more f 4 _ (more f 3 _ (more f 2 _
 
 returns : tie.Need-returns
 returns c =
-    let x = c .before .before .before .before .before .before .before .before .before .before .before .before .before .before .before .before .args in
-    eight (λ i. not (eqb (getD (x .a .now) i 0) (getD (x .b .now) i 0)))
+    let x = c .before .before .before .before .before .before .before .before .args in
+    cc (eight (λ i. not (eqb (getD (x .a .now) i 0) (getD (x .b .now) i 0))))
 
 pub words-differ-spec : {M : Type 1} → statement M
 words-differ-spec =
     tie.close
     (tie.spec
-    (λ c. search needs)
-    (λ c. search needs)
-    (λ c. search needs)
-    (λ c. search needs)
-    (λ c. search needs)
-    (λ c. search needs)
-    (λ c. search needs)
-    (λ c. search needs)
-    (λ c. search needs)
-    (λ c. search needs)
-    (λ c. search needs)
-    (λ c. search needs)
-    (λ c. search needs)
-    (λ c. search needs)
-    (λ c. search needs)
-    (λ c. search needs)
+    (λ c κs. search needs)
+    (λ c κs. search needs)
+    (λ c κs. search needs)
+    (λ c κs. search needs)
+    (λ c κs. search needs)
+    (λ c κs. search needs)
+    (λ c κs. search needs)
+    (λ c κs. search needs)
     returns)

@@ -31,13 +31,13 @@ abbrev short : tie.Start → Bool
 short s = ltb (length (s .args .«data» .now)) (s .args .a .length)
 
 -- what is found after the rows that come first is what is found
-whole : (c : tie.After-quiet-row) (r : Found) → let s = c .before .before .before in let a = s .args in
-    FoundAfter (c .quiet-row .result) (st s) (a .image .now) (a .writer) (a .a .page) (a .a .line) (a .a .offset) (a .a .length) (a .«data» .now) r
+whole : (c : tie.After-valid-row) (r : Found) → let s = c .before .before .before in let a = s .args in
+    FoundAfter (c .valid-row .result) (st s) (a .image .now) (a .writer) (a .a .page) (a .a .line) (a .a .offset) (a .a .length) (a .«data» .now) r
     → WriteFound (st s) (a .image .now) (a .writer) (a .a .page) (a .a .line) (a .a .offset) (a .a .length) (a .«data» .now) r
 whole c r f =
     let s = c .before .before .before in
     let a = s .args in
-    found-whole (st s) (a .image .now) _ (c .quiet-row .ensures) (a .writer) (a .a .page) (a .a .line) (a .a .offset) (a .a .length) (a .«data» .now) r f
+    found-whole (st s) (a .image .now) _ (c .valid-row .ensures) (a .writer) (a .a .page) (a .a .line) (a .a .offset) (a .a .length) (a .«data» .now) r f
 
 long2 : (c : tie.Else2) → short (c .before .before .before .before .before .before .before .before) ≡ false
 long2 c = let s = c .before .before .before .before .before .before .before .before in or-left (short s) (leb (s .args .z .pages) (s .args .a .page)) (c .if2 .left)
@@ -49,7 +49,7 @@ page-low c = let s = c .before .before .before .before .before .before .before .
 leans : (c : tie.Else2) → let a = c .before .before .before .before .before .before .before .before .args in Legal (a .z) × (a .at .next < a .z .slots) × (a .at .count ≤ 64) × (imageLength (a .z) ≤ length (a .image .now))
 leans c =
     let s = c .before .before .before .before .before .before .before .before in
-    rw (s .pre .0, s .pre .1) (first-known (st s) (s .args .image .now) _ (c .before .before .before .before .before .quiet-row .ensures) (c .before .before .before .before .if1 .left))
+    rw (s .pre .0, s .pre .1) (first-known (st s) (s .args .image .now) _ (c .before .before .before .before .before .valid-row .ensures) (c .before .before .before .before .if1 .left))
 
 returns : tie.Need-returns
 returns c =
