@@ -42,17 +42,17 @@ extern "C" {
 #endif
 
 /* 1,000 times the major number, and the minor number. A program may hold the library that it was linked with to it. */
-#define BADGERDROSS_VERSION 1000
+#define BADGERDROSS_VERSION 2000
 size_t badgerdross_version(void);
 
 /* The state. It is the game's to keep and to copy, and need not outlive a power cut; what stands in it is for the calls
  * alone. Any words are a state: one that breaks the rules is turned back (8). */
-#define BADGERDROSS_WORDS 256
+#define BADGERDROSS_WORDS 1280
 struct badgerdross {
     uint64_t words[BADGERDROSS_WORDS];
 };
 
-/* The answers. At each call those that it can give are listed, in the order in which they are tested. */
+/* The answers; none is 16. Each call lists those that it can give, in the order in which they are tested. */
 enum badgerdross_answer {
     BADGERDROSS_TAKEN = 0,
     BADGERDROSS_IMAGE_TOO_SHORT = 1,       /* under 64 bytes */
@@ -70,7 +70,6 @@ enum badgerdross_answer {
     BADGERDROSS_WRITER_NOT_OPEN = 13,
     BADGERDROSS_LINE_HELD = 14,            /* by another writer */
     BADGERDROSS_NO_FREE_SLOT = 15,         /* consolidate a page, or free a slot, and write again */
-    BADGERDROSS_BAD_FRAME = 16,            /* the image's page table */
     BADGERDROSS_PAGE_WITHOUT_SLOT = 17,
     BADGERDROSS_PAGE_HELD = 18,            /* a writer holds a line of it */
     BADGERDROSS_JOURNAL_FULL = 19,         /* checkpoint, and try again */
@@ -118,11 +117,11 @@ size_t badgerdross_begin(struct badgerdross *store, size_t writer);
 size_t badgerdross_begin_wide(struct badgerdross *store, size_t writer);
 
 /* Puts data into a line from offset on. It shows in this writer's reads at once, and elsewhere from the commit on.
- * Answers: 8 4 9 11 13 23 30 14 15 16. */
+ * Answers: 8 4 9 11 13 23 30 14 15. */
 size_t badgerdross_write(struct badgerdross *store, uint8_t *image, size_t length, size_t writer, size_t page,
                          size_t line, size_t offset, const uint8_t *data, size_t data_length, size_t until);
 
-/* The 64 bytes of a line as the writer sees it, into the target's start. Answers: 8 4 9 11 16. */
+/* The 64 bytes of a line as the writer sees it, into the target's start. Answers: 8 4 9 11. */
 size_t badgerdross_read(const struct badgerdross *store, const uint8_t *image, size_t length, size_t writer,
                         size_t page, size_t line, uint8_t *target, size_t target_length);
 
@@ -184,11 +183,11 @@ enum badgerdross_kind {
 };
 
 /* Moves credit and the kind's meter, or one count, in a round of its own by writer 1, who must be closed. The moduli, 24
- * of them, are the game's to keep. Answers: 8 4 9 29 20 26 12 23 14 15 16 21 19. */
+ * of them, are the game's to keep. Answers: 8 4 9 29 20 26 12 23 14 15 21 19. */
 size_t badgerdross_event(struct badgerdross *store, uint8_t *image, size_t length, size_t kind, size_t meter,
                          uint64_t amount, const uint64_t *moduli, size_t moduli_length, size_t until);
 
-/* A venue's own moduli, from 24 lines `meter,modulus`. Answers: 8 4 9 25 26 16 27. */
+/* A venue's own moduli, from 24 lines `meter,modulus`. Answers: 8 4 9 25 26 27. */
 size_t badgerdross_load(const struct badgerdross *store, const uint8_t *image, size_t length, const uint8_t *text,
                         size_t text_length, uint64_t moduli[24]);
 

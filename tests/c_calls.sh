@@ -13,7 +13,7 @@ if [ "${KEEP_ARCHIVE:-0}" != 1 ] && ! rt staticlib badgerdross > "$work/log" 2>&
     echo "c_calls: no archive"
     exit 1
 fi
-for program in powerhit finish scribble service; do
+for program in powerhit finish scribble service page_map; do
     options="-std=c11 -Wall -Wextra -Wpedantic -Werror -Iinclude tests/c/$program.c target/staticlib/libbadgerdross.a"
     cc -O2 $options -o "$work/$program"
     cc -O1 -g -fsanitize=address,undefined -fno-sanitize-recover=all $options -o "$work/$program.checked"
@@ -36,6 +36,7 @@ echo "powerhit: $listings listings, $differ differ"
 "$work/finish.checked" 2
 "$work/scribble" 1 1000000
 "$work/scribble.checked" 2 200000
+"$work/page_map.checked"
 "$work/service.checked" > "$work/printed"
 cat "$work/printed"
 cat > "$work/expected" <<'TEXT'

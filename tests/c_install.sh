@@ -38,7 +38,7 @@ if command -v cmake > "$work/log"; then
     cat > "$work/project/CMakeLists.txt" <<'CMAKE'
 cmake_minimum_required(VERSION 3.13)
 project(round C)
-find_package(badgerdross 1.0 REQUIRED)
+find_package(badgerdross 2.0 REQUIRED)
 add_executable(by_cmake round.c)
 target_link_libraries(by_cmake badgerdross::badgerdross)
 CMAKE

@@ -38,7 +38,7 @@ const CALLS: [[usize; 2]; 10] = [
 
 fn fresh() -> State {
     let mut image = [0u8; 8392];
-    let mut words = [0u64; 256];
+    let mut words = [0u64; 1280];
     let z = Sizes {
         pages: 1,
         slots: 1,
@@ -66,9 +66,9 @@ fn on_record(st: &mut State, call: usize, writer: usize) -> Answer {
 }
 
 // In how many words two states differ.
-fn apart(a: [u64; 256], b: [u64; 256]) -> u64 {
+fn apart(a: [u64; 1280], b: [u64; 1280]) -> u64 {
     let mut n = 0;
-    for i in 0..256 {
+    for i in 0..1280 {
         if a[i] != b[i] {
             n += 1;
         }

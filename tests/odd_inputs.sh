@@ -17,11 +17,11 @@ random.seed(7)
 work = sys.argv[1]
 put = lambda name, data: open(f"{work}/{name}", "wb").write(data)
 put("random_bytes", bytes(random.randrange(256) for _ in range(200000)))
-put("letters", bytes(random.choice(b"FBCAWRDPXKLYUTOQGHMSNEn,,,0123459\n") for _ in range(200000)))
+put("letters", bytes(random.choice(b"FBCAWRDPXKLYUTOQGHMSNEnVIJZlmkbavwcdp,,,0123459\n") for _ in range(200000)))
 put("long_line", b"F,2,1,2\n" + b"W," + b"0," * (1 << 19) + b"0\nB,0\n")
 put("long_line_no_end", b"F,2,1,2\nB,0\n" + b"9" * (1 << 20))
 line = b"W,0,0,0,0,64," + b",".join(b"%d" % (i % 256) for i in range(64)) + b"\n"
-put("across_reads", b"F,2,1,2\nB,0\n" + line * 3000 + b"R,0,0,0,63\n")
+put("across_reads", b"F,2,1,2\nN,1561\nB,0\n" + line * 3000 + b"R,0,0,0,63\n")
 P
 
 ran=0

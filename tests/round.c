@@ -108,7 +108,7 @@ static size_t compose(uint64_t *writes, uint8_t *data, size_t pages, size_t *byt
 /* Something between two rounds, done to both sides. */
 static void between(size_t length, size_t pages) {
     size_t writer = below(4);
-    uint64_t word = below(256);
+    uint64_t word = below(256 + pages); /* of the state, with the entries of the map that are read */
     for (int i = 0; i < 2; i++) {
         struct side *s = i ? &many : &one;
         uint8_t byte[1] = {7};

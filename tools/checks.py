@@ -42,7 +42,7 @@ for line in open("crates.txt", encoding="utf-8"):
     if not crate:
         continue
     base = f"crates/{crate}"
-    edits = sum(len(os.listdir(folder)) for folder in (f"{base}/must-fail", f"tests/call_edits/{crate}") if os.path.isdir(folder))
+    edits = sum(len(os.listdir(folder)) for folder in (f"{base}/must-fail", f"tests/merge_edits/{crate}") if os.path.isdir(folder))
     row = [functions(f"{base}/src"), lines(f"{base}/src", ".rt"), lines(f"{base}/specs", ".antt"), lines(f"{base}/proofs", ".antt"), edits, seconds(crate)]
     sums = [a + b for a, b in zip(sums, row)]
     print(f"| {crate} | " + " | ".join(str(n) for n in row) + " |")

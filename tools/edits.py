@@ -9,7 +9,7 @@ import os
 import re
 import sys
 
-FOLDERS = ("crates/{}/must-fail", "tests/call_edits/{}", "tests/more_edits/{}")
+FOLDERS = ("crates/{}/must-fail", "tests/merge_edits/{}", "tests/release_edits/{}")
 FUNCTION = re.compile(r"(?:pub(?:\(crate\))? )?(?:extern \"C\" )?fn (\w+)")
 
 

@@ -59,9 +59,20 @@ def c_argument(text):
     return (const, pointer.group(1), None) if pointer else text.split()[0]
 
 
+def state_words():
+    """The type of the state, which crates/state_words names, as an array of so many words."""
+    source = open("crates/state_words/src/lib.rt", encoding="utf-8").read()
+    word, count = re.search(r"^pub type Words = \[(\w+); (\w+)\];$", source, re.M).groups()
+    number = re.search(rf"^pub const {count}: usize = (\d+);$", source, re.M).group(1)
+    return f"[{word}; {number}]"
+
+
+WORDS = state_words()
+
+
 def rattle_arguments(text):
     """The C parameters that a Rattle parameter passes as."""
-    kind = text.split(":", 1)[1].strip()
+    kind = re.sub(r"\bWords$", WORDS, text.split(":", 1)[1].strip())
     array = re.fullmatch(r"&(mut )?\[(\w+); (\d+)\]", kind)
     if array:
         return [(not array.group(1), SCALARS[array.group(2)], int(array.group(3)))]

@@ -1,6 +1,12 @@
 #!/usr/bin/env python3
 """Tries the must-fail edits of FOLDER/CRATE/*.edit, those of different functions of a crate in one check; with names after FOLDER of these crates alone.
 
+    --share     of them a twelfth, by the count of commits: another one with each, so that in twelve all have had their turn
+    --share=K   the twelfth K, 0 to 11
+    --list      prints the edits that would be tried
+
+What was tried of tests/release_edits stands in tests/edits_tried.txt with the count of commits and what came of it: commit it with the next change.
+
 A function's proof leans on the contracts of what it calls and on no code of theirs. So edits of the code of different functions do not touch each other, nor
 does that of a contract touch a function that does not call it, by whatever way; and one check of the crate with all of them says of each function whether
 its own proof was refused. An edit counts as refused by such a check only where its function is refused for its own sake, not for what it calls. Any other
@@ -14,7 +20,13 @@ import shutil
 import subprocess
 import sys
 import tempfile
+import zlib
 
+SHARES = 12
+STAMPED, STAMPS = "tests/release_edits", "tests/edits_tried.txt"
+HEADING = """# Written by tools/try_edits.py: of each edit of tests/release_edits the count of commits (git rev-list --count HEAD) when it was last tried, and what
+# came of it. One that is not listed was not tried since the file began, at count 367; docs/CHECKS.md of 798c3cf says what was tried before.
+"""
 FUNCTION = re.compile(r"^ *(?:pub(?:\(crate\))? )?(?:extern \"C\" )?fn (\w+)", re.M)
 
 
@@ -145,19 +157,51 @@ def judged(groups, logs):
     return left
 
 
-def main():
-    folder, names = sys.argv[1].rstrip("/"), sys.argv[2:] or sorted(os.listdir(sys.argv[1]))
-    crates = {name: Crate(name, folder) for name in names}
-    work = tempfile.mkdtemp()
+def commits():
+    """The count of commits, 0 where git does not say."""
+    said = subprocess.run(["git", "rev-list", "--count", "HEAD"], capture_output=True, text=True).stdout.strip()
+    return int(said or 0)
+
+
+def shared(crate, share):
+    """The edits of a crate's groups whose turn it is. A crate's first group has its turn by the crate's name, the next one a commit later, so that other
+    crates' edits do not move them."""
+    groups = crate.groups(list(crate.edits), False)
+    return [edit for k, group in enumerate(groups) if (zlib.crc32(crate.name.encode()) + k) % SHARES == share for edit, _ in group]
+
+
+def stamp(asked, kept):
+    """Puts down what was tried, and forgets edits that are gone."""
+    stamps = dict(line.split(" ", 1) for line in read(STAMPS).split("\n") if line and not line.startswith("#")) if os.path.exists(STAMPS) else {}
+    for name, edits in asked.items():
+        stamps.update({f"{name}/{edit}": f"{commits()} {'NOT REFUSED' if edit in kept.get(name, []) else 'refused'}" for edit in edits})
+    lines = [f"{edit} {said}" for edit, said in sorted(stamps.items()) if os.path.exists(f"{STAMPED}/{edit}.edit")]
+    with open(STAMPS, "w", encoding="utf-8") as out:
+        out.write(HEADING + "\n".join(lines) + "\n")
+
+
+def chosen(folder, names, options):
+    """The crates, and of each the edits to be tried."""
+    crates = {name: Crate(name, folder) for name in names or sorted(os.listdir(folder))}
+    asked = {name: list(crate.edits) for name, crate in crates.items()}
+    for option in options:
+        if option.startswith("--share"):
+            share = int(option.partition("=")[2] or commits()) % SHARES
+            asked = {name: shared(crate, share) for name, crate in crates.items()}
+            print(f"{folder}: share {share} of {SHARES}")
+    asked = {name: edits for name, edits in asked.items() if edits}
+    return {name: crates[name] for name in asked}, asked
+
+
+def try_all(crates, asked):
+    """Tries edits together; those left, which a refused callee hides, apart from what they call; those left then, alone. Gives what is left and the checks."""
+    left, checks, work = {name: list(edits) for name, edits in asked.items()}, [], tempfile.mkdtemp()
     try:
         shutil.copytree("crates", f"{work}/crates", ignore=shutil.ignore_patterns("must-fail"))
         shutil.copy("crates.txt", work)
         for part in ("rlib", "stamp"):
             if os.path.isdir(f"target/{part}"):
                 shutil.copytree(f"target/{part}", f"{work}/target/{part}", symlinks=True)
-        left, checks = {name: list(crates[name].edits) for name in names}, []
-        count = sum(len(edits) for edits in left.values())
-        # together; those left, which a refused callee hides, apart from what they call; those left then, alone
         for way in ("together", "apart", "alone"):
             groups = {}
             for name in left:
@@ -168,10 +212,24 @@ def main():
                 left = judged(groups, tried(work, crates, groups))
     finally:
         shutil.rmtree(work)
+    return left, checks
+
+
+def main():
+    options = [word for word in sys.argv[1:] if word.startswith("--")]
+    folder, *names = [word.rstrip("/") for word in sys.argv[1:] if not word.startswith("--")]
+    crates, asked = chosen(folder, names, options)
+    if "--list" in options:
+        print(*[f"{folder}/{name}/{edit}" for name in asked for edit in asked[name]], sep="\n")
+        return
+    left, checks = try_all(crates, asked)
+    if folder == STAMPED:
+        stamp(asked, left)
+    count = sum(len(edits) for edits in asked.values())
     kept = [f"{folder}/{name}/{edit}" for name in left for edit in left[name]]
     for edit in kept:
         print(f"{edit}: NOT REFUSED, or not an edit that the prover can judge")
-    print(f"{count} edits tried in {' + '.join(map(str, checks))} checks; {count - len(kept)} refused, {len(kept)} not")
+    print(f"{count} edits tried in {' + '.join(map(str, checks)) or 0} checks; {count - len(kept)} refused, {len(kept)} not")
     sys.exit(len(kept) > 0)
 
 

@@ -9,10 +9,11 @@ use crate::plan::{complete, make_stores, plan};
 use crate::refusal::{row, Answer, Refusal::*};
 use crate::rows::{
     abort_rows, begin_rows, begin_wide_rows, commit_rows, confirm_rows, consolidate_rows, event_rows,
-    frame_row, free_rows, known_rows, log_rows, place_rows, prepare_rows, room_row, write_rows,
+    free_rows, known_rows, operation_rows, place_rows, prepare_rows, room_row,
 };
-use crate::state::{Event, Log, Operation, Pending, State, Wide, Write};
+use crate::state::{Event, Operation, Pending, State, WideWrite, Write};
 use crate::validity::is_broken;
+use crate::wide;
 
 pub fn begin(state: &mut State, writer: u64) -> Answer<u64> {
     row(BrokenState, is_broken(state))?;
@@ -27,8 +28,7 @@ pub fn begin_wide(state: &mut State, writer: u64) -> Answer<u64> {
     row(BrokenState, is_broken(state))?;
     row(OperationPending, state.pending.is_some())?;
     begin_wide_rows(state, writer)?;
-    state.writers[writer as usize].open = true;
-    state.wide = Wide { writer: Some(writer), keys: vec![] };
+    wide::begin(state, writer);
     Ok(0)
 }
 
@@ -36,8 +36,8 @@ pub fn abort(state: &mut State, writer: u64) -> Answer<u64> {
     row(BrokenState, is_broken(state))?;
     row(OperationPending, state.pending.is_some())?;
     abort_rows(state, writer)?;
-    if state.is_wide(writer) {
-        state.close_wide();
+    if state.wide.is_by(writer) {
+        wide::close(state);
     } else {
         state.close(writer);
     }
@@ -51,7 +51,7 @@ pub struct Patch<'a> {
     pub data: &'a [u8],
 }
 
-/// A held line that the data leave as it is needs no stores (document 02, L3).
+/// A line of the writer's own that the data leave as it is needs no stores (document 02, L3).
 pub fn write(
     state: &mut State,
     image: &[u8],
@@ -59,42 +59,33 @@ pub fn write(
     patch: Patch,
 ) -> Answer<u64> {
     idle_rows(state, image)?;
-    row(BadArgument, (patch.data.len() as u64) < patch.length)?;
-    let place = (writer, page, line);
     let Patch { offset, length, data } = patch;
-    let wide = state.is_wide(writer);
-    if wide {
-        log_rows(state, place, (offset, length))?;
+    row(BadArgument, (data.len() as u64) < length)?;
+    let mut operation = if state.wide.is_by(writer) {
+        Operation::WideWrite(WideWrite { page, line, offset, length, finished: [0; 64] })
     } else {
-        write_rows(state, place, (offset, length))?;
-    }
-    let frame = page_frame(state, image, page)?;
-    let shown = line_shown(state, image, (writer, page, line), frame);
-    let mut finished = shown;
-    finished[offset as usize..(offset + length) as usize].copy_from_slice(&data[..length as usize]);
-    if has_own(state, place) && finished == shown {
+        Operation::Write(Write { writer, page, line, offset, length, finished: [0; 64] })
+    };
+    operation_rows(state, &operation)?;
+    let shown = line_shown(state, image, (writer, page, line));
+    let mut merged = shown;
+    merged[offset as usize..(offset + length) as usize].copy_from_slice(&data[..length as usize]);
+    if own_copy(state, (writer, page, line)).is_some() && merged == shown {
         return Ok(0);
     }
-    let operation = if wide {
-        Operation::Log(Log { page, line, offset, length, frame, finished })
-    } else {
-        Operation::Write(Write { writer, page, line, offset, length, frame, finished })
-    };
-    Ok(ask(state, operation))
-}
-
-/// Whether a writer has a copy of its own of a line: an entry of the wide one's, or a held line.
-fn has_own(state: &State, (writer, page, line): (u64, u64, u64)) -> bool {
-    if state.is_wide(writer) {
-        return state.wide.entry_of(page, line).is_some();
+    if let Operation::Write(Write { finished, .. }) | Operation::WideWrite(WideWrite { finished, .. }) =
+        &mut operation
+    {
+        *finished = merged;
     }
-    state.slot_of(page).is_some_and(|slot| state.holds(writer, slot, line))
+    Ok(ask(state, operation))
 }
 
 pub fn commit(state: &mut State, image: &[u8], writer: u64) -> Answer<u64> {
     idle_rows(state, image)?;
     commit_rows(state, writer)?;
-    Ok(ask(state, if state.is_wide(writer) { Operation::Copy } else { Operation::Commit { writer } }))
+    let wide = state.wide.is_by(writer);
+    Ok(ask(state, if wide { Operation::Copying } else { Operation::Commit { writer } }))
 }
 
 /// Stores a writer's records, and no head.
@@ -137,32 +128,30 @@ pub fn checkpoint(state: &mut State, image: &[u8]) -> Answer<u64> {
     Ok(ask(state, Operation::Checkpoint))
 }
 
-/// An event of document 02, lent the moduli: its meters' lines and the record that commits them. Rows 29, 20, 26, 12, 23, 14, 15, 16, 21, 19.
+/// An event of document 02, lent the moduli: its meters' lines and the record that commits them. "the order is 20, 12, 14, 15,
+/// 16, 21, 19" (L2), without 16 (L5), with 23 before 14 (L8), 26 "right after 20" (L10) and 29 before 20 (L14).
 pub fn event(state: &mut State, image: &[u8], asked: Asked, moduli: &[u64]) -> Answer<u64> {
     idle_rows(state, image)?;
     known_rows(state, asked)?;
     row(ModulusOutOfRange, !moduli_fit(moduli))?;
     event_rows(state, asked)?;
-    let frame = page_frame(state, image, 0)?;
-    let mut finished = vec![];
-    for line in asked.meters() {
-        let mut bytes = line_shown(state, image, (1, 0, line), frame);
-        let number = asked.moved(line, word(&bytes, 0), moduli).ok_or(AmountOutOfRange)?;
-        put_word(&mut bytes, 0, number);
-        finished.push((line, bytes));
+    let mut finished = [[0; 64]; 2];
+    for (line, bytes) in asked.meters().into_iter().zip(&mut finished) {
+        *bytes = line_shown(state, image, (1, 0, line));
+        let number = asked.moved(line, word(bytes, 0), moduli).ok_or(AmountOutOfRange)?;
+        put_word(bytes, 0, number);
     }
     room_row(state, 1)?;
-    Ok(ask(state, Operation::Event(Event { asked, frame, finished })))
+    Ok(ask(state, Operation::Event(Event { asked, finished })))
 }
 
-/// The moduli of a text, for events to be lent. Rows 25 and 26 line by line, then 16 of page 0, then 27.
+/// The moduli of a text, for events to be lent. Rows 25 and 26 line by line, then 27 on the committed meters.
 pub fn load(state: &State, image: &[u8], text: &[u8]) -> Answer<Vec<u64>> {
     idle_rows(state, image)?;
     let moduli = read_moduli(text)?;
-    let frame = page_frame(state, image, 0)?;
     for (line, modulus) in (0..).zip(&moduli) {
-        let copy = state.slot_of(0).map_or(frame, |slot| state.slots[slot].committed_frame(line));
-        row(MeterNotBelow, word(&line_at(image, state.sizes.line_start(copy, line)), 0) >= *modulus)?;
+        let at = state.sizes.line_start(state.committed_frame(0, line), line);
+        row(MeterNotBelow, word(image, at) >= *modulus)?;
     }
     Ok(moduli)
 }
@@ -177,8 +166,7 @@ pub fn read(
     idle_rows(state, image)?;
     place_rows(state, writer, page, line)?;
     row(BadArgument, target.len() < 64)?;
-    let frame = page_frame(state, image, page)?;
-    target[..64].copy_from_slice(&line_shown(state, image, (writer, page, line), frame));
+    target[..64].copy_from_slice(&line_shown(state, image, (writer, page, line)));
     Ok(())
 }
 
@@ -201,7 +189,7 @@ pub fn next_store(state: &State, image: &[u8]) -> Answer<(u64, bool)> {
     buffer_rows(state, image)?;
     row(NothingPending, state.pending.is_none())?;
     let Pending { operation, made } = state.pending.as_ref().expect("row 10: an operation is pending");
-    let at = plan(state, operation)[*made as usize].at.address(image);
+    let at = plan(state, operation)[*made as usize].at;
     let deciding: &[usize] = match operation {
         Operation::Format => &[LAYOUT_AT],
         _ => &[HEAD_AT, TAIL_AT, COUNT_AT],
@@ -221,32 +209,20 @@ fn idle_rows(state: &State, image: &[u8]) -> Answer<()> {
     row(OperationPending, state.pending.is_some())
 }
 
-/// A page's frame: its slot's original or, past row 16, its page-table word.
-fn page_frame(state: &State, image: &[u8], page: u64) -> Answer<u64> {
-    if let Some(slot) = state.slot_of(page) {
-        return Ok(state.slots[slot].original);
+/// Where a writer has a copy of its own of a line: "it reads its own entries first" (L14), or a held line's frame.
+fn own_copy(state: &State, (writer, page, line): (u64, u64, u64)) -> Option<usize> {
+    if state.wide.is_by(writer) {
+        let entry = state.wide.entry_of(page, line);
+        return entry.map(|entry| state.sizes.entry_word(entry, 1));
     }
-    let frame = word(image, state.sizes.page_word(page));
-    frame_row(state, frame)?;
-    Ok(frame)
+    let slot = state.slot_of(page).filter(|&slot| state.holds(writer, slot, line))?;
+    Some(state.sizes.line_start(state.slots[slot].other_frame(line), line))
 }
 
 /// The line as a writer reads it: its own copy if it has one, else the committed one.
-fn line_shown(
-    state: &State,
-    image: &[u8],
-    (writer, page, line): (u64, u64, u64),
-    page_frame: u64,
-) -> [u8; 64] {
-    if let Some(entry) = state.wide.entry_of(page, line).filter(|_| state.is_wide(writer)) {
-        return line_at(image, state.sizes.entry_word(entry, 1));
-    }
-    let frame = match state.slot_of(page) {
-        None => page_frame,
-        Some(slot) if state.holds(writer, slot, line) => state.slots[slot].other_frame(line),
-        Some(slot) => state.slots[slot].committed_frame(line),
-    };
-    line_at(image, state.sizes.line_start(frame, line))
+fn line_shown(state: &State, image: &[u8], (writer, page, line): (u64, u64, u64)) -> [u8; 64] {
+    let committed = state.sizes.line_start(state.committed_frame(page, line), line);
+    line_at(image, own_copy(state, (writer, page, line)).unwrap_or(committed))
 }
 
 /// Takes an operation: complete at once if it needs no store, else pending.

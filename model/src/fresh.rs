@@ -3,31 +3,56 @@
 use crate::image::put_word;
 use crate::layout::{Sizes, ENTRIES_AT, J_AT, LAYOUT_AT, P_AT, S_AT};
 use crate::slots::Slot;
-use crate::state::{State, Wide};
+use crate::state::State;
 
 /// Slot s of a fresh image is free with spare P + s.
 fn slots(sizes: Sizes) -> Vec<Slot> {
     (0..sizes.s).map(|slot| Slot::free(sizes.p + slot)).collect()
 }
 
-/// The state of a fresh image, for sizes in range.
+/// The state of a fresh image, for sizes in range: "page i in frame i, slot s free with spare P + s, all else zero".
 pub fn fresh_state(sizes: Sizes) -> State {
     let mut state = State::empty(sizes);
     state.slots[..sizes.s as usize].copy_from_slice(&slots(sizes));
+    for page in 0..sizes.p {
+        state.map[page as usize] = page;
+    }
     state
 }
 
-/// Whether this is the fresh state of its sizes, which are in range. What is pending is not asked, nor are places past S.
-pub fn is_fresh(state: &State) -> bool {
-    let count = state.slot_count();
-    let closed =
-        state.writers.iter().all(|writer| !writer.open && writer.held[..count].iter().all(|&held| held == 0));
-    (state.head, state.tail, state.next) == (0, 0, 0)
-        && state.slots_used() == slots(state.sizes)
-        && state.last[..count].iter().all(Option::is_none)
-        && closed
-        && state.prepared.is_none()
-        && state.wide == Wide::default()
+/// The parts of a state that a format leaves fresh, to say which one is not.
+#[derive(Clone, Copy, Debug, PartialEq, Eq, PartialOrd, Ord)]
+pub enum Part {
+    HeadAndTail,
+    NextSlot,
+    Slots,
+    LastPositions,
+    Map,
+    OpenWriters,
+    HeldLines,
+    PreparedWriter,
+    WideWriter,
+    EntriesUsed,
+}
+
+/// Where a state of sizes in range is not the fresh one of its sizes. What is pending is not asked, nor are places past S,
+/// map entries past P and keys past the entries used.
+pub fn not_fresh(state: &State) -> Vec<Part> {
+    let (sizes, count) = (state.sizes, state.slot_count());
+    let writers = &state.writers;
+    let parts = [
+        (Part::HeadAndTail, (state.head, state.tail) != (0, 0)),
+        (Part::NextSlot, state.next != 0),
+        (Part::Slots, state.slots_used() != slots(sizes)),
+        (Part::LastPositions, state.last[..count].iter().any(Option::is_some)),
+        (Part::Map, (0..sizes.p).any(|page| state.map[page as usize] != page)),
+        (Part::OpenWriters, writers.iter().any(|writer| writer.open)),
+        (Part::HeldLines, writers.iter().any(|writer| writer.held[..count].iter().any(|&held| held != 0))),
+        (Part::PreparedWriter, state.prepared.is_some()),
+        (Part::WideWriter, state.wide.writer.is_some()),
+        (Part::EntriesUsed, state.wide.used != 0),
+    ];
+    parts.into_iter().filter(|(_, differs)| *differs).map(|(part, _)| part).collect()
 }
 
 /// The bytes of a fresh image, for sizes in range.

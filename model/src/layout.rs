@@ -13,7 +13,7 @@ pub const J_AT: usize = 16;
 pub const LAYOUT_AT: usize = 24;
 pub const HEAD_AT: usize = 32;
 pub const TAIL_AT: usize = 40;
-/// Read under layout 2 alone (document 02, L14): how many entries are committed and not yet copied, and L.
+/// Words 6 and 7, read under layout 2 alone (document 02, L14): the entries that a wide commit still copies, and L.
 pub const COUNT_AT: usize = 48;
 pub const ENTRIES_AT: usize = 56;
 
@@ -23,7 +23,9 @@ pub const WIDE_LAYOUT: u64 = 2;
 /// An entry: a word for its page and line, and the line.
 pub const ENTRY: u64 = WORD + LINE;
 
+pub const MOST_PAGES: usize = 1024;
 pub const MOST_SLOTS: usize = 16;
+pub const MOST_ENTRIES: usize = 64;
 
 /// P pages, S slots, J journal places and L entries. Any numbers until `in_range` was asked; the other
 /// functions are for sizes in range.

@@ -8,6 +8,7 @@
 //! - `slots`, `journal`: a slot's three words and its shapes; records, positions, live counts
 //! - `meters`: events, the numbers that they move, and the moduli as text (document 02)
 //! - `state`: what the host keeps between calls
+//! - `wide`: rounds wider than the slots (document 02, L14)
 //! - `fresh`: a fresh image and its state
 //! - `rows`: the refusal table from row 11 on
 //! - `plan`: the stores that an operation needs, and the change that comes with its last store
@@ -32,3 +33,4 @@ pub mod script;
 pub mod slots;
 pub mod state;
 pub mod validity;
+pub mod wide;

@@ -40,7 +40,8 @@ pub fn read_moduli(text: &[u8]) -> Answer<Vec<u64>> {
 
 /// A decimal without leading zeros, of any length; 13 digits hold every modulus.
 fn modulus(digits: &[u8]) -> Answer<u64> {
-    let plain = digits == b"0" || (digits.first().is_some_and(|&first| first != b'0') && digits.iter().all(u8::is_ascii_digit));
+    let plain = digits == b"0"
+        || (digits.first().is_some_and(|&first| first != b'0') && digits.iter().all(u8::is_ascii_digit));
     row(BadTableLine, !plain)?;
     row(ModulusOutOfRange, digits.len() > 13)?;
     let value = digits.iter().fold(0, |value, digit| 10 * value + u64::from(digit - b'0'));

@@ -4,13 +4,13 @@ use crate::fresh::fresh_state;
 use crate::image::{line as line_at, word};
 use crate::journal::{bounds_hold, live_positions, record_holds, Record};
 use crate::layout::{
-    Sizes, COUNT_AT, ENTRIES_AT, HEADER, HEAD_AT, J_AT, LAYOUT, LAYOUT_AT, LINES, P_AT, S_AT, TAIL_AT,
-    WIDE_LAYOUT,
+    Sizes, ENTRIES_AT, HEADER, HEAD_AT, J_AT, LAYOUT, LAYOUT_AT, LINES, P_AT, S_AT, TAIL_AT, WIDE_LAYOUT,
 };
 use crate::plan::{make_stores, plan};
 use crate::refusal::{row, Answer, Refusal::*};
-use crate::slots::{page_twice, slot_owning, Slot};
-use crate::state::{Operation, Pending, State, Wide};
+use crate::slots::{each_frame_once, page_twice, Slot};
+use crate::state::{Operation, Pending, State};
+use crate::wide;
 
 /// Asks for a format (document 02, L6): the fresh state with its image still to be stored, and how many stores that needs.
 pub fn ask_format(sizes: Sizes, buffer: &[u8]) -> Answer<(State, u64)> {
@@ -29,44 +29,29 @@ pub fn format(sizes: Sizes, buffer: &mut [u8]) -> Answer<State> {
     Ok(state)
 }
 
-/// Reads an image: slot table, then live records in order, each replacing its slot. Entries that are committed are still
-/// to be copied, from the first on: that is pending.
+/// Reads an image: slot table, then live records in order, each replacing its slot, then the map. Of a wide commit that was
+/// cut, the first store is made: "that copying pending from the first entry (8n + 1 stores left), without a writer" (L14).
 pub fn mount(buffer: &[u8]) -> Answer<State> {
     let sizes = mounted_sizes(buffer)?;
     let (head, tail) = (word(buffer, HEAD_AT), word(buffer, TAIL_AT));
     row(JournalBounds, !bounds_hold(sizes, head, tail))?;
     let live = live_positions(sizes, head, tail);
-    let wide = committed_entries(buffer, sizes)?;
     row(BadRecord, !records_hold(buffer, sizes, &live))?;
+    let wide = wide::found(buffer, sizes)?;
     let mut state = replay(buffer, sizes, (head, tail), &live);
-    row(BadTables, !tables_hold(buffer, &state))?;
-    let copying = Pending { operation: Operation::Copy, made: 1 };
-    state.pending = (!wide.keys.is_empty()).then_some(copying);
+    row(BadTables, !tables_hold(&state))?;
+    state.pending = (wide.used > 0).then_some(Pending { operation: Operation::Copying, made: 1 });
     state.wide = wide;
     Ok(state)
-}
-
-/// The entries that word 6 counts, past row 6.
-fn committed_entries(buffer: &[u8], sizes: Sizes) -> Answer<Wide> {
-    let count = if sizes.l == 0 { 0 } else { word(buffer, COUNT_AT) };
-    row(BadRecord, count > sizes.l)?;
-    let keys = (0..count).map(|entry| word(buffer, sizes.entry_word(entry, 0))).collect();
-    let wide = Wide { writer: None, keys };
-    row(BadRecord, !wide.entries_hold(sizes))?;
-    Ok(wide)
 }
 
 /// Mounts, copies one committed line to the target's start and forgets. A line with a committed entry is the entry's.
 pub fn recall(page: u64, line: u64, buffer: &[u8], target: &mut [u8]) -> Answer<()> {
     let state = mount(buffer)?;
     row(BadArgument, page >= state.sizes.p || line >= LINES || target.len() < 64)?;
-    let frame = match state.slot_of(page) {
-        Some(slot) => state.slots[slot].committed_frame(line),
-        None => word(buffer, state.sizes.page_word(page)),
-    };
     let at = match state.wide.entry_of(page, line) {
         Some(entry) => state.sizes.entry_word(entry, 1),
-        None => state.sizes.line_start(frame, line),
+        None => state.sizes.line_start(state.committed_frame(page, line), line),
     };
     target[..64].copy_from_slice(&line_at(buffer, at));
     Ok(())
@@ -104,24 +89,18 @@ fn replay(buffer: &[u8], sizes: Sizes, (head, tail): (u64, u64), live: &[u64]) -
         state.slots[record.slot_number as usize] = record.slot;
         state.last[record.slot_number as usize] = Some(position);
     }
+    // the map: a slotted page's original, any other page's word (document 02, L5)
+    for page in 0..sizes.p {
+        let slotted = state.slot_of(page).map(|slot| state.slots[slot].original);
+        state.map[page as usize] = slotted.unwrap_or_else(|| word(buffer, sizes.page_word(page)));
+    }
     state
 }
 
 /// Row 7 turned round.
-fn tables_hold(buffer: &[u8], state: &State) -> bool {
+fn tables_hold(state: &State) -> bool {
     let (slots, sizes) = (state.slots_used(), state.sizes);
     slots.iter().all(|slot| slot.has_shape(sizes))
         && !page_twice(slots, sizes)
-        && each_frame_named_once(buffer, slots, sizes)
-}
-
-/// Spares and homes name each frame once. A page's home is its slot's original, or its
-/// page-table word if it has no slot.
-fn each_frame_named_once(buffer: &[u8], slots: &[Slot], sizes: Sizes) -> bool {
-    let home = |page| match slot_owning(slots, sizes, page) {
-        Some(slot) => slots[slot].original,
-        None => word(buffer, sizes.page_word(page)),
-    };
-    let names: Vec<u64> = slots.iter().map(|slot| slot.spare).chain((0..sizes.p).map(home)).collect();
-    (0..sizes.frames()).all(|frame| names.iter().filter(|name| **name == frame).count() == 1)
+        && each_frame_once(slots, &state.map, sizes)
 }

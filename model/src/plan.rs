@@ -3,40 +3,16 @@
 use crate::fresh::fresh_image;
 use crate::image::{put_word, word};
 use crate::journal::{position_after, Record};
-use crate::layout::{Sizes, COUNT_AT, HEAD_AT, LAYOUT_AT, LINES, TAIL_AT, WORD};
+use crate::layout::{Sizes, HEAD_AT, LAYOUT_AT, TAIL_AT, WORD};
 use crate::slots::{lines_of, Slot};
-use crate::state::{Event, Log, Operation, Pending, State, Wide, Write};
+use crate::state::{Event, Operation, Pending, State, Write};
+use crate::wide;
 
 /// One store: a word's address and what goes there.
 #[derive(Clone, Copy, Debug, PartialEq, Eq)]
 pub struct Store {
-    pub at: Place,
+    pub at: usize,
     pub value: Value,
-}
-
-#[derive(Clone, Copy, Debug, PartialEq, Eq)]
-pub enum Place {
-    At(usize),
-    /// A word of a line of a page without a slot, in the frame that its page-table word names when the store is made. The
-    /// remainder keeps a store inside an image whose page table is wrong.
-    InPage {
-        sizes: Sizes,
-        page: u64,
-        line: u64,
-        i: u64,
-    },
-}
-
-impl Place {
-    pub fn address(self, image: &[u8]) -> usize {
-        match self {
-            Place::At(at) => at,
-            Place::InPage { sizes, page, line, i } => {
-                let frame = word(image, sizes.page_word(page)) % sizes.frames();
-                sizes.line_start(frame, line) + 8 * i as usize
-            }
-        }
-    }
 }
 
 #[derive(Clone, Copy, Debug, PartialEq, Eq)]
@@ -52,8 +28,22 @@ impl Store {
             Value::Word(value) => value,
             Value::CopyOf(from) => word(image, from),
         };
-        put_word(image, self.at.address(image), value);
+        put_word(image, self.at, value);
     }
+}
+
+pub fn put(at: usize, value: u64) -> Store {
+    Store { at, value: Value::Word(value) }
+}
+
+/// The eight words of a line, from one address to another, rising.
+pub fn copies(from: usize, to: usize) -> impl Iterator<Item = Store> {
+    (0..8).map(move |i| Store { at: to + 8 * i, value: Value::CopyOf(from + 8 * i) })
+}
+
+/// A finished line to an address, rising.
+fn line_stores(at: usize, line: &[u8; 64]) -> Vec<Store> {
+    (0..8).map(|i| put(at + 8 * i, word(line, 8 * i))).collect()
 }
 
 /// Every store of an operation that the rows let through.
@@ -66,8 +56,8 @@ pub fn plan(state: &State, operation: &Operation) -> Vec<Store> {
         Operation::Event(event) => event_plan(state, event),
         Operation::Prepare { writer } => commit_records(state, *writer),
         Operation::Confirm { writer } => head_store(state, *writer),
-        Operation::Log(log) => log_plan(state, log),
-        Operation::Copy => copy_plan(state),
+        Operation::WideWrite(write) => wide::write_plan(state, write),
+        Operation::Copying => wide::copying_plan(state),
         Operation::Format => format_plan(state),
     }
 }
@@ -85,8 +75,8 @@ pub fn complete(state: &mut State, operation: &Operation) {
             complete_commit(state, *writer);
             state.prepared = None;
         }
-        Operation::Log(log) => complete_log(state, log),
-        Operation::Copy => state.close_wide(),
+        Operation::WideWrite(write) => wide::complete_write(state, write),
+        Operation::Copying => wide::close(state),
         // the state was the fresh one from the asking on
         Operation::Format => {}
     }
@@ -108,18 +98,13 @@ pub fn make_stores(state: &mut State, image: &mut [u8], k: u64) -> u64 {
     last - made
 }
 
-fn put(at: usize, value: u64) -> Store {
-    Store { at: Place::At(at), value: Value::Word(value) }
-}
-
 /// The finished line goes to the frame that is not the committed one.
 fn write_plan(state: &State, write: &Write) -> Vec<Store> {
     let frame = match state.slot_of(write.page) {
         Some(slot) => state.slots[slot].other_frame(write.line),
         None => state.slots[slot_for(state)].spare,
     };
-    let at = state.sizes.line_start(frame, write.line);
-    (0..8).map(|i| put(at + 8 * i, word(&write.finished, 8 * i))).collect()
+    line_stores(state.sizes.line_start(frame, write.line), &write.finished)
 }
 
 /// The slot that a page without one takes. Row 15 says that there is one.
@@ -130,12 +115,16 @@ fn slot_for(state: &State) -> usize {
 fn complete_write(state: &mut State, write: &Write) {
     let slot = state.slot_of(write.page).unwrap_or_else(|| {
         let taken = slot_for(state);
-        let spare = state.slots[taken].spare;
-        state.slots[taken] = Slot { page: write.page, original: write.frame, spare, bitmap: 0 };
+        state.slots[taken] = taken_slot(state, taken, write.page);
         state.next = (taken as u64 + 1) % state.sizes.s;
         taken
     });
     state.writers[write.writer as usize].held[slot] |= 1 << write.line;
+}
+
+/// A free slot as a page takes it: its original is the map's entry (document 02, L5).
+fn taken_slot(state: &State, slot: usize, page: u64) -> Slot {
+    Slot { page, original: state.map[page as usize], spare: state.slots[slot].spare, bitmap: 0 }
 }
 
 /// The slot as a writer's commit leaves it: bitmap = committed exclusive-or held.
@@ -207,10 +196,7 @@ fn consolidate_plan(state: &State, page: u64) -> Vec<Store> {
     let sizes = state.sizes;
     let mut stores = vec![];
     for line in lines {
-        for i in 0..8 {
-            let value = Value::CopyOf(sizes.line_start(from, line) + 8 * i);
-            stores.push(Store { at: Place::At(sizes.line_start(to, line) + 8 * i), value });
-        }
+        stores.extend(copies(sizes.line_start(from, line), sizes.line_start(to, line)));
     }
     stores.push(put(sizes.page_word(page), to));
     let record = Record { first: state.head, slot_number: slot as u64, slot: Slot::free(from) };
@@ -220,8 +206,10 @@ fn consolidate_plan(state: &State, page: u64) -> Vec<Store> {
 }
 
 fn complete_consolidate(state: &mut State, page: u64) {
-    let Consolidation { slot, from, .. } = consolidation(state, page);
+    let Consolidation { slot, from, to, .. } = consolidation(state, page);
     state.slots[slot] = Slot::free(from);
+    // "consolidation still stores its word and now changes the map too" (document 02, L5)
+    state.map[page as usize] = to;
     state.last[slot] = Some(state.head);
     state.head = position_after(state.sizes, state.head, 1);
 }
@@ -237,7 +225,7 @@ fn checkpoint_plan(state: &State) -> Vec<Store> {
         let last = state.last[slot].expect("the slot has a last record");
         for i in 0..3 {
             let value = Value::CopyOf(sizes.record_word(last, i + 1));
-            stores.push(Store { at: Place::At(sizes.slot_word(slot as u64, i)), value });
+            stores.push(Store { at: sizes.slot_word(slot as u64, i), value });
         }
     }
     stores.push(put(TAIL_AT, state.head));
@@ -253,10 +241,11 @@ fn complete_checkpoint(state: &mut State) {
 
 /// The slot of page 0 before an event's record, taken if the page has none, and after it.
 fn event_slots(state: &State, event: &Event) -> (usize, Slot, Slot) {
-    let number = state.slot_of(0).unwrap_or_else(|| slot_for(state));
-    let taken = Slot { page: 0, original: event.frame, bitmap: 0, ..state.slots[number] };
-    let before = if state.slot_of(0).is_some() { state.slots[number] } else { taken };
-    let lines = event.finished.iter().fold(0, |lines, (line, _)| lines | 1 << line);
+    let (number, before) = match state.slot_of(0) {
+        Some(slot) => (slot, state.slots[slot]),
+        None => (slot_for(state), taken_slot(state, slot_for(state), 0)),
+    };
+    let lines = event.asked.meters().iter().fold(0, |lines, line| lines | 1 << line);
     (number, before, Slot { bitmap: before.bitmap ^ lines, ..before })
 }
 
@@ -264,9 +253,8 @@ fn event_slots(state: &State, event: &Event) -> (usize, Slot, Slot) {
 fn event_plan(state: &State, event: &Event) -> Vec<Store> {
     let (number, before, after) = event_slots(state, event);
     let mut stores = vec![];
-    for (line, finished) in &event.finished {
-        let at = state.sizes.line_start(before.other_frame(*line), *line);
-        stores.extend((0..8).map(|i| put(at + 8 * i, word(finished, 8 * i))));
+    for (line, finished) in event.asked.meters().into_iter().zip(&event.finished) {
+        stores.extend(line_stores(state.sizes.line_start(before.other_frame(line), line), finished));
     }
     let record = Record { first: state.head, slot_number: number as u64, slot: after };
     stores.extend(record_stores(state.sizes, state.head, record));
@@ -282,45 +270,6 @@ fn complete_event(state: &mut State, event: &Event) {
     state.slots[number] = after;
     state.last[number] = Some(state.head);
     state.head = position_after(state.sizes, state.head, 1);
-}
-
-/// The line's entry, the next one if it has none: page × 64 + line, then the finished line.
-fn log_plan(state: &State, log: &Log) -> Vec<Store> {
-    let next = state.wide.keys.len() as u64;
-    let entry = state.wide.entry_of(log.page, log.line).unwrap_or(next);
-    let line = (0..8).map(|i| word(&log.finished, 8 * i));
-    let words = [Wide::key(log.page, log.line)].into_iter().chain(line);
-    (0..).zip(words).map(|(i, value)| put(state.sizes.entry_word(entry, i), value)).collect()
-}
-
-fn complete_log(state: &mut State, log: &Log) {
-    if state.wide.entry_of(log.page, log.line).is_none() {
-        state.wide.keys.push(Wide::key(log.page, log.line));
-    }
-}
-
-/// The count of the entries, each entry's line over its committed copy, then 0 over the count.
-fn copy_plan(state: &State) -> Vec<Store> {
-    let (sizes, keys) = (state.sizes, &state.wide.keys);
-    if keys.is_empty() {
-        return vec![];
-    }
-    let mut stores = vec![put(COUNT_AT, keys.len() as u64)];
-    for (entry, key) in (0..).zip(keys) {
-        let (page, line) = (key / LINES, key % LINES);
-        for i in 0..8 {
-            let at = match state.slot_of(page) {
-                Some(slot) => {
-                    let frame = state.slots[slot].committed_frame(line);
-                    Place::At(sizes.line_start(frame, line) + 8 * i as usize)
-                }
-                None => Place::InPage { sizes, page, line, i },
-            };
-            stores.push(Store { at, value: Value::CopyOf(sizes.entry_word(entry, i + 1)) });
-        }
-    }
-    stores.push(put(COUNT_AT, 0));
-    stores
 }
 
 /// Layout 0, so that no mount takes what is there; every other word, rising; then the layout.

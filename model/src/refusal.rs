@@ -1,4 +1,4 @@
-//! The numbered answers of the table "Turned back, by place".
+//! The numbered answers of the table "Turned back, by place". Row 16 is gone (document 02, L5).
 
 /// Why a call was turned back. The discriminant is the row's number.
 #[derive(Clone, Copy, Debug, PartialEq, Eq)]
@@ -18,7 +18,6 @@ pub enum Refusal {
     WriterClosed = 13,
     LineHeld = 14,
     NoFreeSlot = 15,
-    BadPageWord = 16,
     PageWithoutSlot = 17,
     PageHeld = 18,
     JournalFull = 19,

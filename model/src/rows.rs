@@ -5,8 +5,29 @@ use crate::journal::live_count;
 use crate::layout::LINES;
 use crate::meters::Asked;
 use crate::refusal::{row, Answer, Refusal::*};
-use crate::slots::{frames_named, FREE_PAGE};
-use crate::state::{State, WRITERS};
+use crate::slots::FREE_PAGE;
+use crate::state::{Operation, State, WideWrite, Write, WRITERS};
+use crate::wide;
+
+/// The rows from 11 on that row 8 asks again of a pending operation: row 11 without the data (document 01), an event's without
+/// 21 (L2) and 26 (L10). A checkpoint has none, and what a format stands beside is no row's matter.
+pub fn operation_rows(state: &State, operation: &Operation) -> Answer<()> {
+    match operation {
+        Operation::Write(write) => write_rows(state, write),
+        Operation::Commit { writer } => commit_rows(state, *writer),
+        Operation::Consolidate { page } => consolidate_rows(state, *page),
+        Operation::Checkpoint | Operation::Format => Ok(()),
+        Operation::Event(event) => {
+            known_rows(state, event.asked)?;
+            event_rows(state, event.asked)?;
+            room_row(state, 1)
+        }
+        Operation::Prepare { writer } => prepare_rows(state, *writer),
+        Operation::Confirm { writer } => confirm_rows(state, *writer),
+        Operation::WideWrite(write) => wide_write_rows(state, write),
+        Operation::Copying => copying_rows(state),
+    }
+}
 
 fn writer_row(writer: u64) -> Answer<()> {
     row(BadArgument, writer >= WRITERS as u64)
@@ -18,19 +39,13 @@ fn page_row(state: &State, page: u64) -> Answer<()> {
 
 pub fn begin_rows(state: &State, writer: u64) -> Answer<()> {
     writer_row(writer)?;
-    beside_row(state)?;
+    wide::beside_row(state)?;
     row(WriterOpen, state.is_open(writer))
 }
 
 pub fn begin_wide_rows(state: &State, writer: u64) -> Answer<()> {
     writer_row(writer)?;
-    row(NoWideRounds, state.sizes.l == 0)?;
-    row(OtherOpen, state.writers.iter().any(|writer| writer.open))
-}
-
-/// Row 29 for what nobody may do while a wide transaction is open.
-fn beside_row(state: &State) -> Answer<()> {
-    row(OtherOpen, state.wide.writer.is_some())
+    wide::begin_rows(state)
 }
 
 pub fn abort_rows(state: &State, writer: u64) -> Answer<()> {
@@ -66,27 +81,21 @@ fn first_write_rows(
     row(WriterClosed, !state.is_open(writer))
 }
 
-/// Rows 11 (without the data) to 15.
-pub fn write_rows(
-    state: &State,
-    (writer, page, line): (u64, u64, u64),
-    span: (u64, u64),
-) -> Answer<()> {
-    first_write_rows(state, (writer, page, line), span)?;
+/// Rows 11 (without the data), 13, 23, 14 and 15.
+fn write_rows(state: &State, write: &Write) -> Answer<()> {
+    let Write { writer, page, line, offset, length, .. } = *write;
+    first_write_rows(state, (writer, page, line), (offset, length))?;
     own_row(state, writer)?;
     row(LineHeld, held_by_another(state, writer, page, line))?;
     row(NoFreeSlot, state.slot_of(page).is_none() && state.first_free().is_none())
 }
 
-/// Rows 11 (without the data), 13 and 30 of the wide writer's write, which takes no slot; nobody else holds a line.
-pub fn log_rows(
-    state: &State,
-    (writer, page, line): (u64, u64, u64),
-    span: (u64, u64),
-) -> Answer<()> {
-    first_write_rows(state, (writer, page, line), span)?;
-    let used = state.wide.keys.len() as u64;
-    row(EntriesUsed, state.wide.entry_of(page, line).is_none() && used >= state.sizes.l)
+/// Rows 11 (without the data), 13 and 30 of a write by the wide writer. Where there is none, it is nobody who is open.
+fn wide_write_rows(state: &State, write: &WideWrite) -> Answer<()> {
+    let WideWrite { page, line, offset, length, .. } = *write;
+    let writer = state.wide.writer.ok_or(WriterClosed)?;
+    first_write_rows(state, (writer, page, line), (offset, length))?;
+    wide::write_row(state, page, line)
 }
 
 fn length_row(offset: u64, length: u64) -> Answer<()> {
@@ -98,16 +107,10 @@ fn held_by_another(state: &State, writer: u64, page: u64, line: u64) -> bool {
     state.slot_of(page).is_some_and(|slot| others.any(|other| state.holds(other, slot, line)))
 }
 
-/// Row 16 for a page without a slot, on a frame that its page-table word names.
-pub fn frame_row(state: &State, frame: u64) -> Answer<()> {
-    let of_a_slot = frames_named(state.slots_used(), state.sizes).contains(&frame);
-    row(BadPageWord, frame >= state.sizes.frames() || of_a_slot)
-}
-
 /// Row 29 comes right after 11.
 pub fn prepare_rows(state: &State, writer: u64) -> Answer<()> {
     writer_row(writer)?;
-    beside_row(state)?;
+    wide::beside_row(state)?;
     commit_rows(state, writer)
 }
 
@@ -119,8 +122,8 @@ pub fn commit_rows(state: &State, writer: u64) -> Answer<()> {
     room_row(state, state.slots_held(writer).len() as u64)
 }
 
-/// What is left of a commit's rows for a copying, which may be without a writer and appends no record.
-pub fn copy_rows(state: &State) -> Answer<()> {
+/// What row 8 asks of a copying: "without a writer, so row 8 leaves out its 11 and 13" (document 02, L14).
+fn copying_rows(state: &State) -> Answer<()> {
     alone_row(state)
 }
 
@@ -140,7 +143,7 @@ pub fn consolidate_rows(state: &State, page: u64) -> Answer<()> {
 
 /// Rows 29 and 20.
 pub fn known_rows(state: &State, asked: Asked) -> Answer<()> {
-    beside_row(state)?;
+    wide::beside_row(state)?;
     row(UnknownEvent, asked.meters().is_empty())
 }
 

@@ -71,11 +71,16 @@ pub fn lines_of(mask: u64) -> Vec<u64> {
     (0..64).filter(|&line| has_line(mask, line)).collect()
 }
 
-/// The frames that slots name: every spare, and the originals of owning slots.
-pub fn frames_named(slots: &[Slot], sizes: Sizes) -> Vec<u64> {
-    let spares = slots.iter().map(|slot| slot.spare);
-    let originals = slots.iter().filter(|slot| slot.is_owning(sizes)).map(|slot| slot.original);
-    spares.chain(originals).collect()
+/// Whether the spares and the map's entries together name each frame once.
+pub fn each_frame_once(slots: &[Slot], map: &[u64], sizes: Sizes) -> bool {
+    let mut named = vec![0; sizes.frames() as usize];
+    for frame in slots.iter().map(|slot| slot.spare).chain(map[..sizes.p as usize].iter().copied()) {
+        match named.get_mut(usize::try_from(frame).expect("a frame's number is a word")) {
+            Some(count) => *count += 1,
+            None => return false,
+        }
+    }
+    named.iter().all(|&count| count == 1)
 }
 
 /// The slot that owns a page, if any.
@@ -85,8 +90,8 @@ pub fn slot_owning(slots: &[Slot], sizes: Sizes, page: u64) -> Option<usize> {
 
 /// Whether some page is in two slots.
 pub fn page_twice(slots: &[Slot], sizes: Sizes) -> bool {
-    let owners = |page| slots.iter().filter(|slot| slot.is_owning(sizes) && slot.page == page).count();
-    (0..sizes.p).any(|page| owners(page) > 1)
+    let owning: Vec<u64> = slots.iter().filter(|slot| slot.is_owning(sizes)).map(|slot| slot.page).collect();
+    (0..owning.len()).any(|i| owning[..i].contains(&owning[i]))
 }
 
 #[cfg(test)]

@@ -1,13 +1,14 @@
 //! What the host keeps between calls.
 
-use crate::layout::{Sizes, LINES, MOST_SLOTS};
+use crate::layout::{Sizes, MOST_PAGES, MOST_SLOTS};
 use crate::meters::Asked;
 use crate::slots::{has_line, slot_owning, Slot};
+use crate::wide::Wide;
 
 pub const WRITERS: usize = 4;
 
 /// Any numbers may stand here (a host may hand in anything); row 8 says which of them make a state.
-/// Places past S are never read.
+/// Places past S and map entries past P are never read.
 #[derive(Clone, Debug, PartialEq, Eq)]
 pub struct State {
     pub sizes: Sizes,
@@ -18,6 +19,8 @@ pub struct State {
     pub slots: [Slot; MOST_SLOTS],
     /// For each slot the position of its last live record.
     pub last: [Option<u64>; MOST_SLOTS],
+    /// The page map (document 02, L5): entry p is page p's frame, a slotted page's original. Always `MOST_PAGES` entries.
+    pub map: Vec<u64>,
     pub writers: [Writer; WRITERS],
     /// The writer whose records are stored and wait for their confirm.
     pub prepared: Option<u64>,
@@ -30,31 +33,6 @@ pub struct Writer {
     pub open: bool,
     /// For each slot the set of lines held there.
     pub held: [u64; MOST_SLOTS],
-}
-
-/// The entries in use (document 02, L14): a wide transaction's or, with no writer, those that a mount found committed.
-#[derive(Clone, Debug, Default, PartialEq, Eq)]
-pub struct Wide {
-    pub writer: Option<u64>,
-    /// Of each entry its first word, page × 64 + line.
-    pub keys: Vec<u64>,
-}
-
-impl Wide {
-    pub fn key(page: u64, line: u64) -> u64 {
-        page * LINES + line
-    }
-
-    /// The entry of a line, if it has one.
-    pub fn entry_of(&self, page: u64, line: u64) -> Option<u64> {
-        self.keys.iter().position(|&key| key == Wide::key(page, line)).map(|entry| entry as u64)
-    }
-
-    /// At most L entries, each of a line of a page below P, none of a line twice.
-    pub fn entries_hold(&self, sizes: Sizes) -> bool {
-        let once = |key| self.keys.iter().filter(|other| *other == key).count() == 1;
-        self.keys.len() as u64 <= sizes.l && self.keys.iter().all(|key| key / LINES < sizes.p && once(key))
-    }
 }
 
 #[derive(Clone, Debug, PartialEq, Eq)]
@@ -81,12 +59,30 @@ pub enum Operation {
     Confirm {
         writer: u64,
     },
-    /// A write by the wide writer.
-    Log(Log),
-    /// The wide writer's commit, or what a mount found of one.
-    Copy,
+    /// A write by the wide writer (document 02, L14).
+    WideWrite(WideWrite),
+    /// The copying of a wide commit, its writer's or what a mount found of one.
+    Copying,
     /// Of the state's sizes (document 02, L6).
     Format,
+}
+
+impl Operation {
+    /// The number that PROBE.md gives to each kind.
+    pub fn kind(&self) -> u64 {
+        match self {
+            Operation::Write(_) => 1,
+            Operation::Commit { .. } => 2,
+            Operation::Consolidate { .. } => 3,
+            Operation::Checkpoint => 4,
+            Operation::Event(_) => 5,
+            Operation::Prepare { .. } => 6,
+            Operation::Confirm { .. } => 7,
+            Operation::WideWrite(_) => 8,
+            Operation::Copying => 9,
+            Operation::Format => 10,
+        }
+    }
 }
 
 #[derive(Clone, Debug, PartialEq, Eq)]
@@ -96,21 +92,17 @@ pub struct Write {
     pub line: u64,
     pub offset: u64,
     pub length: u64,
-    /// The page's frame; for a slotted page its original.
-    pub frame: u64,
     /// The whole line as it will be stored.
     pub finished: [u8; 64],
 }
 
-/// A write of the wide writer, which goes to an entry.
+/// Its writer is the wide one.
 #[derive(Clone, Debug, PartialEq, Eq)]
-pub struct Log {
+pub struct WideWrite {
     pub page: u64,
     pub line: u64,
     pub offset: u64,
     pub length: u64,
-    /// The page's frame; for a slotted page its original.
-    pub frame: u64,
     pub finished: [u8; 64],
 }
 
@@ -118,14 +110,12 @@ pub struct Log {
 #[derive(Clone, Debug, PartialEq, Eq)]
 pub struct Event {
     pub asked: Asked,
-    /// The frame of page 0; for a slotted page its original.
-    pub frame: u64,
-    /// Each line, credit's first, with the whole line as it will be stored.
-    pub finished: Vec<(u64, [u8; 64])>,
+    /// The whole lines as they will be stored, in the order of `Asked::meters`; the second line of a count is zeros.
+    pub finished: [[u8; 64]; 2],
 }
 
 impl State {
-    /// Nothing open, held, prepared, pending or live; every place past S at 0.
+    /// Nothing open, held, prepared, pending or live; every place past S and every map entry at 0.
     pub fn empty(sizes: Sizes) -> State {
         State {
             sizes,
@@ -134,6 +124,7 @@ impl State {
             next: 0,
             slots: [Slot::default(); MOST_SLOTS],
             last: [None; MOST_SLOTS],
+            map: vec![0; MOST_PAGES],
             writers: [Writer::default(); WRITERS],
             prepared: None,
             wide: Wide::default(),
@@ -180,8 +171,12 @@ impl State {
         (0..self.slot_count()).filter(|&slot| self.last[slot].is_some()).collect()
     }
 
-    pub fn is_wide(&self, writer: u64) -> bool {
-        self.wide.writer == Some(writer)
+    /// The frame with the committed copy of a line of a page below P.
+    pub fn committed_frame(&self, page: u64, line: u64) -> u64 {
+        match self.slot_of(page) {
+            Some(slot) => self.slots[slot].committed_frame(line),
+            None => self.map[page as usize],
+        }
     }
 
     /// Closes a writer and empties its held lines.
@@ -190,13 +185,5 @@ impl State {
         let writer = &mut self.writers[writer as usize];
         writer.open = false;
         writer.held[..count].fill(0);
-    }
-
-    /// No wide transaction is left; its writer, if it has one, is closed.
-    pub fn close_wide(&mut self) {
-        if let Some(writer) = self.wide.writer {
-            self.close(writer);
-        }
-        self.wide = Wide::default();
     }
 }

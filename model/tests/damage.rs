@@ -1,4 +1,4 @@
-//! Rows 1 to 7 on damaged images, row 8 and 16 on damaged states and words, and which row comes first.
+//! Rows 1 to 7 on damaged images, row 8 on damaged states, and which row comes first.
 
 mod common;
 
@@ -8,7 +8,7 @@ use model::layout::{HEAD_AT, J_AT, LAYOUT_AT, P_AT, S_AT, TAIL_AT};
 use model::mount::{mount, recall};
 use model::slots::Slot;
 use model::state::{Operation, Pending, State, Write};
-use model::validity::{breach, Breach};
+use model::validity::{broken_clauses, Clause};
 
 /// P=3, S=2, J=4. Pages 0 and 1 in slots 0 and 1 by one commit (records 0, 1), then page 0 again (record 2).
 fn store() -> Store {
@@ -127,10 +127,10 @@ fn the_first_row_counts() {
 }
 
 /// What breaks the state of `open_store` after a change.
-fn broken(change: impl FnOnce(&mut State)) -> Option<Breach> {
+fn broken(change: impl FnOnce(&mut State)) -> Vec<Clause> {
     let mut state = open_store().state;
     change(&mut state);
-    breach(&state)
+    broken_clauses(&state)
 }
 
 /// As `store`, with writer 0 open and holding line 1 of page 1, which is in slot 1.
@@ -143,16 +143,18 @@ fn open_store() -> Store {
 
 #[test]
 fn row_8_numbers() {
-    assert_eq!(broken(|_| ()), None);
-    assert_eq!(broken(|s| s.sizes.p = u64::MAX), Some(Breach::Sizes));
-    assert_eq!(broken(|s| s.head = u64::MAX), Some(Breach::JournalBounds));
-    assert_eq!(broken(|s| s.head = 5), Some(Breach::JournalBounds), "five live");
-    assert_eq!(broken(|s| s.slots[0].page = 3), Some(Breach::SlotShape));
-    assert_eq!(broken(|s| s.slots[0].page = 1), Some(Breach::PageTwice));
-    assert_eq!(broken(|s| s.slots[0].spare = 1), Some(Breach::FrameTwice));
-    assert_eq!(broken(|s| s.slots[0].original = 2), None, "page-table words are not asked");
-    assert_eq!(broken(|s| s.next = 2), Some(Breach::NextSlot));
-    assert_eq!(broken(|s| s.slots[5].page = 77), None, "past S");
+    assert_eq!(broken(|_| ()), vec![]);
+    assert_eq!(broken(|s| s.sizes.p = u64::MAX), vec![Clause::PAbove]);
+    assert_eq!(broken(|s| s.head = u64::MAX), vec![Clause::HeadBeyond]);
+    assert_eq!(broken(|s| s.tail = 8), vec![Clause::TailBeyond]);
+    assert_eq!(broken(|s| s.head = 5), vec![Clause::OverJLive], "five live");
+    assert_eq!(broken(|s| s.slots[0].page = 3), vec![Clause::SlotShape]);
+    assert_eq!(broken(|s| s.slots[0].page = 1), vec![Clause::PageTwice, Clause::EntryNotOriginal]);
+    let same = |s: &mut State| (s.slots[0].page, s.slots[0].original) = (1, 1);
+    assert_eq!(broken(same), vec![Clause::PageTwice], "with the same original, too");
+    assert_eq!(broken(|s| s.slots[0].spare = 1), vec![Clause::FrameNotOnce]);
+    assert_eq!(broken(|s| s.next = 2), vec![Clause::NextSlot]);
+    assert_eq!(broken(|s| s.slots[5].page = 77), vec![], "past S");
 }
 
 #[test]
@@ -161,38 +163,38 @@ fn row_8_held_lines_and_last_positions() {
         s.writers[1].open = true;
         s.writers[1].held[1] = 2;
     };
-    assert_eq!(broken(open_both), Some(Breach::HeldTwice));
-    assert_eq!(broken(|s| s.writers[3].held[0] = 1 << 63), Some(Breach::HeldByClosed));
-    assert_eq!(broken(|s| s.writers[0].open = false), Some(Breach::HeldByClosed));
-    assert_eq!(broken(|s| s.slots[1] = Slot::free(4)), Some(Breach::HeldInFree));
-    assert_eq!(broken(|s| s.last[0] = Some(3)), Some(Breach::LastNotLive));
-    assert_eq!(broken(|s| s.last[0] = Some(8)), Some(Breach::LastNotLive), "position 0, once round");
-    assert_eq!(broken(|s| s.last[0] = Some(1)), Some(Breach::LastTwice));
-    assert_eq!(broken(|s| s.last = [None; 16]), None, "a live record need not have a last position");
+    assert_eq!(broken(open_both), vec![Clause::HeldTwice]);
+    assert_eq!(broken(|s| s.writers[3].held[0] = 1 << 63), vec![Clause::HeldByClosed]);
+    assert_eq!(broken(|s| s.writers[0].open = false), vec![Clause::HeldByClosed]);
+    assert_eq!(broken(|s| s.slots[1] = Slot::free(4)), vec![Clause::HeldInFree]);
+    assert_eq!(broken(|s| s.writers[0].held[0] = u64::MAX), vec![], "all lines of a page");
+    assert_eq!(broken(|s| s.last[0] = Some(3)), vec![Clause::LastNotLive]);
+    assert_eq!(broken(|s| s.last[0] = Some(8)), vec![Clause::LastNotLive], "position 0, once round");
+    assert_eq!(broken(|s| s.last[0] = Some(1)), vec![Clause::LastTwice]);
+    assert_eq!(broken(|s| s.last = [None; 16]), vec![], "a live record need not have a last position");
 }
 
 #[test]
 fn row_8_pending() {
     let pend = |operation: Operation, made: u64| broken(|s| s.pending = Some(Pending { operation, made }));
-    assert_eq!(pend(Operation::Commit { writer: 0 }, 4), None);
-    assert_eq!(pend(Operation::Commit { writer: 0 }, 5), Some(Breach::PendingMade));
-    assert_eq!(pend(Operation::Commit { writer: 0 }, u64::MAX), Some(Breach::PendingMade));
-    assert_eq!(pend(Operation::Commit { writer: 1 }, 0), Some(Breach::PendingRefused(13)));
-    assert_eq!(pend(Operation::Commit { writer: u64::MAX }, 0), Some(Breach::PendingRefused(11)));
-    assert_eq!(pend(Operation::Consolidate { page: 0 }, 0), None);
-    assert_eq!(pend(Operation::Consolidate { page: 1 }, 0), Some(Breach::PendingRefused(18)));
-    assert_eq!(pend(Operation::Consolidate { page: 2 }, 0), Some(Breach::PendingRefused(17)));
-    assert_eq!(pend(Operation::Checkpoint, 6), None, "two slots and tail");
-    assert_eq!(pend(Operation::Checkpoint, 7), Some(Breach::PendingMade));
-    let write = |page, offset, length, frame| {
-        let write = Write { writer: 0, page, line: 1, offset, length, frame, finished: [0; 64] };
+    assert_eq!(pend(Operation::Commit { writer: 0 }, 4), vec![]);
+    assert_eq!(pend(Operation::Commit { writer: 0 }, 5), vec![Clause::PendingMade(2)]);
+    assert_eq!(pend(Operation::Commit { writer: 0 }, u64::MAX), vec![Clause::PendingMade(2)]);
+    assert_eq!(pend(Operation::Commit { writer: 1 }, 0), vec![Clause::PendingRow(2, 13)]);
+    assert_eq!(pend(Operation::Commit { writer: u64::MAX }, 0), vec![Clause::PendingRow(2, 11)]);
+    assert_eq!(pend(Operation::Consolidate { page: 0 }, 0), vec![]);
+    assert_eq!(pend(Operation::Consolidate { page: 1 }, 0), vec![Clause::PendingRow(3, 18)]);
+    assert_eq!(pend(Operation::Consolidate { page: 2 }, 0), vec![Clause::PendingRow(3, 17)]);
+    assert_eq!(pend(Operation::Checkpoint, 6), vec![], "two slots and tail");
+    assert_eq!(pend(Operation::Checkpoint, 7), vec![Clause::PendingMade(4)]);
+    let write = |page, offset, length| {
+        let write = Write { writer: 0, page, line: 1, offset, length, finished: [0; 64] };
         pend(Operation::Write(write), 7)
     };
-    assert_eq!(write(1, 0, 64, 1), None);
-    assert_eq!(write(1, 0, 64, 4), Some(Breach::PendingFrame), "not the original");
-    assert_eq!(write(1, 0, 65, 1), Some(Breach::PendingRefused(11)));
-    assert_eq!(write(1, u64::MAX, 2, 1), Some(Breach::PendingRefused(11)), "a sum that would wrap");
-    assert_eq!(write(2, 0, 1, 2), Some(Breach::PendingRefused(15)));
+    assert_eq!(write(1, 0, 64), vec![]);
+    assert_eq!(write(1, 0, 65), vec![Clause::PendingRow(1, 11)]);
+    assert_eq!(write(1, u64::MAX, 2), vec![Clause::PendingRow(1, 11)], "a sum that would wrap");
+    assert_eq!(write(2, 0, 1), vec![Clause::PendingRow(1, 15)]);
 }
 
 #[test]
@@ -200,25 +202,38 @@ fn row_8_pending_without_stores() {
     let mut idle = Store::fresh(1, 1, 1);
     idle.begin(0).unwrap();
     for operation in [Operation::Commit { writer: 0 }, Operation::Checkpoint] {
+        let kind = operation.kind();
         idle.state.pending = Some(Pending { operation, made: 0 });
-        assert_eq!(breach(&idle.state), Some(Breach::PendingMade), "none needed");
+        assert_eq!(broken_clauses(&idle.state), vec![Clause::PendingMade(kind)], "none needed");
         assert_eq!(idle.step(), Err(8));
     }
 }
 
+/// Document 02, L5: "a slotted page's entry is its slot's original, and entries and spares together name each frame once".
 #[test]
-fn row_16() {
+fn row_8_covers_the_map() {
+    let both = |s: &mut State| (s.slots[0].original, s.map[0]) = (2, 2);
+    assert_eq!(broken(both), vec![Clause::FrameNotOnce], "page 2 is there");
+    assert_eq!(broken(|s| s.map.swap(0, 2)), vec![Clause::EntryNotOriginal], "each frame is named");
+    for frame in [0, 1, 3, 4, 5, u64::MAX] {
+        assert_eq!(broken(|s| s.map[2] = frame), vec![Clause::FrameNotOnce], "originals, spares, F: {frame}");
+    }
+    assert_eq!(broken(|s| s.map[3] = 77), vec![], "past P");
+}
+
+/// Row 16 is gone: a word that changes under the state is not read, and the next mount turns the image back.
+#[test]
+fn the_map_is_read_and_not_the_page_table() {
     let mut store = Store::fresh(2, 2, 2);
     store.begin(0).unwrap();
     store.write(0, 0, 0, 1).unwrap();
     for frame in [0, 2, 3, 4, 1 + (1 << 32), u64::MAX] {
         put_word(&mut store.image, 72, frame);
-        assert_eq!(store.read(0, 1, 0), Err(16), "original, spares, F, past 32 bits: {frame}");
-        assert_eq!(store.ask_write(0, 1, 0, 1), Err(16));
-        assert_eq!(store.read(0, 0, 0), Ok(1), "a slotted page's word is not asked");
+        assert_eq!((store.read(0, 1, 0), store.read(0, 0, 0)), (Ok(0), Ok(1)), "{frame}");
+        assert_eq!(mounted(&store.image), 7);
     }
-    put_word(&mut store.image, 72, 1);
-    assert_eq!(store.read(0, 1, 0), Ok(0));
+    assert_eq!(store.write(0, 1, 0, 7), Ok(8));
+    assert_eq!((store.state.slots[1].original, store.read(0, 1, 0)), (1, Ok(7)));
 }
 
 #[test]

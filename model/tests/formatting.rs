@@ -5,13 +5,13 @@ mod common;
 use common::{numbered, Store};
 use model::calls;
 use model::compare::rng::Rng;
-use model::fresh::{fresh_image, fresh_state, is_fresh};
+use model::fresh::{fresh_image, fresh_state, not_fresh, Part};
 use model::image::{put_word, word};
 use model::layout::{Sizes, COUNT_AT, LAYOUT_AT};
 use model::mount::{ask_format, format, mount, recall};
 use model::slots::Slot;
 use model::state::{Operation, Pending, State};
-use model::validity::{breach, Breach};
+use model::validity::{broken_clauses, Clause};
 
 /// Document 01's small image, one without padding, one with entries, and one with several slots.
 const ALL: [Sizes; 4] = [
@@ -84,7 +84,7 @@ fn asking_is_turned_back_and_changes_nothing() {
     assert_eq!(needed, 1_561);
     let pending = Some(Pending { operation: Operation::Format, made: 0 });
     assert_eq!(state, State { pending, ..fresh_state(sizes) });
-    assert!(is_fresh(&state) && breach(&state).is_none());
+    assert_eq!((not_fresh(&state), broken_clauses(&state)), (vec![], vec![]));
     assert_eq!(ask_format(ALL[2], &vec![0; 20_000]).unwrap().1, 1_560 + 27 + 1, "nine words an entry");
 }
 
@@ -231,52 +231,55 @@ fn all_calls(store: &mut Store) -> Vec<Result<u64, u8>> {
 }
 
 /// What breaks a state with a format pending.
-fn broken(sizes: Sizes, change: impl Fn(&mut State)) -> Option<Breach> {
+fn broken(sizes: Sizes, change: impl Fn(&mut State)) -> Vec<Clause> {
     let mut state = fresh_state(sizes);
     state.pending = Some(Pending { operation: Operation::Format, made: 1 });
     change(&mut state);
-    breach(&state)
+    broken_clauses(&state)
 }
 
 #[test]
 fn row_8_wants_the_fresh_state() {
     let sizes = ALL[3];
-    assert_eq!(broken(sizes, |_| ()), None);
+    assert_eq!(broken(sizes, |_| ()), vec![]);
     let made = |made| broken(sizes, |s| s.pending = Some(Pending { operation: Operation::Format, made }));
     let count = words(sizes);
-    assert_eq!((made(0), made(count)), (None, None));
-    assert_eq!((made(count + 1), made(u64::MAX)), (Some(Breach::PendingMade), Some(Breach::PendingMade)));
-    let not_fresh: [fn(&mut State); 10] = [
-        |s| (s.head, s.tail) = (1, 1),
-        |s| s.head = 1,
-        |s| s.next = 1,
-        |s| s.slots.swap(0, 1),
-        |s| s.slots[2] = Slot::free(2),
-        |s| s.slots[0] = Slot { page: 0, original: 0, spare: 3, bitmap: 0 },
-        |s| s.writers[3].open = true,
-        |s| (s.writers[0].open, s.prepared) = (true, Some(0)),
-        |s| s.sizes.p = 4,
-        |s| (s.head, s.last[1]) = (1, Some(0)),
+    assert_eq!((made(0), made(count)), (vec![], vec![]));
+    assert_eq!(
+        (made(count + 1), made(u64::MAX)),
+        (vec![Clause::PendingMade(10)], vec![Clause::PendingMade(10)])
+    );
+    let changes: [(Part, fn(&mut State)); 10] = [
+        (Part::HeadAndTail, |s| (s.head, s.tail) = (1, 1)),
+        (Part::HeadAndTail, |s| s.head = 1),
+        (Part::HeadAndTail, |s| (s.head, s.last[1]) = (1, Some(0))),
+        (Part::NextSlot, |s| s.next = 1),
+        (Part::Slots, |s| s.slots.swap(0, 1)),
+        (Part::Slots, |s| s.slots[0] = Slot { page: 0, original: 0, spare: 3, bitmap: 0 }),
+        (Part::Slots, |s| (s.slots[2], s.map[2]) = (Slot::free(2), 5)),
+        (Part::Map, |s| s.map.swap(0, 2)),
+        (Part::OpenWriters, |s| s.writers[3].open = true),
+        (Part::OpenWriters, |s| (s.writers[0].open, s.prepared) = (true, Some(0))),
     ];
-    for (i, change) in not_fresh.into_iter().enumerate() {
-        assert_eq!(broken(sizes, change), Some(Breach::PendingFormat), "change {i}");
+    for (i, (part, change)) in changes.into_iter().enumerate() {
+        assert_eq!(broken(sizes, change), vec![Clause::NotFresh(part)], "change {i}");
         let mut state = fresh_state(sizes);
         change(&mut state);
-        assert_eq!(breach(&state), None, "only the format is in the way: change {i}");
+        assert_eq!(broken_clauses(&state), vec![], "only the format is in the way: change {i}");
     }
-    assert_eq!(broken(sizes, |s| s.sizes.s = 2), None, "a fresh state, of these sizes");
+    assert_eq!(broken(sizes, |s| s.sizes.s = 2), vec![], "a fresh state, of these sizes");
     let wide = |change: fn(&mut State)| broken(ALL[2], change);
-    assert_eq!(wide(|_| ()), None);
-    assert_eq!(wide(|s| s.wide.keys = vec![0]), Some(Breach::PendingFormat), "an entry used");
+    assert_eq!(wide(|_| ()), vec![]);
+    assert_eq!(wide(|s| s.wide.used = 1), vec![Clause::NotFresh(Part::EntriesUsed)], "an entry used");
     assert_eq!(
         wide(|s| (s.writers[1].open, s.wide.writer) = (true, Some(1))),
-        Some(Breach::PendingFormat),
+        vec![Clause::NotFresh(Part::OpenWriters)],
         "a wide round"
     );
     // earlier rules of row 8 hold beside a format as beside any other operation
-    assert_eq!(broken(sizes, |s| s.writers[0].held[1] = 1), Some(Breach::HeldByClosed));
-    assert_eq!(broken(sizes, |s| s.next = 3), Some(Breach::NextSlot));
-    assert_eq!(broken(sizes, |s| s.sizes.l = 65), Some(Breach::Sizes));
+    assert_eq!(broken(sizes, |s| s.writers[0].held[1] = 1)[0], Clause::HeldByClosed);
+    assert_eq!(broken(sizes, |s| s.next = 3)[0], Clause::NextSlot);
+    assert_eq!(broken(sizes, |s| s.sizes.l = 65), vec![Clause::LAbove]);
 }
 
 #[test]
@@ -284,6 +287,6 @@ fn row_8_compares_no_place_past_s() {
     let past: [fn(&mut State); 3] =
         [|s| s.slots[3].page = 77, |s| s.last[3] = Some(7), |s| s.writers[2].held[15] = u64::MAX];
     for change in past {
-        assert_eq!(broken(ALL[3], change), None);
+        assert_eq!(broken(ALL[3], change), vec![]);
     }
 }

@@ -42,7 +42,7 @@ fn leftovers(store: &Store) -> Vec<(usize, usize)> {
     let other =
         other.flat_map(|(frame, line)| (0..8).map(move |i| (4, sizes.line_start(frame, line) + 8 * i)));
     let narrow = dead.chain(recorded).chain(slotted).chain(padding.map(|at| (3, at))).chain(other);
-    let live = &state.wide.keys;
+    let live = state.wide.keys_used();
     let past =
         (live.len() as u64..sizes.l).flat_map(|entry| (0..9).map(move |i| (5, sizes.entry_word(entry, i))));
     let under = live.iter().map(|key| (committed(key / 64, key % 64), key % 64));

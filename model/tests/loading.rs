@@ -25,14 +25,41 @@ fn a_table_is_24_right_lines() {
     assert_eq!(store.load(format!("{fixed}24,100\n").as_bytes()), Err(25), "one more");
     assert_eq!(store.load(b""), Err(25));
     let wrong = [
-        "5,\n", ",100\n", "5 100\n", "5,0100\n", "05,100\n", "4,100\n", "6,100\n", "5,100\r\n", "5,1 00\n", "5,100,\n", "5,+100\n", "5,-100\n", "\n",
-        " 5,100\n", "5, 100\n", "5,100", "5,100\n\n", "5,00\n", "5,1e5\n", "5;100\n",
+        "5,\n",
+        ",100\n",
+        "5 100\n",
+        "5,0100\n",
+        "05,100\n",
+        "4,100\n",
+        "6,100\n",
+        "5,100\r\n",
+        "5,1 00\n",
+        "5,100,\n",
+        "5,+100\n",
+        "5,-100\n",
+        "\n",
+        " 5,100\n",
+        "5, 100\n",
+        "5,100",
+        "5,100\n\n",
+        "5,00\n",
+        "5,1e5\n",
+        "5;100\n",
     ];
     for line in wrong {
         assert_eq!(store.load(with_line(5, line).as_bytes()), Err(25), "{line:?}");
     }
     let digits = "1".repeat(400);
-    for modulus in ["0", "1", "99", "1000000000001", "9999999999999", "18446744073709551716", "340282366920938463463374607431768211556", &digits] {
+    for modulus in [
+        "0",
+        "1",
+        "99",
+        "1000000000001",
+        "9999999999999",
+        "18446744073709551716",
+        "340282366920938463463374607431768211556",
+        &digits,
+    ] {
         assert_eq!(store.load(with_line(23, &format!("23,{modulus}\n")).as_bytes()), Err(26), "{modulus}");
     }
     for modulus in ["100", "1000000000000"] {
@@ -47,7 +74,10 @@ fn rows_come_line_by_line() {
     assert_eq!(store.event(5, 23, 200), Ok(13));
     let two = |first: &str, second: &str| {
         let text = with_line(3, first);
-        text.split_inclusive('\n').enumerate().map(|(m, own)| if m == 7 { second } else { own }).collect::<String>()
+        text.split_inclusive('\n')
+            .enumerate()
+            .map(|(m, own)| if m == 7 { second } else { own })
+            .collect::<String>()
     };
     assert_eq!(store.load(two("3,99\n", "7,x\n").as_bytes()), Err(26));
     assert_eq!(store.load(two("3,x\n", "7,99\n").as_bytes()), Err(25));
@@ -66,11 +96,11 @@ fn rows_come_line_by_line() {
 }
 
 #[test]
-fn row_16_comes_right_before_27() {
+fn row_26_comes_before_27() {
     let mut store = Store::fresh(2, 2, 4);
-    let word = store.state.sizes.page_word(0);
-    store.image[word..word + 8].copy_from_slice(&99u64.to_le_bytes());
-    assert_eq!(store.load(text_of(&[100; 24]).as_bytes()), Err(16));
+    let meter = store.state.sizes.line_start(0, 23);
+    store.image[meter..meter + 8].copy_from_slice(&100u64.to_le_bytes());
+    assert_eq!(store.load(text_of(&[100; 24]).as_bytes()), Err(27));
     assert_eq!(store.load(text_of(&[99; 24]).as_bytes()), Err(26));
 }
 
@@ -106,7 +136,12 @@ fn an_event_goes_by_the_moduli_lent() {
     store.run(13).unwrap();
     assert_eq!(store.ask_event_with(5, 23, 3, &venue), Ok(13), "10,009 by 10,007");
     store.run(13).unwrap();
-    assert_eq!(store.load(with_line(23, "23,100\n").replace("0,100000000", "0,200").as_bytes()).map(|moduli| moduli[0]), Ok(200));
+    assert_eq!(
+        store
+            .load(with_line(23, "23,100\n").replace("0,100000000", "0,200").as_bytes())
+            .map(|moduli| moduli[0]),
+        Ok(200)
+    );
 }
 
 /// 26 stands after 20 and before 12, and row 8 leaves it out: a pending event holds no table.

@@ -4,7 +4,7 @@ mod common;
 
 use common::{numbered, Store};
 use model::state::{Operation, Pending, State};
-use model::validity::{breach, Breach};
+use model::validity::{broken_clauses, Clause};
 
 fn copy(store: &Store) -> Store {
     Store { state: store.state.clone(), image: store.image.clone() }
@@ -182,23 +182,24 @@ fn row_8_knows_the_prepared_writer() {
     let broken = |change: &dyn Fn(&mut State)| {
         let mut state = prepared().state;
         change(&mut state);
-        breach(&state)
+        broken_clauses(&state)
     };
-    assert_eq!(broken(&|_| ()), None);
-    assert_eq!(broken(&|s| s.prepared = Some(1)), Some(Breach::PreparedClosed));
-    assert_eq!(broken(&|s| s.writers[0].open = false), Some(Breach::HeldByClosed));
-    assert_eq!(broken(&|s| (s.tail, s.last) = ((s.head + 6) % 10, [None; 16])), Some(Breach::PreparedTooLong));
+    assert_eq!(broken(&|_| ()), vec![]);
+    assert_eq!(broken(&|s| s.prepared = Some(1)), vec![Clause::PreparedClosed]);
+    let closed = vec![Clause::HeldByClosed, Clause::PreparedClosed];
+    assert_eq!(broken(&|s| s.writers[0].open = false), closed);
+    assert_eq!(broken(&|s| (s.tail, s.last) = ((s.head + 6) % 10, [None; 16])), vec![Clause::PreparedNoRoom]);
     let pend = |state: &mut State, operation| state.pending = Some(Pending { operation, made: 0 });
     for operation in [
         Operation::Commit { writer: 0 },
         Operation::Prepare { writer: 0 },
         Operation::Consolidate { page: 2 },
     ] {
-        let refused = Some(Breach::PendingRefused(23));
+        let refused = vec![Clause::PendingRow(operation.kind(), 23)];
         assert_eq!(broken(&|s| pend(s, operation.clone())), refused, "{operation:?}");
     }
-    assert_eq!(broken(&|s| pend(s, Operation::Confirm { writer: 0 })), None);
-    assert_eq!(broken(&|s| pend(s, Operation::Confirm { writer: 1 })), Some(Breach::PendingRefused(24)));
+    assert_eq!(broken(&|s| pend(s, Operation::Confirm { writer: 0 })), vec![]);
+    assert_eq!(broken(&|s| pend(s, Operation::Confirm { writer: 1 })), vec![Clause::PendingRow(7, 24)]);
     let mut store = prepared();
     store.state.prepared = Some(3);
     assert_eq!([store.begin(1), store.ask_confirm(3)], [Err(8); 2]);

@@ -185,10 +185,10 @@ fn a_read_past_the_line() {
 fn probe_starts_with_zeros() {
     assert_eq!(
         probed("G\nM\nB,0\nN,1\n"),
-        "1,G,0,0,0 0 0 0 0 0 0 0 0 0 0 0 0 0 0 0 0 0\n2,M,2,0,-\n3,B,8,0,-\n4,N,8,0,-\n"
+        "1,G,0,0,0 0 0 0 0 0 0 0 0 0 0 4 4 0 0 0 0 0 0 0 0\n2,M,2,0,-\n3,B,8,0,-\n4,N,8,0,-\n"
     );
     assert!(
-        probed("T,1,0,1\nG\n").starts_with("1,T,0,0,-\n2,G,0,0,0 1 0 0 0 0 0 0 0 0 0 "),
+        probed("T,1,0,1\nG\n").starts_with("1,T,0,0,-\n2,G,0,0,0 1 0 0 0 0 0 0 0 0 0 0 "),
         "last position 0"
     );
 }
@@ -217,27 +217,64 @@ fn probe_numbers() {
         ("T,11,4,1", "?"),
         ("T,12,63,1", "0"),
         ("T,12,64,1", "?"),
-        ("T,13,0,0", "?"),
-        ("O,4,0,0,0,0,0,0,0", "0"),
-        ("O,5,0,0,0,0,0,0,0", "?"),
-        ("O,4,0,0,0,0,0,0", "?"),
+        ("T,13,1023,65535", "0"),
+        ("T,13,1024,0", "?"),
+        ("T,13,0,65536", "?"),
+        ("T,14,0,18446744073709551615", "0"),
+        ("T,14,1,0", "?"),
+        ("T,16,0,18446744073709551615", "0"),
+        ("T,17,63,18446744073709551615", "0"),
+        ("T,17,64,0", "?"),
+        ("T,18,0,65", "0"),
+        ("T,19,0,0", "?"),
+        ("O,10,0,0,0,0,0,0", "0"),
+        ("O,11,0,0,0,0,0,0", "?"),
+        ("O,4,0,0,0,0,0", "?"),
+        ("O,4,0,0,0,0,0,0,0", "?"),
         ("Q,0,0", "?"),
+        ("m,23,0", "0"),
+        ("m,24,0", "?"),
+        ("k,24", "0"),
+        ("k,25", "?"),
+        ("l,65536,0", "8"),
+        ("l,65536,1", "?"),
+        ("l,18446744073709551615,1", "?"),
         ("R,0,0,0,129", "?"),
         ("R,0,0,0,128", "8"),
         ("E,0,0,0", "2"),
         ("G,0", "?"),
-        ("X", "?"),
+        ("X", "8"),
+        ("x", "?"),
+        ("F,1,1", "?"),
+        ("F,1,1,1,65", "3"),
+        ("F,1,1,1,64,0", "?"),
     ] {
         assert_eq!(at(line), answer, "{line}");
     }
 }
 
+/// Bytes 64 to 127 are an event's alone.
 #[test]
-fn probe_leaves_places_past_s() {
-    let held = "F,1,1,1\nT,12,1,9\nT,9,1,8\nB,0\nA,0\nB,0\nC,0\nT,1,0,2\nG\n";
+fn probe_sets_finished_bytes() {
+    let pending =
+        |k: u64| answers(&probed(&format!("O,{k},0,0,0,0,0,0\nQ,63,255\nQ,64,1\nQ,127,1\nQ,128,1\n")));
+    for (k, wanted) in
+        [(0, "0 ? ? ? ?"), (1, "0 0 ? ? ?"), (2, "0 ? ? ? ?"), (5, "0 0 0 0 ?"), (8, "0 0 ? ? ?")]
+    {
+        assert_eq!(pending(k), wanted, "{k}");
+    }
+}
+
+#[test]
+fn probe_leaves_places_past_s_and_p() {
+    let held = "F,1,1,1\nN,9999\nT,12,1,9\nT,9,1,8\nT,13,1,7\nB,0\nA,0\nB,0\nC,0\nT,1,0,2\nT,0,0,2\nG\n";
     let line = probed(held).lines().last().expect("G").to_string();
     let numbers: Vec<&str> = line.split(',').nth(4).expect("the state").split(' ').collect();
-    assert_eq!((numbers[14], numbers[21]), ("8", "9"), "bitmap and held lines of slot 1");
-    let none = probed("T,9,1,8\nF,1,1,1\nT,1,0,2\nG\n");
-    assert!(none.contains(" 0 0 0 0 18446744073709551615 0 0 0 0 "), "format empties them: {none}");
+    assert_eq!(
+        (numbers[15], numbers[18], numbers[24]),
+        ("8", "7", "9"),
+        "bitmap, entry and held lines past S and P"
+    );
+    let none = probed("T,9,1,8\nT,13,1,7\nF,1,1,1\nT,1,0,2\nT,0,0,2\nG\n");
+    assert!(none.contains(" 0 0 0 0 18446744073709551615 0 0 0 0 0 0 "), "format empties them: {none}");
 }

@@ -17,10 +17,18 @@ type Spot = (u64, u64, u64);
 
 #[derive(Clone)]
 enum Underway {
-    Write { writer: usize, spot: Spot, data: Vec<u8> },
-    Commit { writer: usize },
+    Write {
+        writer: usize,
+        spot: Spot,
+        data: Vec<u8>,
+    },
+    Commit {
+        writer: usize,
+    },
     /// The commit of a wide round, before its first store.
-    Copying { writer: usize },
+    Copying {
+        writer: usize,
+    },
     Event(Asked, Vec<u64>),
     Other,
 }
@@ -108,7 +116,8 @@ impl Reference {
 
     fn line(&self, writer: Option<u64>, page: u64, line: u64) -> Vec<u8> {
         let unfinished = |spot| writer.and_then(|writer| self.unfinished[writer as usize].get(&spot));
-        let byte = |offset| unfinished((page, line, offset)).or_else(|| self.pages.get(&(page, line, offset)));
+        let byte =
+            |offset| unfinished((page, line, offset)).or_else(|| self.pages.get(&(page, line, offset)));
         (0..64).map(|offset| byte(offset).copied().unwrap_or(0)).collect()
     }
 }
@@ -190,7 +199,13 @@ impl Both {
     fn load(&mut self) {
         let any = [100, 301, 9_999, 10_007, 1_000_000, 100_000_000, 1_000_000_000_000];
         let moduli: Vec<u64> = (0..METERS as u64)
-            .map(|meter| if self.rng.percent(70) { self.reference.meter(meter) + self.rng.pick(&any) } else { self.rng.pick(&any) })
+            .map(|meter| {
+                if self.rng.percent(70) {
+                    self.reference.meter(meter) + self.rng.pick(&any)
+                } else {
+                    self.rng.pick(&any)
+                }
+            })
             .map(|modulus| modulus.min(1_000_000_000_000))
             .collect();
         let lines = if self.rng.percent(90) { METERS } else { METERS - 1 };
@@ -248,7 +263,7 @@ impl Both {
     }
 
     fn copies(&self) -> bool {
-        self.store.state.pending.as_ref().is_some_and(|pending| pending.operation == Operation::Copy)
+        self.store.state.pending.as_ref().is_some_and(|pending| pending.operation == Operation::Copying)
     }
 
     fn mount(&mut self) {
@@ -319,7 +334,8 @@ impl Both {
     /// The meters that a mount of the image finds are the totals of the completed events.
     fn adds_up(&self) {
         let total_from = |first: usize, meter| {
-            let own = self.reference.events[first..].iter().filter(|asked| asked.meters().last() == Some(&meter));
+            let own =
+                self.reference.events[first..].iter().filter(|asked| asked.meters().last() == Some(&meter));
             own.map(|asked| asked.amount).sum::<u64>()
         };
         let total = |meter| total_from(0, meter);
@@ -342,7 +358,11 @@ impl Both {
             for line in LINES {
                 let mut target = [9; 64];
                 numbered(recall(page, line, &self.store.image, &mut target)).expect("a recall is taken");
-                assert_eq!(target.to_vec(), self.reference.line(None, page, line), "recall of {page}, {line}");
+                assert_eq!(
+                    target.to_vec(),
+                    self.reference.line(None, page, line),
+                    "recall of {page}, {line}"
+                );
                 for writer in (0..4).filter(|_| self.store.state.pending.is_none()) {
                     let place = (writer, page, line);
                     numbered(calls::read(&self.store.state, &self.store.image, place, &mut target))

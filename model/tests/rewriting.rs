@@ -76,9 +76,8 @@ fn ask_before(store: &mut Store, (writer, page, line): (u64, u64, u64), offset: 
     if answer == 0 {
         let mut finished = [0; 64];
         calls::read(&store.state, &store.image, (writer, page, line), &mut finished).unwrap();
-        let slot = store.state.slot_of(page).expect("a held line's page has a slot");
-        let (frame, length) = (store.state.slots[slot].original, data.len() as u64);
-        let operation = Operation::Write(Write { writer, page, line, offset, length, frame, finished });
+        let length = data.len() as u64;
+        let operation = Operation::Write(Write { writer, page, line, offset, length, finished });
         store.state.pending = Some(Pending { operation, made: 0 });
     }
     Ok(8)

@@ -41,7 +41,7 @@ fn powerhit_vectors() {
 
 #[test]
 fn probe_vectors() {
-    all_agree("probe", model::script::probe::probe, 60);
+    all_agree("probe", model::script::probe::probe, 91);
 }
 
 #[test]

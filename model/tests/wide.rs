@@ -3,11 +3,10 @@
 mod common;
 
 use common::{numbered, Store};
-use model::image::put_word;
 use model::layout::{Sizes, COUNT_AT, ENTRIES_AT, LAYOUT_AT};
 use model::mount::{format, mount, recall};
-use model::state::{Log, Operation, Pending, State, Write};
-use model::validity::{breach, Breach};
+use model::state::{Operation, Pending, State, WideWrite, Write};
+use model::validity::{broken_clauses, Clause};
 
 const SIZES: Sizes = Sizes { p: 3, s: 1, j: 2, l: 3 };
 
@@ -132,7 +131,7 @@ fn an_abort_leaves_nothing() {
     assert_eq!(store.ask_commit(0), Ok(0));
 }
 
-/// 28, then 29, right after 11; 30 after 13, before 16.
+/// 28, then 29, right after 11; 30 after 13.
 #[test]
 fn when_each_call_is_turned_back() {
     let mut narrow = Store::of(Sizes { l: 0, ..SIZES });
@@ -154,11 +153,8 @@ fn when_each_call_is_turned_back() {
     assert_eq!([store.ask_event(0, 0, 0), store.ask_event(1, 0, 5)], [29, 29].map(Err));
     assert_eq!([store.ask_confirm(2), store.withdraw(2), store.withdraw(4)], [24, 24, 11].map(Err));
     assert_eq!([store.ask_commit(1), store.abort(1), store.ask_write(1, 0, 9, 1)], [13, 13, 13].map(Err));
-    // all three entries are used: a fourth line is 30, and 30 comes before 16
+    // all three entries are used: a fourth line is 30
     assert_eq!([store.ask_write(2, 3, 1, 1), store.ask_write(2, 0, 1, 1)], [11, 30].map(Err));
-    put_word(&mut store.image, SIZES.page_word(0), 77);
-    assert_eq!([store.ask_write(2, 0, 1, 1), store.ask_write(2, 0, 0, 1)], [30, 16].map(Err));
-    put_word(&mut store.image, SIZES.page_word(0), 0);
     assert_eq!(store.write(2, 0, 0, 1), Ok(9), "a rewrite");
     // the slot's page can leave it, and the journal be emptied
     assert_eq!((store.consolidate(1), store.checkpoint()), (Ok(14), Ok(4)));
@@ -171,33 +167,35 @@ fn row_8_knows_a_wide_transaction() {
     let broken = |change: &dyn Fn(&mut State)| {
         let mut state = wide().state;
         change(&mut state);
-        breach(&state)
+        broken_clauses(&state)
     };
-    assert_eq!(broken(&|_| ()), None);
-    assert_eq!(broken(&|s| s.sizes.l = 65), Some(Breach::Sizes));
-    assert_eq!(broken(&|s| s.sizes.l = 2), Some(Breach::Entries));
-    assert_eq!(broken(&|s| s.wide.keys[0] = 3 * 64), Some(Breach::Entries));
-    assert_eq!(broken(&|s| s.wide.keys[2] = s.wide.keys[0]), Some(Breach::Entries));
-    assert_eq!(broken(&|s| s.wide.writer = Some(1)), Some(Breach::WideClosed));
-    assert_eq!(broken(&|s| s.writers[2].open = false), Some(Breach::WideClosed));
-    assert_eq!(broken(&|s| s.prepared = Some(2)), Some(Breach::WidePrepared));
-    assert_eq!(broken(&|s| s.writers[2].held[0] = 1), Some(Breach::WideBesideHeld));
-    assert_eq!(broken(&|s| s.writers[3].open = true), Some(Breach::WideBesideOpen));
+    assert_eq!(broken(&|_| ()), vec![]);
+    assert_eq!(broken(&|s| s.sizes.l = 65), vec![Clause::LAbove]);
+    assert_eq!(broken(&|s| s.sizes.l = 2), vec![Clause::EntriesAbove]);
+    assert_eq!(broken(&|s| s.wide.keys[0] = 3 * 64), vec![Clause::EntryOutside]);
+    assert_eq!(broken(&|s| s.wide.keys[2] = s.wide.keys[0]), vec![Clause::EntryTwice]);
+    let another = vec![Clause::WideClosed, Clause::WideBesideOpen];
+    assert_eq!(broken(&|s| s.wide.writer = Some(1)), another);
+    assert_eq!(broken(&|s| s.writers[2].open = false), vec![Clause::WideClosed]);
+    assert_eq!(broken(&|s| s.prepared = Some(2)), vec![Clause::WidePrepared]);
+    assert_eq!(broken(&|s| s.writers[2].held[0] = 1), vec![Clause::WideBesideHeld]);
+    assert_eq!(broken(&|s| s.writers[3].open = true), vec![Clause::WideBesideOpen]);
     let pend = |operation: Operation, made| {
         broken(&move |s: &mut State| s.pending = Some(Pending { operation: operation.clone(), made }))
     };
-    assert_eq!((pend(Operation::Copy, 25), pend(Operation::Copy, 26)), (None, Some(Breach::PendingMade)));
-    let log = |page, line, frame| {
-        Operation::Log(Log { page, line, offset: 0, length: 1, frame, finished: [0; 64] })
-    };
-    assert_eq!((pend(log(0, 0, 0), 8), pend(log(0, 0, 0), 9)), (None, Some(Breach::PendingMade)));
-    assert_eq!(pend(log(3, 0, 0), 0), Some(Breach::PendingRefused(11)));
-    assert_eq!(pend(log(0, 1, 0), 0), Some(Breach::PendingRefused(30)));
-    assert_eq!(pend(log(0, 0, 3), 0), Some(Breach::PendingFrame));
-    let write = Write { writer: 2, page: 0, line: 0, offset: 0, length: 1, frame: 0, finished: [0; 64] };
-    assert_eq!(pend(Operation::Write(write), 0), Some(Breach::PendingNarrow));
-    assert_eq!(pend(Operation::Commit { writer: 2 }, 0), Some(Breach::PendingNarrow));
-    assert_eq!(pend(Operation::Prepare { writer: 2 }, 0), Some(Breach::PendingRefused(29)));
+    assert_eq!(
+        (pend(Operation::Copying, 25), pend(Operation::Copying, 26)),
+        (vec![], vec![Clause::PendingMade(9)])
+    );
+    let written =
+        |page, line| Operation::WideWrite(WideWrite { page, line, offset: 0, length: 1, finished: [0; 64] });
+    assert_eq!((pend(written(0, 0), 8), pend(written(0, 0), 9)), (vec![], vec![Clause::PendingMade(8)]));
+    assert_eq!(pend(written(3, 0), 0), vec![Clause::PendingRow(8, 11)]);
+    assert_eq!(pend(written(0, 1), 0), vec![Clause::PendingRow(8, 30)]);
+    let write = Write { writer: 2, page: 0, line: 0, offset: 0, length: 1, finished: [0; 64] };
+    assert_eq!(pend(Operation::Write(write), 0), vec![Clause::PendingNarrow]);
+    assert_eq!(pend(Operation::Commit { writer: 2 }, 0), vec![Clause::PendingNarrow]);
+    assert_eq!(pend(Operation::Prepare { writer: 2 }, 0), vec![Clause::PendingRow(6, 29)]);
     // without a writer a copying is what a mount returns; a copying of nothing is none, nor is a wide write
     let without = |s: &mut State| (s.wide.writer, s.writers[2].open) = (None, false);
     let pend = |operation: Operation, made| {
@@ -206,6 +204,9 @@ fn row_8_knows_a_wide_transaction() {
             s.pending = Some(Pending { operation: operation.clone(), made });
         })
     };
-    assert_eq!((pend(Operation::Copy, 1), pend(Operation::Copy, 26)), (None, Some(Breach::PendingMade)));
-    assert_eq!(pend(log(0, 0, 0), 0), Some(Breach::PendingRefused(11)));
+    assert_eq!(
+        (pend(Operation::Copying, 1), pend(Operation::Copying, 26)),
+        (vec![], vec![Clause::PendingMade(9)])
+    );
+    assert_eq!(pend(written(0, 0), 0), vec![Clause::PendingRow(8, 13)]);
 }

@@ -15,7 +15,7 @@
 
 #include "badgerdross.h"
 
-enum { PAGE = 4096, ROOM = 8 * PAGE, ANSWERS = 31, PLAYED = 25 };
+enum { PAGE = 4096, ROOM = 8 * PAGE, ANSWERS = 31, PLAYED = 25, MAP = 256 };
 
 static uint64_t seed;
 static uint64_t any(void)
@@ -129,7 +129,7 @@ static void call(void)
 {
     size_t which = below(60) == 0 ? 20 : below(20);
     size_t answer = which < 10 ? quiet_call(which) : storing_call(which - 10);
-    if (answer >= ANSWERS)
+    if (answer >= ANSWERS || answer == 16)
         fail("no such answer", which, answer);
     answers[answer]++;
     taken += answer == 0;
@@ -155,10 +155,17 @@ static void format(void)
         fail("a format was turned back", 20, 0);
 }
 
+/* A word of the state: before the page map, of a page's entry in it, or any. The pages are few, and most of the map is not read. */
+static size_t some_word(void)
+{
+    size_t part = below(4);
+    return part == 0 ? below(BADGERDROSS_WORDS) : part == 1 ? MAP + below(4) : below(MAP);
+}
+
 static void scribble(void)
 {
     for (size_t n = below(4); n > 0; n--)
-        store->words[below(BADGERDROSS_WORDS)] = odd(70);
+        store->words[some_word()] = odd(below(2) ? 6 : 70);
     for (size_t n = below(4); n > 0; n--) {
         uint64_t word = odd(20);
         memcpy(image() + 8 * below(below(2) ? 64 : length / 8), &word, 8);

@@ -1,31 +1,32 @@
 -- What a call comes to: a row's number with nothing changed, or taken. In a law about code, row is what the code found.
 use Prim.Native.Nat.{ℕ, _≤_}
-use mathlib.Core.Bool.{Bool, true, _&&_}
+use mathlib.Core.Bool.{Bool, true, not, _&&_, _||_}
 use mathlib.Core.List.{List, [], _∷_}
 use mathlib.Core.Path.{_≡_, refl, sym, ap, _∙_}
 use native.Mathlib.Omega.{arith}
-use lib.Dec.{eqb}
-use borrow.Author.Tests.{ne-eqb, eqb-true}
+use lib.Dec.{leb, eqb}
+use borrow.Author.Tests.{ne-eqb, eqb-true, leb-true, not-true}
 use Rattle.bounded.specs.Rows.{Row, refusal}
 use Rattle.bounded.specs.Below.{allBelow}
 use Rattle.bounded.proofs.Below.{all-at}
 use Rattle.bounded.proofs.Tests.{caseOn, and-left, and-right, row-keeps}
 use Rattle.state.specs.State.{State}
 use Rattle.refinement.specs.Outcome.{answered}
-use Rattle.answers.specs.Answers.{numberOf, storesOf, asAnswer, answeredAt}
+use Rattle.answers.specs.Answers.{numberOf, storesOf, isAnswer, asAnswer, answeredAt}
 use Rattle.answers.specs.declared.Answer.{Answer}
 use Rattle.answers.specs.declared.Answer.the-variants.{Taken}
 
 -- ---- rows
 
 -- each row's number is one of the answers'
-abbrev pub Known : List Row → Type 0
-Known [] = Unit {0}
-Known (r ∷ rs) = (r .1 ≤ 30) × Known rs
+abbrev pub known : List Row → Bool
+known [] = true
+known (r ∷ rs) = isAnswer (r .1) && known rs
 
-pub row-known : (rs : List Row) → Known rs → refusal rs ≤ 30
-row-known [] k = omega arith
-row-known (r ∷ rs) k = row-keeps (λ (x : ℕ). x ≤ 30) (r .0) (r .1) (refusal rs) (k .0) (row-known rs (k .1))
+pub row-known : (rs : List Row) → known rs ≡ true → isAnswer (refusal rs) ≡ true
+row-known [] k = refl
+row-known (r ∷ rs) k =
+    row-keeps (λ (x : ℕ). isAnswer x ≡ true) (r .0) (r .1) (refusal rs) (and-left (isAnswer (r .1)) (known rs) k) (row-known rs (and-right (isAnswer (r .1)) (known rs) k))
 
 -- ---- calls
 
@@ -46,17 +47,19 @@ module _ (a : Answer) (to : State) (rs : List Row) (row stores : ℕ) (st after 
 
 -- ---- the answers
 
--- each number up to 30 is that of the answer that it makes, which makes no stores
-pub as-known : (row : ℕ) → row ≤ 30 → (numberOf (asAnswer row 0) ≡ row) × (storesOf (asAnswer row 0) ≡ 0)
+-- each answer's number is that of the answer that it makes, which makes no stores
+pub as-known : (row : ℕ) → isAnswer row ≡ true → (numberOf (asAnswer row 0) ≡ row) × (storesOf (asAnswer row 0) ≡ 0)
 unfolding allBelow
 as-known row l =
     let test : ℕ → Bool = λ (k : ℕ). eqb (numberOf (asAnswer k 0)) k && eqb (storesOf (asAnswer k 0)) 0 in
-    let t : test row ≡ true = all-at test 31 row (omega arith) refl in
+    let low : row ≤ 30 = leb-true row 30 (and-left (leb row 30) (not (eqb row 16)) l) in
+    let u : (eqb row 16 || test row) ≡ true = all-at (λ (k : ℕ). eqb k 16 || test k) 31 row (omega arith) refl in
+    let t : test row ≡ true = ap (λ (b : Bool). b || test row) (sym (not-true (eqb row 16) (and-right (leb row 30) (not (eqb row 16)) l))) ∙ u in
     let a = eqb (numberOf (asAnswer row 0)) row in
     let b = eqb (storesOf (asAnswer row 0)) 0 in
     (eqb-true (numberOf (asAnswer row 0)) row (and-left a b t), eqb-true (storesOf (asAnswer row 0)) 0 (and-right a b t))
 
-pub refused-known : (a : Answer) (row : ℕ) (st : State) → row ≤ 30 → a ≡ asAnswer row 0 → answeredAt a st ≡ answered row st 0 st
+pub refused-known : (a : Answer) (row : ℕ) (st : State) → isAnswer row ≡ true → a ≡ asAnswer row 0 → answeredAt a st ≡ answered row st 0 st
 refused-known a row st l e =
     let k = as-known row l in
     let n : numberOf a ≡ row = ap numberOf e ∙ k .0 in
@@ -65,7 +68,7 @@ refused-known a row st l e =
 
 -- a call turned back by a row of its table, or taken with the state that the code leaves
 module _ (st after : State) (rs : List Row) (row : ℕ) (e : row ≡ refusal rs) where
-  pub row-refused : (a : Answer) → (row ≡ 0 → ⊥) → refusal rs ≤ 30 → a ≡ asAnswer row 0 → answeredAt a st ≡ answered (refusal rs) st 0 after
+  pub row-refused : (a : Answer) → (row ≡ 0 → ⊥) → isAnswer (refusal rs) ≡ true → a ≡ asAnswer row 0 → answeredAt a st ≡ answered (refusal rs) st 0 after
   row-refused a n l k = refused-by a st rs row 0 st after e n (refused-known a row st (rw e l) k)
 
   pub row-taken : (left : State) → row ≡ 0 → left ≡ after → answeredAt (Taken 0) left ≡ answered (refusal rs) st 0 after

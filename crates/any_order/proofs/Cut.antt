@@ -98,8 +98,8 @@ module _ {z : Sizes} {past : List ℕ} (m : Machine) (h : Reached z past (m .wor
     pub state-same : exec mount v .world .st ≡ exec mount u .world .st
     state-same = ap (λ (r : Result). r .world .st) (mount-viewed v found refl T) ∙ sym (ap (λ (r : Result). r .world .st) (mount-viewed u found shows takes))
 
-    pub alike-mixed : Alike (v .st .sizes) x image
-    alike-mixed = subst (λ (y : Sizes). Alike y x image) (sizes v b h ∙ sym (h .sizes)) (still-alike x found refl T d p F image R)
+    pub alike-mixed : Alike x image
+    alike-mixed = still-alike x found refl T d p F image R
 
     pub survived : (buffer : List ℕ) → past ≡ drop (imageLength z) buffer → Survives z buffer m image
     survived buffer q =

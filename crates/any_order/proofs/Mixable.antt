@@ -1,17 +1,14 @@
 -- Images that may be mixed: each is, of what a mount finds now, the image with leftovers replaced (document 02, L13). They stay so with one more harmless store, and with
 -- the image that it makes: a mount finds the same, and what was left over still is.
-use Prim.Native.Nat.{ℕ, _+_}
+use Prim.Native.Nat.{ℕ}
 use mathlib.Core.List.{List, [], _∷_}
 use mathlib.Core.Logic.{⊎-elim}
-use mathlib.Core.Path.{_≡_, sym, ap, _∙_, subst}
-use native.Mathlib.Omega.{arith}
+use mathlib.Core.Path.{_≡_, sym, _∙_, subst}
 use lib.Dec.{eqb}
-use lib.ListN.{length, getD}
+use lib.ListN.{length}
 use borrow.Author.Tests.{eqb-true, eqb-false}
 use Rattle.bounded.proofs.Tests.{caseOn}
-use Rattle.layout.specs.Layout.{lineWord}
 use Rattle.words.specs.Words.{Bytes, store}
-use Rattle.entries.specs.Entries.{keyPage, keyLine}
 use Rattle.mount.proofs.View.{View, Shows}
 use Rattle.mount.proofs.Verdict.{Taken}
 use Rattle.state.specs.State.{Wide}
@@ -24,7 +21,7 @@ use Rattle.refinement.specs.Calls.{worldOf}
 use Rattle.leftovers.specs.Leftovers.{Leftover, journal-place, under-record, slotted-page, padding, other-copy, past-entries, under-entry, Replaced, Scribbled}
 use Rattle.leftovers.proofs.AfterMount.{foundState, Found, copies, quiet-found, copying-found}
 use Rattle.leftovers.proofs.EveryWord.{scribbled}
-use Rattle.leftovers.proofs.Replaced.{copied-inside, key-page, frame-same, still-shows}
+use Rattle.leftovers.proofs.Replaced.{copied-inside, still-shows, still-taken}
 use Rattle.any_order.proofs.Harmless.{LeftIn, Harmless}
 
 -- of every image of a list
@@ -69,26 +66,18 @@ module _ (img : List ℕ) (view : View) (shows : Shows img view) (taken : Taken 
     harmless-shows = some-found view (λ d p F. still-shows img view shows taken d p F image (harmless-replaced d p F))
 
     module _ (d : Wide) (p : Pending) (F : Found view d p) where
-      abbrev key : ℕ → ℕ
-      key e = getD (d .keys) e 0
-
       R : Replaced (worldOf (foundState view d p) img) image
       R = harmless-replaced d p F
 
-      -- what is left over stays so
+      -- what is left over stays so: the state tells it
       left-stays : (a : ℕ) → Leftover (worldOf (foundState view d p) img) a → Leftover (worldOf (foundState view d p) image) a
       left-stays a (journal-place q k l f e) = journal-place q k l f e
       left-stays a (under-record s k h l f e) = under-record s k h l f e
       left-stays a (slotted-page q h f e) = slotted-page q h f e
       left-stays a (padding l m) = padding l m
-      left-stays a (other-copy f l k lf ll lk n e) =
-          other-copy f l k lf ll lk (λ q lq x. n q lq (sym (frame-same img view shows taken d p F image R q l lq) ∙ x)) e
+      left-stays a (other-copy f l k lf ll lk n e) = other-copy f l k lf ll lk n e
       left-stays a (past-entries e k l m lk q) = past-entries e k l m lk q
-      left-stays a (under-entry e k l lk q) =
-          under-entry e k l lk
-          (q
-          ∙ ap (λ (f : ℕ). lineWord (view .sizes) f (keyLine (key e)) + k)
-          (sym (frame-same img view shows taken d p F image R (keyPage (key e)) (keyLine (key e)) (key-page img view shows taken d p F e (omega (arith, l, F .count))))))
+      left-stays a (under-entry e k l lk q) = under-entry e k l lk q
 
       one-stays : (x : List ℕ) → Replaced (worldOf (foundState view d p) img) x → Replaced (worldOf (foundState view d p) image) x
       one-stays x Q =

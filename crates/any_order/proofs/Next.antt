@@ -51,8 +51,8 @@ inHeader a = leb layoutWord a && leb a countWord
 
 -- the next store of op
 pub data Next (st : State) (img : List ℕ) (op : Op) : Type 0 where
-  deciding : toFence st op ≡ true → inHeader (storeAt st img op (st .pending .made)) ≡ true → Next st img op
-  aside : toFence st op ≡ false → 8 ≤ storeAt st img op (st .pending .made) → Harmless (viewOf (word img)) img (storeMade st img op (st .pending .made)) → Next st img op
+  deciding : toFence st op ≡ true → inHeader (storeAt st op (st .pending .made)) ≡ true → Next st img op
+  aside : toFence st op ≡ false → 8 ≤ storeAt st op (st .pending .made) → Harmless (viewOf (word img)) img (storeMade st img op (st .pending .made)) → Next st img op
 
 -- a word past the header
 pub past-header : (a : ℕ) → 8 ≤ a → inHeader a ≡ false
@@ -101,7 +101,7 @@ module _ (past : List ℕ) (st : State) (img : List ℕ) (b : Reference) (B : Bu
   abbrev D : Durable past st img b
   D = B .durable
 
-  mid : (op : Op) → toFence st op ≡ false → 8 ≤ storeAt st img op m → Mid past st img b D op m → Next st img op
+  mid : (op : Op) → toFence st op ≡ false → 8 ≤ storeAt st op m → Mid past st img b D op m → Next st img op
   mid op off low M =
       aside off low
       (subst (λ (v : View). Harmless v img (storeMade st img op m)) (sym (D .shows))
@@ -178,8 +178,8 @@ module _ (past : List ℕ) (st : State) (img : List ℕ) (b : Reference) (M : Mo
   event = Event (M .kind) (M .meter) (M .amount)
 
   -- store j of the operation that s has pending is no last one of the event
-  part : (s : State) (t : Task) (c : Reference) (j : ℕ) (U : Under past s img t c j) → n + 1 < needs st event → 8 ≤ storeAt st img event n
-      → storeMade st img event n ≡ storeMade s img (s .pending .op) j → 8 ≤ storeAt (withMade s j) img (s .pending .op) j
+  part : (s : State) (t : Task) (c : Reference) (j : ℕ) (U : Under past s img t c j) → n + 1 < needs st event → 8 ≤ storeAt st event n
+      → storeMade st img event n ≡ storeMade s img (s .pending .op) j → 8 ≤ storeAt (withMade s j) (s .pending .op) j
       → Mid past (withMade s j) img (withWork (under t (needs s (s .pending .op) - j)) c) (U .busy .durable) (s .pending .op) j
       → Next st img event
   part s t c j U more past-it e low M =
@@ -193,13 +193,13 @@ module _ (past : List ℕ) (st : State) (img : List ℕ) (b : Reference) (M : Mo
   pub event-next : Stage past st img base (M .moduli) k meter a → Next st img event
   event-next (in-first j e U) =
       let low : j < 8 = low₁ past st img b M j e U in
-      let at : storeAt st img event n ≡ writeAt (firstAsked st k meter) 0 (firstMeter k meter) j = ap (eventAt st k meter) e ∙ at-first st k meter j low in
+      let at : storeAt st event n ≡ writeAt (firstAsked st k meter) 0 (firstMeter k meter) j = ap (eventAt st k meter) e ∙ at-first st k meter j low in
       part (firstAsked st k meter) (firstTask (M .moduli) k meter a base) base j U (omega (arith, e, low, event-needs st k meter a, lines-eight k)) (omega (arith, at))
       (store₁ past st img b M j e U) (omega arith)
       (write-mid past (withMade (firstAsked st k meter) j) img _ (U .busy) 1 0 (firstMeter k meter) 0 8 refl j low)
   event-next (in-second j u e U) =
       let low : j < 8 = low₂ past st img b M j u e U in
-      let at : storeAt st img event n ≡ writeAt (secondAsked st k meter) 0 (ownMeter k meter) j = ap (eventAt st k meter) e ∙ at-second st k meter u j low in
+      let at : storeAt st event n ≡ writeAt (secondAsked st k meter) 0 (ownMeter k meter) j = ap (eventAt st k meter) e ∙ at-second st k meter u j low in
       part (secondAsked st k meter) (secondTask (M .moduli) k meter a base) (firstReference (M .moduli) k meter a base) j U
       (omega (arith, e, low, event-needs st k meter a, sixteen past st img b M j u e U)) (omega (arith, at))
       (store₂ past st img b M j u e U) (omega arith)
@@ -208,9 +208,9 @@ module _ (past : List ℕ) (st : State) (img : List ℕ) (b : Reference) (M : Mo
       let low : j < 5 = low₃ past st img b M j e U in
       let s : State = linesDone st k meter in
       let c : State = commitAsked st k meter in
-      let one = one-slot s k meter (st .pending .frame) (W past st img b M) in
+      let one = one-slot s k meter (W past st img b M) in
       let need = event-needs st k meter a in
-      let at : storeAt st img event n ≡ commitAt s 1 j = ap (eventAt st k meter) e ∙ at-commit st k meter j in
+      let at : storeAt st event n ≡ commitAt s 1 j = ap (eventAt st k meter) e ∙ at-commit st k meter j in
       caseOn (leb 4 j)
       (λ t.
       let four : j ≡ 4 * count s 1 = omega (arith, low, one, leb-true 4 j t) in

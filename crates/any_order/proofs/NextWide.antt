@@ -9,6 +9,7 @@ use lib.Dec.{leb, eqb}
 use lib.ListN.{getD}
 use borrow.Author.Tests.{leb-true, leb-false, ne-eqb}
 use Rattle.bounded.proofs.Tests.{caseOn, contradicts, or-goes}
+use Rattle.replay.specs.Map.{pageFrames}
 use Rattle.layout.specs.declared.Sizes.{Sizes}
 use Rattle.layout.specs.Layout.{layoutWord, countWord, lineWord, entryWord}
 use Rattle.words.specs.Words.{word, store}
@@ -46,8 +47,10 @@ use Rattle.refinement.proofs.Valid.{good}
 use Rattle.leftovers.specs.Leftovers.{under-entry, copiedWord}
 use Rattle.leftovers.proofs.AfterMount.{foundState}
 use Rattle.any_order.specs.AnyOrder.{isLast, toFence, decides, nextAt}
-use Rattle.any_order.proofs.Harmless.{LeftIn, Harmless, aside-left}
+use Rattle.any_order.proofs.Harmless.{LeftIn, Harmless, aside-left, found}
 use Rattle.any_order.proofs.Next.{inHeader, Next, deciding, aside, past-header, not-last, is-last, busy-next, event-next}
+use Rattle.mount.proofs.Verdict.{entry-shown}
+use Rattle.refinement.proofs.OwnFrames.{frame-is}
 
 -- ---- a wide commit's stores: the first and the last decide
 
@@ -67,7 +70,7 @@ copy-other st begun more =
 -- ---- a wide transaction is open
 
 -- beside it a consolidation or a checkpoint goes on as without it
-same-at : (st : State) (op : Op) → Beside op → (img : List ℕ) (i : ℕ) → storeAt (shut st) img op i ≡ storeAt st img op i
+same-at : (st : State) (op : Op) → Beside op → (img : List ℕ) (i : ℕ) → storeAt (shut st) op i ≡ storeAt st op i
 unfolding consolidateAt checkpointAtOf
 same-at st (Consolidate p) s img i = refl
 same-at st Checkpoint s img i = refl
@@ -111,7 +114,7 @@ module _ (past : List ℕ) (st : State) (img : List ℕ) (b : Reference) (G : Lo
   open-next (writes p l o n e L) some = subst (Next st img) (sym e) (aside refl (omega arith) (log-harmless p l o n e L))
   open-next (asked e m w) some =
       subst (Next st img) (sym e)
-      (deciding (copy-first st m) (ap inHeader (ap (copyAt st img) m ∙ CopyPlaces.at-first st img)))
+      (deciding (copy-first st m) (ap inHeader (ap (copyAt st) m ∙ CopyPlaces.at-first st img)))
   open-next (beside s B) some =
       beside-next st img (st .pending .op) s (busy-next past (shut st) img (emptied (st .wide .writer) b) B (st .pending .op) refl)
 
@@ -132,12 +135,14 @@ module _ (past : List ℕ) (st : State) (img : List ℕ) (b : Reference) (C : Co
       let lv : e < v .count = omega (arith, le, E .count-same) in
       let same : getD (d .keys) e 0 ≡ key =
       F .keys e lv ∙ ap (λ (ks : List ℕ). getD ks e 0) (view-keys img v (E .shows) z (st .wide .count) (E .sizes-same) (E .count-same) ∙ sym (C .keys)) in
-      let f : frameOf (word img) z (st .table) (keyPage key) (keyLine key) ≡ frameOf (word img) z (v .table) (keyPage key) (keyLine key) =
-      frame-kept (word img) z (v .table) (st .table) (durable-legal past st img (inPlace st img b) E) (mount-apart st img (C .valid) E) (good st (C .valid) .pages) (E .behind)
+      let f : frameOf (pageFrames (word img)) z (st .table) (keyPage key) (keyLine key) ≡ frameOf (pageFrames (word img)) z (v .table) (keyPage key) (keyLine key) =
+      frame-kept (pageFrames (word img)) z (v .table) (st .table) (durable-legal past st img (inPlace st img b) E) (mount-apart st img (C .valid) E) (good st (C .valid) .pages) (E .behind)
       (keyPage key) (keyLine key) (valid st (C .valid) .entries .page-low e le) in
       let at : CopyPlaces.copied st img (C .valid) E e i ≡ copiedWord (worldOf (foundState v d w) img) (getD (d .keys) e 0) + i =
       ap (λ (g : ℕ). lineWord z g (keyLine key) + i) f
-      ∙ ap (λ (y : Sizes). lineWord y (frameOf (word img) y (v .table) (keyPage key) (keyLine key)) (keyLine key) + i) (sym (E .sizes-same))
+      ∙ ap (λ (y : Sizes). lineWord y (frameOf (pageFrames (word img)) y (v .table) (keyPage key) (keyLine key)) (keyLine key) + i) (sym (E .sizes-same))
+      ∙ ap (λ (g : ℕ). lineWord (v .sizes) g (keyLine key) + i)
+      (sym (frame-is (found v) (pageFrames (word img)) (v .sizes) (v .table) (entry-shown img v (E .shows)) (keyPage key) (keyLine key) (rw (E .sizes-same) (valid st (C .valid) .entries .page-low e le))))
       ∙ ap (λ (x : ℕ). copiedWord (worldOf (foundState v d w) img) x + i) (sym same) in
       under-entry e i (omega (arith, lv, F .count)) li at
 
@@ -150,7 +155,7 @@ module _ (past : List ℕ) (st : State) (img : List ℕ) (b : Reference) (C : Co
       caseOn (leb (8 * n + 1) done)
       (λ t.
       let last : done ≡ 8 * n + 1 = omega (arith, low, need, leb-true (8 * n + 1) done t) in
-      deciding (copy-last st (omega (arith, need, last))) (ap inHeader (ap (copyAt st img) last ∙ CopyPlaces.at-last st img)))
+      deciding (copy-last st (omega (arith, need, last))) (ap inHeader (ap (copyAt st) last ∙ CopyPlaces.at-last st img)))
       (λ t.
       let before = leb-false (8 * n + 1) done t in
       let e : ℕ = (done - 1) / 8 in
@@ -158,7 +163,7 @@ module _ (past : List ℕ) (st : State) (img : List ℕ) (b : Reference) (C : Co
       let made : 1 + (8 * e + i) ≡ done = omega (arith, begun) in
       let le : e < n = omega (arith, before, begun) in
       let li : i < 8 = omega arith in
-      let at : copyAt st img done ≡ CopyPlaces.copied st img (C .valid) E e i = ap (copyAt st img) (sym made) ∙ CopyPlaces.at-line st img (C .valid) E e i le li in
+      let at : copyAt st done ≡ CopyPlaces.copied st img (C .valid) E e i = ap (copyAt st) (sym made) ∙ CopyPlaces.at-line st img (C .valid) E e i le li in
       let x : ℕ = copyValue st img done in
       aside (copy-other st begun (omega (arith, need, before))) (omega (arith, at))
       (subst (λ (v : View). Harmless v img (storeMade st img Copy done)) (sym (E .shows))

@@ -3,14 +3,12 @@
 use Prim.Native.Nat.{ℕ}
 use mathlib.Core.List.{List, [], _∷_}
 use mathlib.Core.Logic.{⊎-elim, inl, inr}
-use mathlib.Core.Path.{_≡_, refl, sym, ap, _∙_, subst}
+use mathlib.Core.Path.{_≡_, refl, sym, _∙_, subst}
 use lib.ListN.{drop}
 use Rattle.layout.specs.declared.Sizes.{Sizes}
 use Rattle.layout.specs.Layout.{imageLength}
 use Rattle.words.specs.Words.{word, store}
 use Rattle.mount.proofs.View.{View, viewOf}
-use Rattle.replay.specs.declared.Table.{Table}
-use Rattle.replay.specs.Table.{slotOf}
 use Rattle.state.specs.State.{State}
 use Rattle.refinement.specs.Stores.{stepped}
 use Rattle.refinement.specs.Calls.{worldOf}
@@ -32,12 +30,8 @@ use Rattle.any_order.proofs.Since.{Since, since-fence, since-call}
 use Rattle.any_order.proofs.Cut.{reached-again, number-same, stores-same, state-same, alike-mixed, survived}
 
 -- where all stores land in order, and where they do not: one state, images that are alike, and one reference machine
-alike-trans : {z : Sizes} {x y i : List ℕ} → Alike z x y → Alike z y i → Alike z x i
-alike-trans {z = z} p q =
-    record {
-      table = p .table ∙ q .table;
-      words = λ n low none. p .words n low none ∙ q .words n low (ap (λ (t : Table). slotOf z t n) (sym (p .table)) ∙ none);
-    }
+alike-trans : {x y i : List ℕ} → Alike x y → Alike y i → Alike x i
+alike-trans p q = record { table = p .table ∙ q .table }
 
 abbrev machine : State → List ℕ → List (List ℕ) → Reference → Machine
 machine st y since b = record { world = worldOf st y; since = since; reference = b }
@@ -66,7 +60,7 @@ module _ (z : Sizes) (buffer : List ℕ) where
       subst (HoldsAfter z buffer xs (d .world .st) (d .world .image) next) (λ i. machine (r i) y since (turn c (p i) (q i) b)) (f back)
 
   holding : (acts : List Act) (st : State) (x y : List ℕ) (since : List (List ℕ)) (b : Reference) → Reached z rest (worldOf st x) b → Reached z rest (worldOf st y) b
-      → Alike (st .sizes) x y → Since z rest y since → HoldsAfter z buffer acts st x b (machine st y since b)
+      → Alike x y → Since z rest y since → HoldsAfter z buffer acts st x b (machine st y since b)
   unfolding exec after follows actedBy
   holding [] st x y since b h k a s may =
       let m : Machine = machine st y since b in
@@ -88,7 +82,7 @@ module _ (z : Sizes) (buffer : List ℕ) where
       goes-on xs c d e now b (same .number) (same .stores) (same .state)
       (λ back.
       holding xs (d .world .st) (d .world .image) (e .world .image) now (turn c (d .number) (d .stores) b) first back
-      (subst (λ (w : Sizes). Alike w (d .world .image) (e .world .image)) (h .sizes ∙ sym (first .sizes)) (call-alike st x y b (h .related) (k .related) a c))
+      (call-alike st x y b (h .related) (k .related) a c)
       (since-call c (worldOf st y) b k since s))
       second (may .1)
   holding (cut image ∷ xs) st x y since b h k a s may =
@@ -102,7 +96,7 @@ module _ (z : Sizes) (buffer : List ℕ) where
       goes-on xs mount d e (image ∷ []) b (same .number ∙ number-same m k s image (may .0) w p F) (same .stores ∙ stores-same m k s image (may .0) w p F) (same .state ∙ state-same m k s image (may .0) w p F)
       (λ back.
       holding xs (d .world .st) x image (image ∷ []) (turn mount (d .number) (d .stores) b) first back
-      (subst (λ (v : Sizes). Alike v x image) (h .sizes ∙ sym (first .sizes)) (alike-trans a (alike-mixed m k s image (may .0) w p F)))
+      (alike-trans a (alike-mixed m k s image (may .0) w p F))
       (since-fence (e .world) (turn mount (e .number) (e .stores) b) second))
       second (may .1))
   holding (fence ∷ xs) st x y since b h k a s may = holding xs st x y (y ∷ []) b h k a (since-fence (worldOf st y) b k) (may .1)
@@ -111,7 +105,7 @@ pub any-order : AnyOrder
 any-order z ok buffer all fits acts may =
     let h = reached-first z ok buffer all fits in
     let v = formattedWorld z buffer in
-    holding z buffer acts (v .st) (v .image) (v .image) (v .image ∷ []) blank h h (record { table = refl; words = λ p low none. refl }) (since-fence v blank h) may
+    holding z buffer acts (v .st) (v .image) (v .image) (v .image ∷ []) blank h h (record { table = refl }) (since-fence v blank h) may
 
 -- ---- why
 

@@ -53,7 +53,7 @@ decides st = toFence st (st .pending .op)
 
 -- the word that the next store goes to, and an image with that store made
 abbrev pub nextAt : World → ℕ
-nextAt v = storeAt (v .st) (v .image) (v .st .pending .op) (v .st .pending .made)
+nextAt v = storeAt (v .st) (v .st .pending .op) (v .st .pending .made)
 
 abbrev pub withNext : World → List ℕ → List ℕ
 withNext v image = store image (nextAt v) (storeValue (v .st) (v .image) (v .st .pending .op) (v .st .pending .made))

@@ -13,12 +13,22 @@ use Rattle.operations.specs.Operations.{needs}
 use Rattle.refinement.proofs.EventRows.{event-some}
 
 -- an operation with none of its stores made, and the state with it pending
-abbrev pub pendingFrom : Op → List ℕ → ℕ → Pending
-pendingFrom op line frame = record { op = op; made = 0; line = line; second = replicate 8 0; frame = frame }
+abbrev pub pendingFrom : Op → List ℕ → Pending
+pendingFrom op line = record { op = op; made = 0; line = line; second = replicate 8 0 }
 
 abbrev pub pendingWith : State → Pending → State
 pendingWith st p =
-    record { sizes = st .sizes; head = st .head; tail = st .tail; next = st .next; table = st .table; writers = st .writers; wide = st .wide; pending = p }
+    record {
+      sizes = st .sizes;
+      head = st .head;
+      tail = st .tail;
+      next = st .next;
+      table = st .table;
+      map = st .map;
+      writers = st .writers;
+      wide = st .wide;
+      pending = p;
+    }
 
 row-past : (b : Bool) (k m : ℕ) → 0 < k → cond b k m ≡ 0 → (b ≡ false) × (m ≡ 0)
 row-past true k m l e = absurd (omega arith)

@@ -31,7 +31,7 @@ untilBy n = cond (eqb n 0) Asked (cond (eqb n 1) Fence End)
 
 -- 1,000 times the major number, and the minor number
 abbrev pub version : ℕ
-version = 1000
+version = 2000
 
 abbrev pub sizesBy : ℕ → ℕ → ℕ → ℕ → Sizes
 sizesBy p s j l = record { pages = p; slots = s; places = j; entries = l }

@@ -16,7 +16,7 @@ use Rattle.call_step.specs.NextStore.{nextStoreOf, leftOf}
 -- how many are left in all
 pub record Tells (st : State) (img : List ℕ) (told : List ℕ) : Type 0 where
   pub word : getD told 0 0 ≡ nextStoreOf st img .at
-  pub beside : Beside st img (getD told 1 0)
+  pub beside : Beside st (getD told 1 0)
   pub decides : getD told 2 0 ≡ one (nextStoreOf st img .decides)
   pub before : getD told 3 0 ≡ nextStoreOf st img .before
   pub left : getD told 4 0 ≡ leftOf st img

@@ -16,6 +16,7 @@ ghost use Rattle.call_mount.specs.Replacing.{replacing};
 ghost use Rattle.badgerdross.specs.Left.{Leaves, Starts, Keeps, untilBy, sizesBy, version};
 use layout::Sizes;
 use op_stores::Until;
+use state_words::Words;
 
 // How far an operation is taken: 0 not at all, 1 to before the store that decides, else to its end.
 fn until_of(n: usize) -> Until
@@ -35,7 +36,7 @@ fn until_of(n: usize) -> Until
 pub extern "C" fn badgerdross_version() -> usize
     ensures { λ r. ⌜ r ≡ version ⌝ }
 {
-    1000
+    2000
 }
 
 // How many bytes an image of these sizes has, or 0.
@@ -63,7 +64,7 @@ pub extern "C" fn badgerdross_image_length(
 // Asks for a fresh image.
 #[no_mangle]
 pub extern "C" fn badgerdross_format(
-    words: &mut [u64; 256],
+    words: &mut Words,
     image: &mut [u8],
     pages: usize,
     slots: usize,
@@ -87,7 +88,7 @@ pub extern "C" fn badgerdross_format(
 
 // Mounts an image.
 #[no_mangle]
-pub extern "C" fn badgerdross_mount(words: &mut [u64; 256], image: &[u8]) -> usize
+pub extern "C" fn badgerdross_mount(words: &mut Words, image: &[u8]) -> usize
     ensures state { λ r. ⌜ Leaves r (decoded (now (words .exit))) (replacing (decoded (now (words .entry))) (mountCall (now (image .entry)))) ⌝ }
     ensures words { λ r. ⌜ Keeps r (now (words .exit)) (now (words .entry)) ⌝ }
 {

@@ -5,11 +5,12 @@ ghost use lib.Dec.{eqb};
 ghost use Rattle.refinement.specs.Calls.{eventOf, loadOf};
 ghost use Rattle.state_words.specs.Decoded.{decoded};
 ghost use Rattle.badgerdross.specs.Left.{Starts, Keeps, untilBy};
+use state_words::Words;
 
 // Moves the meters of an event.
 #[no_mangle]
 pub extern "C" fn badgerdross_event(
-    words: &mut [u64; 256],
+    words: &mut Words,
     image: &mut [u8],
     kind: usize,
     meter: usize,
@@ -28,7 +29,7 @@ pub extern "C" fn badgerdross_event(
 // Reads a venue's moduli from a text. A call that is turned back leaves the moduli lent as they are.
 #[no_mangle]
 pub extern "C" fn badgerdross_load(
-    words: &[u64; 256],
+    words: &Words,
     image: &[u8],
     text: &[u8],
     moduli: &mut [u64; 24],

@@ -7,11 +7,12 @@ ghost use Rattle.call_step.specs.NextStore.{nextStoreOf};
 ghost use Rattle.refinement.specs.Calls.{stepOf, stepBytes, runOf, runBytes};
 ghost use Rattle.state_words.specs.Decoded.{decoded};
 ghost use Rattle.badgerdross.specs.Left.{Leaves, Keeps};
+use state_words::Words;
 ghost use Rattle.badgerdross.specs.Told.{Tells};
 
 // Makes one store.
 #[no_mangle]
-pub extern "C" fn badgerdross_step(words: &mut [u64; 256], image: &mut [u8]) -> usize
+pub extern "C" fn badgerdross_step(words: &mut Words, image: &mut [u8]) -> usize
     ensures state { λ r. ⌜ Leaves r (decoded (now (words .exit))) (stepOf (decoded (now (words .entry))) (now (image .entry))) ⌝ }
     ensures bytes { λ _. ⌜ now (image .exit) ≡ stepBytes (decoded (now (words .entry))) (now (image .entry)) ⌝ }
     ensures words { λ r. ⌜ Keeps r (now (words .exit)) (now (words .entry)) ⌝ }
@@ -22,7 +23,7 @@ pub extern "C" fn badgerdross_step(words: &mut [u64; 256], image: &mut [u8]) -> 
 // Makes at most so many stores, and says how many. A call that is turned back leaves the number lent as it is.
 #[no_mangle]
 pub extern "C" fn badgerdross_run(
-    words: &mut [u64; 256],
+    words: &mut Words,
     image: &mut [u8],
     stores: usize,
     made: &mut usize,
@@ -45,7 +46,7 @@ pub extern "C" fn badgerdross_run(
 // Tells of the next store and of its range (`struct badgerdross_next`). A call that is turned back leaves the numbers lent as they are.
 #[no_mangle]
 pub extern "C" fn badgerdross_next_store(
-    words: &[u64; 256],
+    words: &Words,
     image: &[u8],
     next: &mut [usize; 5],
 ) -> usize

@@ -3,11 +3,12 @@ ghost use mathlib.Core.Path.{_≡_};
 ghost use Rattle.refinement.specs.Calls.{consolidateOf, freeOf, checkpointOf};
 ghost use Rattle.state_words.specs.Decoded.{decoded};
 ghost use Rattle.badgerdross.specs.Left.{Starts, Keeps, untilBy};
+use state_words::Words;
 
 // Consolidates a page.
 #[no_mangle]
 pub extern "C" fn badgerdross_consolidate(
-    words: &mut [u64; 256],
+    words: &mut Words,
     image: &mut [u8],
     page: usize,
     until: usize,
@@ -22,11 +23,7 @@ pub extern "C" fn badgerdross_consolidate(
 
 // Consolidates the page whose slot is freed by the fewest copies.
 #[no_mangle]
-pub extern "C" fn badgerdross_free_slot(
-    words: &mut [u64; 256],
-    image: &mut [u8],
-    until: usize,
-) -> usize
+pub extern "C" fn badgerdross_free_slot(words: &mut Words, image: &mut [u8], until: usize) -> usize
     ensures state { λ r. ⌜ Starts r (decoded (now (words .exit))) (now (image .exit))
         (freeOf (decoded (now (words .entry))) (now (image .entry))) (now (image .entry)) (untilBy until) ⌝ }
     ensures words { λ r. ⌜ Keeps r (now (words .exit)) (now (words .entry)) ⌝ }
@@ -37,11 +34,7 @@ pub extern "C" fn badgerdross_free_slot(
 
 // Empties the journal.
 #[no_mangle]
-pub extern "C" fn badgerdross_checkpoint(
-    words: &mut [u64; 256],
-    image: &mut [u8],
-    until: usize,
-) -> usize
+pub extern "C" fn badgerdross_checkpoint(words: &mut Words, image: &mut [u8], until: usize) -> usize
     ensures state { λ r. ⌜ Starts r (decoded (now (words .exit))) (now (image .exit))
         (checkpointOf (decoded (now (words .entry))) (now (image .entry))) (now (image .entry)) (untilBy until) ⌝ }
     ensures words { λ r. ⌜ Keeps r (now (words .exit)) (now (words .entry)) ⌝ }

@@ -5,10 +5,11 @@ ghost use Rattle.refinement.specs.Calls.{beginOf, beginWideOf, abortOf, writeOf
 ghost use Rattle.state_words.specs.Decoded.{decoded};
 ghost use Rattle.badgerdross.specs.Left.{Leaves, Starts, Keeps, untilBy};
 use call_write::Span;
+use state_words::Words;
 
 // Opens a writer.
 #[no_mangle]
-pub extern "C" fn badgerdross_begin(words: &mut [u64; 256], writer: usize) -> usize
+pub extern "C" fn badgerdross_begin(words: &mut Words, writer: usize) -> usize
     ensures state { λ r. ⌜ Leaves r (decoded (now (words .exit))) (beginOf (decoded (now (words .entry))) writer) ⌝ }
     ensures words { λ r. ⌜ Keeps r (now (words .exit)) (now (words .entry)) ⌝ }
 {
@@ -17,7 +18,7 @@ pub extern "C" fn badgerdross_begin(words: &mut [u64; 256], writer: usize) -> us
 
 // Opens a writer for a round wider than the slots.
 #[no_mangle]
-pub extern "C" fn badgerdross_begin_wide(words: &mut [u64; 256], writer: usize) -> usize
+pub extern "C" fn badgerdross_begin_wide(words: &mut Words, writer: usize) -> usize
     ensures state { λ r. ⌜ Leaves r (decoded (now (words .exit))) (beginWideOf (decoded (now (words .entry))) writer) ⌝ }
     ensures words { λ r. ⌜ Keeps r (now (words .exit)) (now (words .entry)) ⌝ }
 {
@@ -26,7 +27,7 @@ pub extern "C" fn badgerdross_begin_wide(words: &mut [u64; 256], writer: usize) 
 
 // Closes a writer; its held lines are dropped.
 #[no_mangle]
-pub extern "C" fn badgerdross_abort(words: &mut [u64; 256], writer: usize) -> usize
+pub extern "C" fn badgerdross_abort(words: &mut Words, writer: usize) -> usize
     ensures state { λ r. ⌜ Leaves r (decoded (now (words .exit))) (abortOf (decoded (now (words .entry))) writer) ⌝ }
     ensures words { λ r. ⌜ Keeps r (now (words .exit)) (now (words .entry)) ⌝ }
 {
@@ -36,7 +37,7 @@ pub extern "C" fn badgerdross_abort(words: &mut [u64; 256], writer: usize) -> us
 // Writes all of the data.
 #[no_mangle]
 pub extern "C" fn badgerdross_write(
-    words: &mut [u64; 256],
+    words: &mut Words,
     image: &mut [u8],
     writer: usize,
     page: usize,
@@ -63,7 +64,7 @@ pub extern "C" fn badgerdross_write(
 // Reads a line as a writer sees it.
 #[no_mangle]
 pub extern "C" fn badgerdross_read(
-    words: &[u64; 256],
+    words: &Words,
     image: &[u8],
     writer: usize,
     page: usize,
@@ -79,7 +80,7 @@ pub extern "C" fn badgerdross_read(
 // Commits.
 #[no_mangle]
 pub extern "C" fn badgerdross_commit(
-    words: &mut [u64; 256],
+    words: &mut Words,
     image: &mut [u8],
     writer: usize,
     until: usize,
@@ -95,7 +96,7 @@ pub extern "C" fn badgerdross_commit(
 // Stores the records of a commit.
 #[no_mangle]
 pub extern "C" fn badgerdross_prepare(
-    words: &mut [u64; 256],
+    words: &mut Words,
     image: &mut [u8],
     writer: usize,
     until: usize,
@@ -111,7 +112,7 @@ pub extern "C" fn badgerdross_prepare(
 // Commits what is prepared.
 #[no_mangle]
 pub extern "C" fn badgerdross_confirm(
-    words: &mut [u64; 256],
+    words: &mut Words,
     image: &mut [u8],
     writer: usize,
     until: usize,
@@ -126,7 +127,7 @@ pub extern "C" fn badgerdross_confirm(
 
 // Lets a prepared round go on.
 #[no_mangle]
-pub extern "C" fn badgerdross_withdraw(words: &mut [u64; 256], image: &[u8], writer: usize) -> usize
+pub extern "C" fn badgerdross_withdraw(words: &mut Words, image: &[u8], writer: usize) -> usize
     ensures state { λ r. ⌜ Leaves r (decoded (now (words .exit))) (withdrawOf (decoded (now (words .entry))) (now (image .entry)) writer) ⌝ }
     ensures words { λ r. ⌜ Keeps r (now (words .exit)) (now (words .entry)) ⌝ }
 {

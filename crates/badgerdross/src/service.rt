@@ -8,11 +8,12 @@ ghost use Rattle.reason_reading.specs.Reading.{readBack};
 ghost use Rattle.state_words.specs.Decoded.{decoded};
 ghost use Rattle.badgerdross.specs.Told.{reasonBy, readNumber, readRefusal};
 use reason_reading::ReadBack;
+use state_words::Words;
 
 // Composes the sentence of a refusal (`struct badgerdross_refusal`) at the start of target, and gives its length.
 #[no_mangle]
 pub extern "C" fn badgerdross_sentence(
-    words: &[u64; 256],
+    words: &Words,
     refusal: &[usize; 8],
     target: &mut [u8],
     count: &mut usize,

@@ -1,10 +1,11 @@
-// A round in one call.
+// A round in one call, for C: begin, writes and a commit, which checks the state once.
 ghost use mathlib.Core.Path.{_≡_};
 ghost use Rattle.refinement.specs.Calls.{worldOf};
 ghost use Rattle.call_round.specs.Round.{roundOf};
 ghost use Rattle.state_words.specs.Decoded.{decoded};
 ghost use Rattle.badgerdross.specs.Left.{Plays, roomBy};
 use call_round::Room;
+use state_words::Words;
 
 // What is done for want of room: 1 a checkpoint, 2 a slot freed, 3 both.
 fn room_of(n: usize) -> Room
@@ -16,10 +17,10 @@ fn room_of(n: usize) -> Room
     }
 }
 
-// Plays a round: begin, writes, a commit, each run to its end. Tells which of them gave the number.
+// Plays a round: begin, writes, a commit, each run to its end. Puts down which of them gave the number.
 #[no_mangle]
 pub extern "C" fn badgerdross_round(
-    words: &mut [u64; 256],
+    words: &mut Words,
     image: &mut [u8],
     writer: usize,
     writes: &[u64],

@@ -72,11 +72,30 @@ sum-count n (y ∷ l) = omega (arith, sum-add n (λ x. one (eqb x y)) (λ x. cou
 pub pigeonhole : (n : ℕ) (l : List ℕ) → length l ≡ n → notBelow n l ≡ 0 → ((x : ℕ) → x < n → countOf x l ≤ 1) → Once n l
 pigeonhole n l e low apart = sum-full n (λ x. countOf x l) apart (omega (arith, sum-count n l))
 
+-- numbers that are at least 1 and add up to at most n are all 1
+sum-least : (n : ℕ) (f : ℕ → ℕ) → ((x : ℕ) → x < n → 1 ≤ f x) → n ≤ sumBelow n f
+unfolding sumBelow
+sum-least zero f h = omega arith
+sum-least (suc n) f h = omega (arith, h n (omega arith), sum-least n f (λ x p. h x (omega arith)))
+
+sum-tight : (n : ℕ) (f : ℕ → ℕ) → ((x : ℕ) → x < n → 1 ≤ f x) → sumBelow n f ≤ n → (x : ℕ) → x < n → f x ≡ 1
+unfolding sumBelow
+sum-tight zero f h e x p = absurd (not-suc-le-zero p)
+sum-tight (suc n) f h e x p =
+    let low = sum-least n f (λ z r. h z (omega arith)) in
+    split-below p
+    (λ q. rw q (omega (arith, h n (omega arith))))
+    (λ l. sum-tight n f (λ z r. h z (omega arith)) (omega (arith, h n (omega arith))) x l)
+
+-- n entries that leave out no number below n: each stands once
+pub covered : (n : ℕ) (l : List ℕ) → length l ≡ n → ((x : ℕ) → x < n → 1 ≤ countOf x l) → Once n l
+covered n l e all = sum-tight n (λ x. countOf x l) all (omega (arith, sum-count n l))
+
 -- and back: n entries that name each number below n once are all below n, and no two are alike
 pub once-below : (n : ℕ) (l : List ℕ) → length l ≡ n → Once n l → notBelow n l ≡ 0
 once-below n l e o = omega (arith, sum-count n l, sum-ones n (λ x. countOf x l) o)
 
-count-high : (n x : ℕ) (l : List ℕ) → n ≤ x → countOf x l ≤ notBelow n l
+pub count-high : (n x : ℕ) (l : List ℕ) → n ≤ x → countOf x l ≤ notBelow n l
 unfolding countOf notBelow one
 count-high n x [] p = omega arith
 count-high n x (y ∷ l) p =

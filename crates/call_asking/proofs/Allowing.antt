@@ -24,14 +24,14 @@ use Rattle.state_words.specs.Decoded.{placesOf}
 
 module _ (st : State) (img : List ℕ) (rs : List Row) (row : ℕ) (e : row ≡ refusal (quietRows st (length img) ++ rs)) (none : row ≡ 0) (op : Op) where
   pub may-ask-for : (z : Sizes) (at : Places) → z ≡ st .sizes → at ≡ placesOf st → isIdle op ≡ false → opFits (st .wide .writer) (isFresh st) op ≡ true
-      → (refusal rs ≡ 0 → refusal (opRows st op 0) ≡ 0) → Allowed z at st op × (imageLength z ≤ length img)
+      → (refusal rs ≡ 0 → refusal (opRows st op) ≡ 0) → Allowed z at st op × (imageLength z ≤ length img)
   may-ask-for z at ez ea busy fits r =
       let q = quieted st rs row (length img) e none in
       (record { sizes = ez; places = ea; ok = q .ok; idle = q .idle; busy = busy; rows = r (q .rows); fits = fits }, rw ez (q .long))
 
   -- what came of it is what the call's definition says
-  pub asked-for : (a : Answer) (after : State) (bs : List ℕ) (u : Until) → Started a after bs (asked 0 st op (replicate 8 0) 0) img u
-      → Started a after bs (asked (refusal (quietRows st (length img) ++ rs)) st op (replicate 8 0) 0) img u
+  pub asked-for : (a : Answer) (after : State) (bs : List ℕ) (u : Until) → Started a after bs (asked 0 st op (replicate 8 0)) img u
+      → Started a after bs (asked (refusal (quietRows st (length img) ++ rs)) st op (replicate 8 0)) img u
   asked-for a after bs u h = let zero : refusal (quietRows st (length img) ++ rs) ≡ 0 = sym e ∙ none in rw zero h
 
 -- a call that is defined as the asking for one operation

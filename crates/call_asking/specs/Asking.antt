@@ -11,4 +11,4 @@ use Rattle.refinement.specs.Calls.{quietRows, asked}
 
 -- a commit, a consolidation or a checkpoint asked for, of an image of n bytes, by the rows of a call, which is the operation but of a wide commit
 abbrev pub askedOf : State → ℕ → Op → Op → Outcome
-askedOf st n call op = asked (refusal (quietRows st n ++ opRows st call 0)) st op (replicate 8 0) 0
+askedOf st n call op = asked (refusal (quietRows st n ++ opRows st call)) st op (replicate 8 0)

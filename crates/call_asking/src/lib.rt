@@ -13,9 +13,10 @@ ghost use Rattle.state_words.specs.Decoded.{decoded};
 use answers::Answer;
 use op_stores::Until;
 use state::Op;
+use state_words::Words;
 
 // Asks for an operation that fits whichever writer is wide, and goes on with it as far as is said. A call that is turned back changes no word.
-pub fn ask_for(image: &mut [u8], words: &mut [u64; 256], op: Op, until: Until) -> Answer
+pub fn ask_for(image: &mut [u8], words: &mut Words, op: Op, until: Until) -> Answer
     requires { ⌜ (isIdle op ≡ false) × ((wide : ℕ) (fresh : Bool) → opFits wide fresh op ≡ true) ⌝ }
     ensures started { λ r. ⌜ Started r (decoded (now (words .exit))) (now (image .exit))
         (askedOf (decoded (now (words .entry))) (length (now (image .entry))) op op) (now (image .entry)) until ⌝ }

@@ -13,9 +13,10 @@ ghost use Rattle.call_begin.specs.First.{firstRows};
 use answers::Answer;
 use layout::Sizes;
 use state::Places;
+use state_words::Words;
 
 // The first of rows 8, 9 and 11, of a state that row 8 accepts.
-fn valid_row(words: &[u64; 256], writer: usize) -> usize
+fn valid_row(words: &Words, writer: usize) -> usize
     requires { ⌜ stateOk (decoded (now words)) ≡ true ⌝ }
     ensures { λ r. ⌜ r ≡ refusal (firstRows (decoded (now (words .entry))) writer) ⌝ }
 {
@@ -29,7 +30,7 @@ fn valid_row(words: &[u64; 256], writer: usize) -> usize
 }
 
 // The first row that turns back begin, of a state that row 8 accepts. It wants the writer closed and no wide one.
-fn begin_row(at: Places, words: &[u64; 256], writer: usize) -> usize
+fn begin_row(at: Places, words: &Words, writer: usize) -> usize
     requires { ⌜ (at ≡ placesOf (decoded (now words))) × (stateOk (decoded (now words)) ≡ true) ⌝ }
     ensures { λ r. ⌜ r ≡ refusal (beginRows (decoded (now (words .entry))) writer) ⌝ }
 {
@@ -47,7 +48,7 @@ fn begin_row(at: Places, words: &[u64; 256], writer: usize) -> usize
 }
 
 // Begin on a state that row 8 accepts.
-pub fn begin_valid(at: Places, words: &mut [u64; 256], writer: usize) -> Answer
+pub fn begin_valid(at: Places, words: &mut Words, writer: usize) -> Answer
     requires { ⌜ (at ≡ placesOf (decoded (now words))) × (stateOk (decoded (now words)) ≡ true) ⌝ }
     ensures state { λ r. ⌜ answeredAt r (decoded (now (words .exit))) ≡ beginOf (decoded (now (words .entry))) writer ⌝ }
     ensures words { λ r. ⌜ now (words .exit) ≡ cond (eqb (numberOf r) 0) (set (now (words .entry)) (10 + writer) 1) (now (words .entry)) ⌝ }
@@ -61,7 +62,7 @@ pub fn begin_valid(at: Places, words: &mut [u64; 256], writer: usize) -> Answer
 }
 
 // Opens a writer. A call that is taken changes one word.
-pub fn begin(words: &mut [u64; 256], writer: usize) -> Answer
+pub fn begin(words: &mut Words, writer: usize) -> Answer
     ensures state { λ r. ⌜ answeredAt r (decoded (now (words .exit))) ≡ beginOf (decoded (now (words .entry))) writer ⌝ }
     ensures words { λ r. ⌜ now (words .exit) ≡ cond (eqb (numberOf r) 0) (set (now (words .entry)) (10 + writer) 1) (now (words .entry)) ⌝ }
 {
@@ -74,7 +75,7 @@ pub fn begin(words: &mut [u64; 256], writer: usize) -> Answer
 }
 
 // The first of rows 8, 9 and 11.
-fn first_row(z: Sizes, at: Places, words: &[u64; 256], writer: usize) -> usize
+fn first_row(z: Sizes, at: Places, words: &Words, writer: usize) -> usize
     requires { ⌜ (z ≡ decoded (now words) .sizes) × (at ≡ placesOf (decoded (now words))) ⌝ }
     ensures { λ r. ⌜ r ≡ refusal (firstRows (decoded (now (words .entry))) writer) ⌝ }
 {
@@ -85,7 +86,7 @@ fn first_row(z: Sizes, at: Places, words: &[u64; 256], writer: usize) -> usize
 }
 
 // The first row that turns back a wide begin, which wants entries and every writer closed.
-fn wide_row(words: &[u64; 256], writer: usize) -> usize
+fn wide_row(words: &Words, writer: usize) -> usize
     ensures { λ r. ⌜ r ≡ refusal (beginWideRows (decoded (now (words .entry))) writer) ⌝ }
 {
     let z = state_words::sizes_in(words);
@@ -104,7 +105,7 @@ fn wide_row(words: &[u64; 256], writer: usize) -> usize
 }
 
 // Opens a writer for a wide transaction.
-pub fn begin_wide(words: &mut [u64; 256], writer: usize) -> Answer
+pub fn begin_wide(words: &mut Words, writer: usize) -> Answer
     ensures state { λ r. ⌜ answeredAt r (decoded (now (words .exit))) ≡ beginWideOf (decoded (now (words .entry))) writer ⌝ }
     ensures words { λ r. ⌜ ((numberOf r ≡ 0 → ⊥) → now (words .exit) ≡ now (words .entry)) ⌝ }
 {
@@ -119,7 +120,7 @@ pub fn begin_wide(words: &mut [u64; 256], writer: usize) -> Answer
 }
 
 // The first row that turns back abort, of a state that row 8 accepts. It wants the writer open and not prepared.
-fn abort_row(at: Places, words: &[u64; 256], writer: usize) -> usize
+fn abort_row(at: Places, words: &Words, writer: usize) -> usize
     requires { ⌜ (at ≡ placesOf (decoded (now words))) × (stateOk (decoded (now words)) ≡ true) ⌝ }
     ensures { λ r. ⌜ r ≡ refusal (abortRows (decoded (now (words .entry))) writer) ⌝ }
 {
@@ -137,7 +138,7 @@ fn abort_row(at: Places, words: &[u64; 256], writer: usize) -> usize
 }
 
 // Abort on a state that row 8 accepts.
-pub fn abort_valid(z: Sizes, at: Places, words: &mut [u64; 256], writer: usize) -> Answer
+pub fn abort_valid(z: Sizes, at: Places, words: &mut Words, writer: usize) -> Answer
     requires { ⌜ (z ≡ decoded (now words) .sizes) × (at ≡ placesOf (decoded (now words))) × (stateOk (decoded (now words)) ≡ true) ⌝ }
     ensures state { λ r. ⌜ answeredAt r (decoded (now (words .exit))) ≡ abortOf (decoded (now (words .entry))) writer ⌝ }
     ensures words { λ r. ⌜ ((numberOf r ≡ 0 → ⊥) → now (words .exit) ≡ now (words .entry)) ⌝ }
@@ -156,7 +157,7 @@ pub fn abort_valid(z: Sizes, at: Places, words: &mut [u64; 256], writer: usize) 
 }
 
 // Closes a writer and empties its held lines; of the wide one also its entries.
-pub fn abort(words: &mut [u64; 256], writer: usize) -> Answer
+pub fn abort(words: &mut Words, writer: usize) -> Answer
     ensures state { λ r. ⌜ answeredAt r (decoded (now (words .exit))) ≡ abortOf (decoded (now (words .entry))) writer ⌝ }
     ensures words { λ r. ⌜ ((numberOf r ≡ 0 → ⊥) → now (words .exit) ≡ now (words .entry)) ⌝ }
 {

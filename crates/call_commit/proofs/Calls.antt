@@ -32,16 +32,16 @@ module _ (st : State) (img : List ℕ) (w row : ℕ) (e : row ≡ refusal (quiet
 
   module _ (none : row ≡ 0) (z : Sizes) (at : Places) (ez : z ≡ st .sizes) (ea : at ≡ placesOf st) where
     pub copy-allowed : Allowed z at st Copy × (imageLength z ≤ length img)
-    copy-allowed = may-ask-for st img (commitRows st w) row e none Copy z at ez ea refl refl (λ r. sym (row-none (opRows st Copy 0) (commit-alone st w r, tt)))
+    copy-allowed = may-ask-for st img (commitRows st w) row e none Copy z at ez ea refl refl (λ r. sym (row-none (opRows st Copy) (commit-alone st w r, tt)))
 
     pub commit-allowed : (st .wide .writer ≡ w → ⊥) → Allowed z at st (Commit w) × (imageLength z ≤ length img)
     commit-allowed n = may-ask-for st img (commitRows st w) row e none (Commit w) z at ez ea refl (ap not (ne-eqb (st .wide .writer) w n)) (λ r. r)
 
   module _ (none : row ≡ 0) (a : Answer) (after : State) (bs : List ℕ) (u : Until) where
-    pub copy-came : st .wide .writer ≡ w → Started a after bs (asked 0 st Copy (replicate 8 0) 0) img u → Started a after bs (commitOf st img w) img u
+    pub copy-came : st .wide .writer ≡ w → Started a after bs (asked 0 st Copy (replicate 8 0)) img u → Started a after bs (commitOf st img w) img u
     unfolding commitOf
     copy-came y h = rw (eq-eqb (st .wide .writer) w y) (asked-for st img (commitRows st w) row e none Copy a after bs u h)
 
-    pub commit-came : (st .wide .writer ≡ w → ⊥) → Started a after bs (asked 0 st (Commit w) (replicate 8 0) 0) img u → Started a after bs (commitOf st img w) img u
+    pub commit-came : (st .wide .writer ≡ w → ⊥) → Started a after bs (asked 0 st (Commit w) (replicate 8 0)) img u → Started a after bs (commitOf st img w) img u
     unfolding commitOf
     commit-came n h = rw (ne-eqb (st .wide .writer) w n) (asked-for st img (commitRows st w) row e none (Commit w) a after bs u h)

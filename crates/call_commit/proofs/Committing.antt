@@ -46,12 +46,12 @@ module _ (z : Sizes) (at : Places) (st : State) (w c : ℕ) (h : Commits z at st
 
   pub piece-next : (i : ℕ) (img : List ℕ) (p : Piece) → imageLength z ≤ length img
       → Next (λ m. commitAtOf z (at .head) (st .writers .held) w) (λ m. commitValueOf z (at .head) (st .table) (st .writers .held) w) i (imageLength z) img p
-      → Next (λ m. storeAt st m (st .pending .op)) (λ m. storeValue st m (st .pending .op)) (st .pending .made + i) (length img) img p
+      → Next (λ m. storeAt st (st .pending .op)) (λ m. storeValue st m (st .pending .op)) (st .pending .made + i) (length img) img p
   piece-next i img p long n =
       let same : i ≡ 0 + i = omega arith in
-      let from : Next (λ m. storeAt st m (st .pending .op)) (λ m. storeValue st m (st .pending .op)) i (imageLength z) img p = next-of z at st (h .served) i img p (h .op) (commit-next z at st (h .served) i img p w n) in
+      let from : Next (λ m. storeAt st (st .pending .op)) (λ m. storeValue st m (st .pending .op)) i (imageLength z) img p = next-of z at st (h .served) i img p (h .op) (commit-next z at st (h .served) i img p w n) in
       pending-next z st (st .pending .op) 0 i img p refl (sym (h .none-made)) long
-      (subst (λ (k : ℕ). Next (λ m. storeAt st m (st .pending .op)) (λ m. storeValue st m (st .pending .op)) k (imageLength z) img p) same from)
+      (subst (λ (k : ℕ). Next (λ m. storeAt st (st .pending .op)) (λ m. storeValue st m (st .pending .op)) k (imageLength z) img p) same from)
 
   pub all-needs : needs st (Commit w) ≡ needs st (st .pending .op)
   all-needs = ap (needs st) (sym (h .op))
@@ -92,7 +92,7 @@ module _ (z : Sizes) (at : Places) (st : State) (w : ℕ) (h : Allowed z at st (
         (subst (λ (s : State). Commits z at s w c) (sym e) cs, all ∙ ap (λ (s : State). needs s (Commit w)) (sym e), few)
 
     pub went : (now : State) (u : Until) (k : ℕ) (a : Answer) (bs : List ℕ) (after : State) → now ≡ put st (withoutLines z at st (Commit w) h) → k ≡ budgetIn u (Commit w) 0 n → a ≡ Taken n
-        → bs ≡ storesMade now k img → after ≡ stateAfter now k → Started a after bs (asked 0 st (Commit w) (replicate 8 0) 0) img u
+        → bs ≡ storesMade now k img → after ≡ stateAfter now k → Started a after bs (asked 0 st (Commit w) (replicate 8 0)) img u
     went now u k a bs after e ek ea eb es =
         let b : k ≡ budget u pending = put-budget z at st img (withoutLines z at st (Commit w) h) asks u n k en ek in
         started-asked z at st img (withoutLines z at st (Commit w) h) asks u a bs after (ea ∙ ap Taken en) (eb ∙ ap₂ (λ (s : State) (m : ℕ). storesMade s m img) e b) (es ∙ ap₂ stateAfter e b) [] 0 refl refl refl

@@ -21,17 +21,10 @@ use op_stores::Until;
 use state::Op;
 use state::Pending;
 use state::Places;
+use state_words::Words;
 
 // Makes the first n stores of the commit that is pending, which has c slots.
-fn store_commit(
-    image: &mut [u8],
-    z: Sizes,
-    at: Places,
-    words: &[u64; 256],
-    w: usize,
-    c: usize,
-    n: usize,
-)
+fn store_commit(image: &mut [u8], z: Sizes, at: Places, words: &Words, w: usize, c: usize, n: usize)
     requires { ⌜ Commits z at (decoded (now words)) w c × (n ≤ needs (decoded (now words)) (Commit w)) × (imageLength z ≤ length (now image)) ⌝ }
     ensures { λ _. ⌜ now (image .exit) ≡ storesMade (decoded (now (words .entry))) n (now (image .entry)) ⌝ }
 {
@@ -49,7 +42,7 @@ fn go_on(
     image: &mut [u8],
     z: Sizes,
     at: Places,
-    words: &mut [u64; 256],
+    words: &mut Words,
     w: usize,
     c: usize,
     all: usize,
@@ -72,14 +65,14 @@ fn commit_narrow(
     image: &mut [u8],
     z: Sizes,
     at: Places,
-    words: &mut [u64; 256],
+    words: &mut Words,
     w: usize,
     until: Until,
 ) -> Answer
     requires { ⌜ Allowed z at (decoded (now words)) (Commit w) × (imageLength z ≤ length (now image)) ⌝ }
     ensures answer { λ r. ⌜ r ≡ Taken (needs (decoded (now (words .entry))) (Commit w)) ⌝ }
     ensures started { λ r. ⌜ Started r (decoded (now (words .exit))) (now (image .exit))
-        (asked 0 (decoded (now (words .entry))) (Commit w) (replicate 8 0) 0) (now (image .entry)) until ⌝ }
+        (asked 0 (decoded (now (words .entry))) (Commit w) (replicate 8 0)) (now (image .entry)) until ⌝ }
 {
     let c = state_held::held::held_count(z, words, w);
     let n = needs::commit_needs(c);
@@ -94,7 +87,6 @@ fn commit_narrow(
         made: 0,
         line: none,
         second: none,
-        frame: 0,
     };
     state_pending::put_pending(words, p);
     let k = op_stores::budget(until, op, 0, n);
@@ -107,7 +99,7 @@ pub fn commit_valid(
     image: &mut [u8],
     z: Sizes,
     at: Places,
-    words: &mut [u64; 256],
+    words: &mut Words,
     writer: usize,
     until: Until,
 ) -> Answer
@@ -127,7 +119,7 @@ pub fn commit_valid(
 }
 
 // Commits, and goes on with it as far as is said. The wide writer's commit is a copying. A call that is turned back changes no word.
-pub fn commit(image: &mut [u8], words: &mut [u64; 256], writer: usize, until: Until) -> Answer
+pub fn commit(image: &mut [u8], words: &mut Words, writer: usize, until: Until) -> Answer
     ensures started { λ r. ⌜ Started r (decoded (now (words .exit))) (now (image .exit))
         (commitOf (decoded (now (words .entry))) (now (image .entry)) writer) (now (image .entry)) until ⌝ }
     ensures words { λ r. ⌜ ((numberOf r ≡ 0 → ⊥) → now (words .exit) ≡ now (words .entry)) ⌝ }

@@ -48,6 +48,6 @@ module _ (z : Sizes) (at : Places) (st : State) (img : List ℕ) (ez : z ≡ st 
       may-free =
           may-ask-for st img (freeRows (st .sizes) (placesOf st) (freedSlot st)) row next-row taken (Consolidate p) z at ez ea refl refl (λ h. rw page (free-rows st img (sym next-row ∙ taken)))
 
-      pub freed : (a : Answer) (after : State) (bs : List ℕ) (u : Until) → Started a after bs (asked 0 st (Consolidate p) (replicate 8 0) 0) img u → Started a after bs (freeOf st img) img u
+      pub freed : (a : Answer) (after : State) (bs : List ℕ) (u : Until) → Started a after bs (asked 0 st (Consolidate p) (replicate 8 0)) img u → Started a after bs (freeOf st img) img u
       unfolding freeOf
       freed a after bs u h = rw page at (asked-for st img (freeRows (st .sizes) (placesOf st) (freedSlot st)) row next-row taken (Consolidate p) a after bs u h)

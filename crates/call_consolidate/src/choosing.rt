@@ -6,9 +6,10 @@ ghost use Rattle.layout.specs.Layout.{Legal};
 ghost use Rattle.refinement.specs.Freeing.{mayFree, linesToCopy, slotToFree};
 ghost use Rattle.state_words.specs.Decoded.{decoded};
 use layout::Sizes;
+use state_words::Words;
 
 // Whether slot s is taken and no line of it is held.
-fn may_free(words: &[u64; 256], s: usize) -> bool
+fn may_free(words: &Words, s: usize) -> bool
     requires { ⌜ s < 16 ⌝ }
     ensures { λ r. ⌜ r ≡ mayFree (decoded (now (words .entry)) .table .page) (decoded (now (words .entry)) .writers .held) s ⌝ }
 {
@@ -18,7 +19,7 @@ fn may_free(words: &[u64; 256], s: usize) -> bool
 
 // The better one of slot s and the best of those below it, which is s itself where none of them may be freed. Where s may not
 // either, the answer is s + 1.
-fn better(words: &[u64; 256], s: usize, best: usize) -> usize
+fn better(words: &Words, s: usize, best: usize) -> usize
     requires { ⌜ (s < 16) × (best ≤ s) ⌝ }
     ensures { λ r. ⌜ r ≡ leastTurn (mayFree (decoded (now (words .entry)) .table .page) (decoded (now (words .entry)) .writers .held))
         (linesToCopy (decoded (now (words .entry)) .table .bitmap)) s best ⌝ }
@@ -39,7 +40,7 @@ fn better(words: &[u64; 256], s: usize, best: usize) -> usize
 }
 
 // The slot to free, S where there is none.
-pub(crate) fn slot_to_free(z: Sizes, words: &[u64; 256]) -> usize
+pub(crate) fn slot_to_free(z: Sizes, words: &Words) -> usize
     requires { ⌜ Legal z ⌝ }
     ensures { λ r. ⌜ r ≡ slotToFree z (decoded (now (words .entry)) .table .page) (decoded (now (words .entry)) .table .bitmap)
         (decoded (now (words .entry)) .writers .held) ⌝ }

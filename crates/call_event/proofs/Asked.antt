@@ -19,9 +19,9 @@ use Rattle.state.specs.State.{State}
 use Rattle.state.specs.declared.Pending.{Pending}
 use Rattle.state.specs.Wide.{someWide, isWide}
 use Rattle.state.specs.declared.Op.the-variants.{Event}
-use Rattle.operations.specs.Operations.{slotFor, journalFull, frameBad, eventNextRows}
+use Rattle.operations.specs.Operations.{journalFull, eventNextRows}
 use Rattle.operations.proofs.Taken.{EventTaken, event-taken}
-use Rattle.refinement.specs.Frames.{pageFrame, seenFrame}
+use Rattle.refinement.specs.Frames.{seenFrame}
 use Rattle.refinement.specs.Settled.{withLines}
 use Rattle.refinement.specs.Outcome.{answered}
 use Rattle.refinement.specs.Calls.{quietRows, seenLine, meterIn, eventLine, eventSecond, eventCallRows, eventOf}
@@ -29,6 +29,7 @@ use Rattle.refinement.proofs.EventRows.{event-op-row, event-amount, event-modul
 use Rattle.refinement.proofs.Going.{ranges-of, shapes-of}
 use Rattle.refinement.proofs.Quiet.{Quiet, quiet}
 use Rattle.refinement.proofs.SeenFrames.{seen-low}
+use Rattle.refinement.proofs.Valid.{map-low}
 use Rattle.call_event.specs.Found.{startRows, EventFound, secondOf}
 use Rattle.call_event.specs.declared.found.Found.{Found}
 
@@ -58,7 +59,7 @@ module _ (st : State) (img ms : List ℕ) (k m a : ℕ) where
   start = startRows st (length img) ms k m
 
   abbrev early : List Row
-  early = eventNextRows st k m (pageFrame st img 0)
+  early = eventNextRows st k m
 
   abbrev late : List Row
   late = (amountBad ms k m (meterIn st img (firstMeter k m)) a, 21) ∷ (journalFull st 1, 19) ∷ []
@@ -84,22 +85,17 @@ module _ (st : State) (img ms : List ℕ) (k m a : ℕ) where
         pub row-taken : journalFull st 1 ≡ false → 0 ≡ refusal (eventCallRows st img ms k m a)
         row-taken t = row-late 0 (row-no (amountBad ms k m (meterIn st img (firstMeter k m)) a) 21 _ 0 f (row-no (journalFull st 1) 19 0 0 t refl))
 
--- row 16
-pub early-frame : (st : State) (k m f : ℕ) → refusal (eventNextRows st k m f) ≡ 0
-    → frameBad (st .sizes) (st .table .page) (st .table .original) (st .table .spare) (slotFor st 0) f ≡ false
-early-frame st k m f z = none-apply (eventNextRows st k m f) (omega arith) z .1 .1 .1 .1 .0
-
 -- a line of page 0 is read from a frame
-pub line-frame : (st : State) (n l f : ℕ) → Quiet st n → frameBad (st .sizes) (st .table .page) (st .table .original) (st .table .spare) (slotFor st 0) f ≡ false
-    → seenFrame st 1 0 l f < frames (st .sizes)
-line-frame st n l f q good =
+pub line-frame : (st : State) (n l : ℕ) → Quiet st n → seenFrame st 1 0 l < frames (st .sizes)
+line-frame st n l q =
     let g = ranges-of st (q .ok) .legal in
-    seen-low st 1 0 l f g (omega (arith, g .pages-low)) (shapes-of st (q .ok)) good
+    let low : 0 < st .sizes .pages = omega (arith, g .pages-low) in
+    seen-low st 1 0 l g low (shapes-of st (q .ok)) (map-low st (q .ok) 0 low)
 
 -- ---- numbers and lines
 
 -- with no wide transaction, writer 1 sees a line of page 0 in a frame
-pub narrow-line : (st : State) (img : List ℕ) (l : ℕ) → someWide (st .wide .writer) ≡ false → lineBytes img (st .sizes) (seenFrame st 1 0 l (pageFrame st img 0)) l ≡ seenLine st img 1 0 l
+pub narrow-line : (st : State) (img : List ℕ) (l : ℕ) → someWide (st .wide .writer) ≡ false → lineBytes img (st .sizes) (seenFrame st 1 0 l) l ≡ seenLine st img 1 0 l
 narrow-line st img l e =
     let other : isWide (st .wide) 1 ≡ false = ne-eqb (st .wide .writer) 1 (λ q. omega (arith, q, ltb-false (st .wide .writer) 4 e)) in
     rw other
@@ -113,34 +109,34 @@ number-bytes v l d n e = e ∙ over-whole l (bytesOf 8 v) (length-bytes 8 v ∙ 
 
 module _ (st : State) (img ms : List ℕ) (k m a : ℕ) (found : Found) (f : EventFound st img ms k m a found) where
   abbrev after : State
-  after = withLines st (Event k m a) (eventLine st img ms k m a) (eventSecond st img ms k m a) (pageFrame st img 0)
+  after = withLines st (Event k m a) (eventLine st img ms k m a) (eventSecond st img ms k m a)
 
   -- the event pending, by what the code found: v is the first meter's new number, l that meter
   module _ (z : found .row ≡ 0) (v l : ℕ) (line second : List ℕ) (q : Pending) (ev : v ≡ firstNumber ms k m (found .stored) a) (el : l ≡ firstMeter k m)
       (eline : line ≡ lineWords (merged (lineBytes img (st .sizes) (found .first) l) 0 8 (bytesOf 8 v))) (esecond : second ≡ secondOf img ms (st .sizes) (found .own) k m a)
-      (eq : q ≡ record { op = Event k m a; made = 0; line = line; second = second; frame = found .frame }) where
-    pub event-pending : q ≡ record { op = Event k m a; made = 0; line = eventLine st img ms k m a; second = eventSecond st img ms k m a; frame = pageFrame st img 0 }
+      (eq : q ≡ record { op = Event k m a; made = 0; line = line; second = second }) where
+    pub event-pending : q ≡ record { op = Event k m a; made = 0; line = eventLine st img ms k m a; second = eventSecond st img ms k m a }
     event-pending =
         let g = f .1 z in
         let narrow : someWide (st .wide .writer) ≡ false = none-apply (eventCallRows st img ms k m a) (omega arith) (sym (f .0) ∙ z) .1 .1 .1 .0 in
         let v₀ : ℕ = firstNumber ms k m (meterIn st img (firstMeter k m)) a in
         let one : line ≡ eventLine st img ms k m a =
         eline
-        ∙ ap₂ (λ (x y : ℕ). lineWords (merged (lineBytes img (st .sizes) (found .first) x) 0 8 (bytesOf 8 y))) el (ev ∙ ap (λ (s : ℕ). firstNumber ms k m s a) (g .3))
-        ∙ ap (λ (x : ℕ). lineWords (merged (lineBytes img (st .sizes) x (firstMeter k m)) 0 8 (bytesOf 8 v₀))) (g .1)
+        ∙ ap₂ (λ (x y : ℕ). lineWords (merged (lineBytes img (st .sizes) (found .first) x) 0 8 (bytesOf 8 y))) el (ev ∙ ap (λ (s : ℕ). firstNumber ms k m s a) (g .2))
+        ∙ ap (λ (x : ℕ). lineWords (merged (lineBytes img (st .sizes) x (firstMeter k m)) 0 8 (bytesOf 8 v₀))) (g .0)
         ∙ ap (λ (x : List ℕ). lineWords (merged x 0 8 (bytesOf 8 v₀))) (narrow-line st img (firstMeter k m) narrow) in
         let two : second ≡ eventSecond st img ms k m a =
         esecond
-        ∙ ap (λ (x : ℕ). secondOf img ms (st .sizes) x k m a) (g .2)
+        ∙ ap (λ (x : ℕ). secondOf img ms (st .sizes) x k m a) (g .1)
         ∙ ap (λ (x : List ℕ). cond (movesCredit k) (lineWords (merged x 0 8 (bytesOf 8 (rolled ms (ownMeter k m) (wordAt x 0) a)))) (replicate 8 0)) (narrow-line st img (ownMeter k m) narrow) in
-        eq ∙ rw (one, two, g .0)
+        eq ∙ rw (one, two)
 
 -- what a taken one has made sure of
 pub asked-facts : (st : State) (img ms : List ℕ) (k m a : ℕ) → refusal (eventCallRows st img ms k m a) ≡ 0
-    → Quiet st (length img) × EventTaken st k m (pageFrame st img 0) × (amountBad ms k m (meterIn st img (firstMeter k m)) a ≡ false) × (moduliOk ms ≡ true)
+    → Quiet st (length img) × EventTaken st k m × (amountBad ms k m (meterIn st img (firstMeter k m)) a ≡ false) × (moduliOk ms ≡ true)
 asked-facts st img ms k m a e =
     let h = none-apply (eventCallRows st img ms k m a) (omega arith) e in
-    (quiet st (length img) 0 (sym-none h) refl, event-taken st k m a (pageFrame st img 0) (event-op-row st img ms k m a e), event-amount st img ms k m a e, event-moduli st img ms k m a e)
+    (quiet st (length img) 0 (sym-none h) refl, event-taken st k m a (event-op-row st img ms k m a e), event-amount st img ms k m a e, event-moduli st img ms k m a e)
   where
     sym-none : Past (eventCallRows st img ms k m a) (length (eventCallRows st img ms k m a)) → 0 ≡ refusal (quietRows st (length img))
     sym-none h = row-none (quietRows st (length img)) (h .0, (h .1 .0, (h .1 .1 .0, tt)))

@@ -14,7 +14,6 @@ use Rattle.state.specs.declared.Pending.{Pending}
 use Rattle.state.specs.declared.Op.the-variants.{Event}
 use Rattle.operations.specs.Operations.{isIdle, needs}
 use Rattle.refinement.specs.Stores.{storesMade, stateAfter}
-use Rattle.refinement.specs.Frames.{pageFrame}
 use Rattle.refinement.specs.Calls.{eventLine, eventSecond, eventCallRows, eventOf}
 use Rattle.refinement.proofs.EventRows.{event-some, event-needs, event-op-row}
 use Rattle.refinement.proofs.Going.{ranges-of}
@@ -36,7 +35,7 @@ module _ (st : State) (img ms : List ℕ) (k m a : ℕ) (found : Found) (f : Eve
   pub event-refused : (u : Until) → (found .row ≡ 0 → ⊥) → (r : Answer) → r ≡ asAnswer (found .row) 0 → Started r st img (eventOf st img ms k m a) img u
   unfolding eventOf
   event-refused u z r h =
-      started-refused st img u (eventCallRows st img ms k m a) (found .row) (f .0) z (rw (f .0) (row-known (eventCallRows st img ms k m a) (omega arith))) r h _ _
+      started-refused st img u (eventCallRows st img ms k m a) (found .row) (f .0) z (rw (f .0) (row-known (eventCallRows st img ms k m a) refl)) r h _ _
 
   module _ (z : found .row ≡ 0) where
     -- each line is read from a frame
@@ -44,10 +43,10 @@ module _ (st : State) (img ms : List ℕ) (k m a : ℕ) (found : Found) (f : Eve
     event-lines =
         let q = asked-facts st img ms k m a (sym (f .0) ∙ z) in
         let g = f .1 z in
-        (ranges-of st (q .0 .ok) .legal, rw (g .1) (line-frame st (length img) (firstMeter k m) (pageFrame st img 0) (q .0) (q .1 .frame-good)), rw (g .2) (line-frame st (length img) (ownMeter k m) (pageFrame st img 0) (q .0) (q .1 .frame-good)), q .0 .long)
+        (ranges-of st (q .0 .ok) .legal, rw (g .0) (line-frame st (length img) (firstMeter k m) (q .0)), rw (g .1) (line-frame st (length img) (ownMeter k m) (q .0)), q .0 .long)
 
     -- q is the event pending, with its finished lines
-    module _ (q : Pending) (e : q ≡ record { op = Event k m a; made = 0; line = eventLine st img ms k m a; second = eventSecond st img ms k m a; frame = pageFrame st img 0 })
+    module _ (q : Pending) (e : q ≡ record { op = Event k m a; made = 0; line = eventLine st img ms k m a; second = eventSecond st img ms k m a })
         (y : Sizes) (at : Places) (ey : y ≡ st .sizes) (ea : at ≡ placesOf st) where
       pub event-asks : Asks y at st img q
       event-asks =

@@ -1,4 +1,4 @@
--- What an event finds before it is taken: the first row that turns it back; where none does, the frames of page 0 and of its lines, and the stored
+-- What an event finds before it is taken: the first row that turns it back; where none does, the frames of its lines, and the stored
 -- number of the meter whose line goes first.
 use Prim.Native.Nat.{ℕ}
 use mathlib.Core.List.{List, [], _∷_, _++_}
@@ -12,7 +12,7 @@ use Rattle.words.specs.Words.{bytesOf, wordAt}
 use Rattle.image.specs.Lines.{lineBytes, merged, lineWords}
 use Rattle.state.specs.State.{State}
 use Rattle.state.specs.Wide.{someWide}
-use Rattle.refinement.specs.Frames.{pageFrame, seenFrame}
+use Rattle.refinement.specs.Frames.{seenFrame}
 use Rattle.refinement.specs.Calls.{quietRows, meterIn, eventCallRows}
 use Rattle.call_event.specs.declared.found.Found.{Found}
 
@@ -24,9 +24,8 @@ abbrev pub EventFound : State → List ℕ → List ℕ → ℕ → ℕ → ℕ 
 EventFound st img ms k m a r =
     (r .row ≡ refusal (eventCallRows st img ms k m a))
     × (r .row ≡ 0
-    → (r .frame ≡ pageFrame st img 0)
-    × (r .first ≡ seenFrame st 1 0 (firstMeter k m) (pageFrame st img 0))
-    × (r .own ≡ seenFrame st 1 0 (ownMeter k m) (pageFrame st img 0))
+    → (r .first ≡ seenFrame st 1 0 (firstMeter k m))
+    × (r .own ≡ seenFrame st 1 0 (ownMeter k m))
     × (r .stored ≡ meterIn st img (firstMeter k m)))
 
 -- the second finished line, line o of frame f being that of the event's own meter

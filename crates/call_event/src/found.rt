@@ -11,12 +11,11 @@ ghost use Rattle.state_words.specs.Decoded.{decoded, placesOf};
 ghost use Rattle.call_event.specs.Seen.{lineFrom, linesSeen};
 use layout::Sizes;
 use state::Places;
+use state_words::Words;
 
-// The row, 0 where none turns the event back; then the frame of page 0, those that its lines are read from, and the stored number of the meter
-// whose line goes first.
+// The row, 0 where none turns the event back; then the frames that its lines are read from, and the stored number of the meter whose line goes first.
 pub struct Found {
     pub row: usize,
-    pub frame: usize,
     pub first: usize,
     pub own: usize,
     pub stored: u64,
@@ -24,11 +23,10 @@ pub struct Found {
 
 // A refusal.
 fn turned_back(row: usize) -> Found
-    ensures { λ r. ⌜ r ≡ record { row = row; frame = 0; first = 0; own = 0; stored = 0 } ⌝ }
+    ensures { λ r. ⌜ r ≡ record { row = row; first = 0; own = 0; stored = 0 } ⌝ }
 {
     Found {
         row,
-        frame: 0,
         first: 0,
         own: 0,
         stored: 0,
@@ -39,7 +37,7 @@ fn turned_back(row: usize) -> Found
 fn start_row(
     z: Sizes,
     at: Places,
-    words: &[u64; 256],
+    words: &Words,
     n: usize,
     kind: usize,
     meter: usize,
@@ -64,28 +62,19 @@ fn start_row(
     0
 }
 
-// The lines of a known event as writer 1 sees them, s being the slot of page 0, S where it has none, and frame its frame.
-fn lines_seen(
-    image: &[u8],
-    z: Sizes,
-    words: &[u64; 256],
-    kind: usize,
-    meter: usize,
-    s: usize,
-    frame: usize,
-) -> Found
-    requires { ⌜ Legal z × (eventKnown kind meter ≡ true) × ((l : ℕ) → lineFrom z (decoded (now words)) s frame l < framesOf z)
+// The lines of a known event as writer 1 sees them, s being the slot of page 0, S where it has none.
+fn lines_seen(image: &[u8], z: Sizes, words: &Words, kind: usize, meter: usize, s: usize) -> Found
+    requires { ⌜ Legal z × (eventKnown kind meter ≡ true) × ((l : ℕ) → lineFrom z (decoded (now words)) s l < framesOf z)
         × (imageLength z ≤ length (now image)) ⌝ }
-    ensures { λ r. ⌜ r ≡ linesSeen z (decoded (now (words .entry))) (now (image .entry)) s frame kind meter ⌝ }
+    ensures { λ r. ⌜ r ≡ linesSeen z (decoded (now (words .entry))) (now (image .entry)) s kind meter ⌝ }
 {
     let l = meters::first_meter(kind, meter);
     let o = meters::own_meter(kind, meter);
-    let first = state_lines::seen_frame(z, words, 1, s, l, frame);
-    let own = state_lines::seen_frame(z, words, 1, s, o, frame);
+    let first = state_lines::seen_frame(z, words, 1, 0, s, l);
+    let own = state_lines::seen_frame(z, words, 1, 0, s, o);
     let stored = image::read_line_word(image, z, first, l, 0);
     Found {
         row: 0,
-        frame,
         first,
         own,
         stored,
@@ -97,7 +86,7 @@ pub fn event_found(
     image: &[u8],
     z: Sizes,
     at: Places,
-    words: &[u64; 256],
+    words: &Words,
     kind: usize,
     meter: usize,
     amount: u64,
@@ -111,12 +100,11 @@ pub fn event_found(
         return turned_back(row);
     }
     let s = state_held::slots::slot_of(z, words, 0);
-    let frame = state_lines::page_frame(image, z, words, 0, s);
-    let early = op_rows::event_next_row(z, at, words, kind, meter, s, frame);
+    let early = op_rows::event_next_row(z, at, words, kind, meter, s);
     if early != 0 {
         return turned_back(early);
     }
-    let found = lines_seen(image, z, words, kind, meter, s, frame);
+    let found = lines_seen(image, z, words, kind, meter, s);
     if meters::amount_bad(moduli, kind, meter, found.stored, amount) {
         return turned_back(21);
     }

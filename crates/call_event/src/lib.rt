@@ -11,13 +11,14 @@ use answers::Answer;
 use op_stores::Until;
 use state::Op;
 use state::Pending;
+use state_words::Words;
 
 // Asks for event `kind`: 1 cash in, 2 cash out, 3 bet, 4 won, 5 a count of the meter; and goes on with it as far as is said. It is lent the moduli,
 // and does not
 // rely on its caller having checked anything. A call that is turned back changes no word.
 pub fn event(
     image: &mut [u8],
-    words: &mut [u64; 256],
+    words: &mut Words,
     kind: usize,
     meter: usize,
     amount: u64,
@@ -48,7 +49,6 @@ pub fn event(
         made: 0,
         line,
         second,
-        frame: found.frame,
     };
     op_stores::start(image, z, at, words, p, until)
 }

@@ -2,16 +2,18 @@
 ghost use mathlib.Core.Path.{_≡_};
 ghost use Prim.Native.Nat.{ℕ, _<_, _≤_};
 ghost use lib.ListN.{length, replicate};
-ghost use Rattle.bounded.specs.Rows.{refusal};
+ghost use mathlib.Core.Bool.{true};
+ghost use Rattle.bounded.specs.Below.{someBelow};
 ghost use Rattle.layout.specs.Layout.{Legal, frames as framesOf, imageLength};
-ghost use Rattle.replay.specs.Table.{slotIn};
-ghost use Rattle.answers.specs.Answers.{storesOf};
+ghost use Rattle.state.specs.State.{ownFrame};
+ghost use Rattle.answers.specs.Answers.{storesOf, isAnswer};
+ghost use Rattle.refinement.specs.Frames.{frameOf};
 ghost use Rattle.refinement.specs.Calls.{loadOf};
-ghost use Rattle.call_load.specs.Loaded.{loadedOf, highAt, storedRows, FramesLow};
+ghost use Rattle.call_load.specs.Loaded.{loadedOf, meterHigh};
 ghost use Rattle.state_words.specs.Decoded.{decoded};
-ghost use Rattle.state_lines.specs.Committed.{committedAt};
 use answers::Answer;
 use layout::Sizes;
+use state_words::Words;
 
 // The answer and the moduli; of a refused load these are zeros, which no event takes.
 pub struct Loaded {
@@ -19,21 +21,16 @@ pub struct Loaded {
     pub moduli: [u64; 24],
 }
 
-// Row 27: whether a stored meter is not below its modulus, s being page 0's slot, S where it has none, and frame its frame.
-fn is_high(
-    image: &[u8],
-    z: Sizes,
-    words: &[u64; 256],
-    s: usize,
-    frame: usize,
-    moduli: &[u64; 24],
-) -> bool
-    requires { ⌜ Legal z × (imageLength z ≤ length (now image)) × ((l : ℕ) → committedAt z (slotIn (decoded (now words) .table) s) s frame l < framesOf z) ⌝ }
-    ensures { λ r. ⌜ r ≡ highAt z (now (image .entry)) (slotIn (decoded (now (words .entry)) .table) s) s frame (now (moduli .entry)) ⌝ }
+// Row 27: whether a stored meter is not below its modulus.
+fn is_high(image: &[u8], z: Sizes, words: &Words, moduli: &[u64; 24]) -> bool
+    requires { ⌜ Legal z × (imageLength z ≤ length (now image))
+        × ((l : ℕ) → frameOf (ownFrame (decoded (now words))) z (decoded (now words) .table) 0 l < framesOf z) ⌝ }
+    ensures { λ r. ⌜ r ≡ someBelow 24 (meterHigh z (now (image .entry)) (decoded (now (words .entry))) (now (moduli .entry))) ⌝ }
 {
+    let s = state_held::slots::slot_of(z, words, 0);
     let mut m = 0;
     while m < 24 {
-        let f = state_lines::committed_at(z, words, s, frame, m);
+        let f = state_lines::committed_at(z, words, 0, s, m);
         if moduli[m] <= image::read_line_word(image, z, f, m, 0) {
             return true;
         }
@@ -42,27 +39,9 @@ fn is_high(
     false
 }
 
-// Rows 16 and 27.
-fn stored_row(image: &[u8], z: Sizes, words: &[u64; 256], moduli: &[u64; 24]) -> usize
-    requires { ⌜ Legal z × (imageLength z ≤ length (now image)) × FramesLow z (decoded (now words) .table .page)
-        (decoded (now words) .table .original) (decoded (now words) .table .spare) (decoded (now words) .table .bitmap) (now image) ⌝ }
-    ensures { λ r. ⌜ r ≡ refusal (storedRows z (decoded (now (words .entry)) .table .page) (decoded (now (words .entry)) .table .original)
-        (decoded (now (words .entry)) .table .spare) (decoded (now (words .entry)) .table .bitmap) (now (image .entry)) (now (moduli .entry))) ⌝ }
-{
-    let s = state_held::slots::slot_of(z, words, 0);
-    let frame = state_lines::page_frame(image, z, words, 0, s);
-    if op_rows::frame_bad(z, words, s, frame) {
-        return 16;
-    }
-    if is_high(image, z, words, s, frame, moduli) {
-        return 27;
-    }
-    0
-}
-
 // A refusal by a row.
 fn refused(row: usize) -> Loaded
-    requires { ⌜ row ≤ 30 ⌝ }
+    requires { ⌜ isAnswer row ≡ true ⌝ }
     ensures { λ r. ⌜ (loadedOf r ≡ record { number = row; moduli = replicate 24 0 }) × (storesOf (r .answer) ≡ 0) ⌝ }
 {
     let answer = answers::answer_of(row, 0);
@@ -71,7 +50,7 @@ fn refused(row: usize) -> Loaded
 }
 
 // Loads the moduli of a text.
-pub fn load(image: &[u8], words: &[u64; 256], text: &[u8]) -> Loaded
+pub fn load(image: &[u8], words: &Words, text: &[u8]) -> Loaded
     ensures { λ r. ⌜ (loadedOf r ≡ loadOf (decoded (now (words .entry))) (now (image .entry)) (now (text .entry))) × (storesOf (r .answer) ≡ 0) ⌝ }
 {
     let z = state_words::sizes_in(words);
@@ -84,9 +63,8 @@ pub fn load(image: &[u8], words: &[u64; 256], text: &[u8]) -> Loaded
     if found.row != 0 {
         return refused(found.row);
     }
-    let row = stored_row(image, z, words, &found.moduli);
-    if row != 0 {
-        return refused(row);
+    if is_high(image, z, words, &found.moduli) {
+        return refused(27);
     }
     let moduli = found.moduli;
     Loaded {

@@ -64,13 +64,13 @@ table-turn from now mid next t s v i e m n =
     )
 
 -- the columns of the words are as long as those of a table
-pub columns-long : (c : List ℕ) (k : ℕ) → length c ≡ 256 → start k + size k ≤ 256 → length (part c k) ≡ size k
+pub columns-long : (c : List ℕ) (k : ℕ) → length c ≡ 1280 → start k + size k ≤ 1280 → length (part c k) ≡ size k
 unfolding part
 columns-long c k n l =
     let long : size k ≤ length (drop (start k) c) = omega (arith, length-drop (start k) c) in
     length-take-le (size k) (drop (start k) c) long
 
-pub table-all : (c : List ℕ) (t : Table) → length c ≡ 256 → length (t .page) ≡ 16 → length (t .original) ≡ 16 → length (t .spare) ≡ 16 → length (t .bitmap) ≡ 16 → length (t .last) ≡ 16
+pub table-all : (c : List ℕ) (t : Table) → length c ≡ 1280 → length (t .page) ≡ 16 → length (t .original) ≡ 16 → length (t .spare) ≡ 16 → length (t .bitmap) ≡ 16 → length (t .last) ≡ 16
     → tableTo t 16 (decoded c .table) ≡ t
 unfolding decoded start size
 table-all c t n a b d e f =
@@ -94,6 +94,6 @@ pub keys-turn : (from now next : State) (keys : List ℕ) (e : ℕ) → now ≡ 
     → next ≡ keysTo from (column keys (e + 1) (from .wide .keys))
 keys-turn from now next keys e i n = n ∙ ap (λ (u : State). keysTo u (set (u .wide .keys) e (getD keys e 0))) i ∙ ap (keysTo from) (column-turn keys (from .wide .keys) e)
 
-pub keys-all : (c keys : List ℕ) → length c ≡ 256 → length keys ≡ 64 → column keys 64 (decoded c .wide .keys) ≡ keys
+pub keys-all : (c keys : List ℕ) → length c ≡ 1280 → length keys ≡ 64 → column keys 64 (decoded c .wide .keys) ≡ keys
 unfolding decoded start size
 keys-all c keys n l = column-all keys (part c 17) 64 l (columns-long c 17 n (omega arith))

@@ -12,7 +12,8 @@ use Rattle.bounded.proofs.Tests.{row-yes, row-no}
 use Rattle.layout.specs.declared.Sizes.{Sizes}
 use Rattle.layout.specs.Layout.{Legal, sizesOk, imageWords, imageLength}
 use Rattle.layout.proofs.LayoutLaws.{legal}
-use Rattle.fresh.specs.Fresh.{formatted, formatStores, formatRows, formatRow, formatBytes}
+use Rattle.bounded.specs.Tab.{tab}
+use Rattle.fresh.specs.Fresh.{formatted, formatStores, formatRows, formatRow, formatBytes, freshTable}
 use Rattle.fresh.proofs.FreshStores.{stores-all}
 use Rattle.state.specs.State.{State}
 use Rattle.state.specs.declared.Places.{Places}
@@ -34,7 +35,9 @@ use Rattle.op_stores.specs.Asks.{Allowed}
 use Rattle.op_stores.specs.Started.{Started, startedOf, startedBytes}
 use Rattle.op_stores.proofs.Starting.{started-refused}
 use Rattle.call_mount.specs.Replacing.{replacing, FormatStarted}
+use Rattle.call_mount.specs.Entries.{withEntries}
 use Rattle.call_mount.proofs.Found.{format-known}
+use Rattle.call_mount.proofs.MapFilled.{over-zeros}
 
 -- ---- row is what the code found
 
@@ -59,6 +62,11 @@ module _ (z : Sizes) (img : List ℕ) (row : ℕ) (e : row ≡ formatRow z img) 
     long-enough = ltb-false (length img) (imageLength z) (none-apply (formatRows z (length img)) (omega arith) (sym e ∙ none) .1 .0)
 
     -- the words put to the fresh state may have a format asked for on them
+    -- the words put to the fresh state but for its map, then that
+    pub fresh-filled : (s1 s2 : State) → s1 ≡ quietState z 0 0 (freshTable z) (replicate 1024 0) → s2 ≡ withEntries s1 (tab (z .pages) (λ p. p)) (z .pages) → s2 ≡ freshState z
+    fresh-filled s1 s2 q h =
+        h ∙ ap (λ (u : State). withEntries u (tab (z .pages) (λ p. p)) (z .pages)) q ∙ ap (quietState z 0 0 (freshTable z)) (over-zeros (z .pages) (λ p. p) (legal z sizes-right .pages-high))
+
     pub format-allowed : (st : State) → st ≡ freshState z → (at : Places) → at ≡ placesOf st → Allowed z at st Format
     format-allowed st q at h =
         subst (λ (s : State). at ≡ placesOf s → Allowed z at s Format) (sym q)
@@ -75,17 +83,17 @@ module _ (z : Sizes) (img : List ℕ) (row : ℕ) (e : row ≡ formatRow z img) 
         h
 
     -- what comes of asking
-    format-asks : (st : State) → replacing st (formatOf z img) ≡ asked 0 (freshState z) Format (replicate 8 0) 0
+    format-asks : (st : State) → replacing st (formatOf z img) ≡ asked 0 (freshState z) Format (replicate 8 0)
     unfolding formatOf needs
     format-asks st =
         let zero : formatRow z img ≡ 0 = sym e ∙ none in
         let some : eqb (imageWords z + 1) 0 ≡ false = ne-eqb (imageWords z + 1) 0 (λ q. omega (arith, q)) in
         rw (zero, some)
 
-    pub format-started : (st put after : State) (bs : List ℕ) (a : Answer) (u : Until) → put ≡ freshState z → Started a after bs (asked 0 put Format (replicate 8 0) 0) img u
+    pub format-started : (st put after : State) (bs : List ℕ) (a : Answer) (u : Until) → put ≡ freshState z → Started a after bs (asked 0 put Format (replicate 8 0)) img u
         → FormatStarted a after bs z st img u
     format-started st put after bs a u q h =
-        subst (λ (o : Outcome). Started a after bs o img u) (sym (format-asks st)) (subst (λ (s : State). Started a after bs (asked 0 s Format (replicate 8 0) 0) img u) q h)
+        subst (λ (o : Outcome). Started a after bs o img u) (sym (format-asks st)) (subst (λ (s : State). Started a after bs (asked 0 s Format (replicate 8 0)) img u) q h)
 
     -- ---- run to its end
 

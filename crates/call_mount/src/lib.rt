@@ -12,9 +12,10 @@ use answers::Answer;
 use layout::Sizes;
 use op_stores::Until;
 use state::Op;
+use state_words::Words;
 
 // Mounts an image: reads only. Entries that are counted are still to be copied: their copying is pending.
-pub fn mount(image: &[u8], words: &mut [u64; 256]) -> Answer
+pub fn mount(image: &[u8], words: &mut Words) -> Answer
     ensures state { λ r. ⌜ answeredAt r (decoded (now (words .exit))) ≡ replacing (decoded (now (words .entry))) (mountCall (now (image .entry))) ⌝ }
     ensures words { λ r. ⌜ ((numberOf r ≡ 0 → ⊥) → now (words .exit) ≡ now (words .entry)) ⌝ }
 {
@@ -25,6 +26,7 @@ pub fn mount(image: &[u8], words: &mut [u64; 256]) -> Answer
     let z = m.sizes;
     let t = m.table;
     filling::put_quiet(words, z, m.head, m.tail, t);
+    filling::put_homes(words, image, z, t);
     if m.count == 0 {
         return Answer::Taken(0);
     }
@@ -34,7 +36,7 @@ pub fn mount(image: &[u8], words: &mut [u64; 256]) -> Answer
 }
 
 // Asks for a format, whose state the words then are, and goes on with it as far as is said: asking changes no byte.
-pub fn format(image: &mut [u8], words: &mut [u64; 256], z: Sizes, until: Until) -> Answer
+pub fn format(image: &mut [u8], words: &mut Words, z: Sizes, until: Until) -> Answer
     ensures started { λ r. ⌜ FormatStarted r (decoded (now (words .exit))) (now (image .exit)) z (decoded (now (words .entry))) (now (image .entry)) until ⌝ }
     ensures words { λ r. ⌜ ((numberOf r ≡ 0 → ⊥) → now (words .exit) ≡ now (words .entry)) ⌝ }
 {
@@ -43,12 +45,13 @@ pub fn format(image: &mut [u8], words: &mut [u64; 256], z: Sizes, until: Until) 
         return answers::answer_of(row, 0);
     }
     filling::put_quiet(words, z, 0, 0, fresh::fresh_table(z));
+    filling::put_own(words, z);
     let at = state_words::places_in(words);
     op_stores::ask(image, z, at, words, Op::Format, until)
 }
 
 // The same run to its end, for a host that formats in one call. It tells no stores.
-pub fn format_whole(image: &mut [u8], words: &mut [u64; 256], z: Sizes) -> Answer
+pub fn format_whole(image: &mut [u8], words: &mut Words, z: Sizes) -> Answer
     ensures state { λ r. ⌜ answeredAt r (decoded (now (words .exit))) ≡ replacing (decoded (now (words .entry))) (formatCall z (now (image .entry))) ⌝ }
     ensures bytes { λ _. ⌜ now (image .exit) ≡ formatBytes z (now (image .entry)) ⌝ }
     ensures words { λ r. ⌜ ((numberOf r ≡ 0 → ⊥) → now (words .exit) ≡ now (words .entry)) ⌝ }

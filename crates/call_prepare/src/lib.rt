@@ -9,10 +9,11 @@ ghost use Rattle.state_words.specs.Decoded.{decoded};
 use answers::Answer;
 use op_stores::Until;
 use state::Op;
+use state_words::Words;
 pub use withdrawing::withdraw;
 
 // Stores the records of a commit and not head: the writer is prepared. A call that is turned back changes no word.
-pub fn prepare(image: &mut [u8], words: &mut [u64; 256], writer: usize, until: Until) -> Answer
+pub fn prepare(image: &mut [u8], words: &mut Words, writer: usize, until: Until) -> Answer
     ensures started { λ r. ⌜ Started r (decoded (now (words .exit))) (now (image .exit))
         (prepareOf (decoded (now (words .entry))) (now (image .entry)) writer) (now (image .entry)) until ⌝ }
     ensures words { λ r. ⌜ ((numberOf r ≡ 0 → ⊥) → now (words .exit) ≡ now (words .entry)) ⌝ }
@@ -21,7 +22,7 @@ pub fn prepare(image: &mut [u8], words: &mut [u64; 256], writer: usize, until: U
 }
 
 // Stores head: the prepared writer's transaction is committed. A call that is turned back changes no word.
-pub fn confirm(image: &mut [u8], words: &mut [u64; 256], writer: usize, until: Until) -> Answer
+pub fn confirm(image: &mut [u8], words: &mut Words, writer: usize, until: Until) -> Answer
     ensures started { λ r. ⌜ Started r (decoded (now (words .exit))) (now (image .exit))
         (confirmOf (decoded (now (words .entry))) (now (image .entry)) writer) (now (image .entry)) until ⌝ }
     ensures words { λ r. ⌜ ((numberOf r ≡ 0 → ⊥) → now (words .exit) ≡ now (words .entry)) ⌝ }

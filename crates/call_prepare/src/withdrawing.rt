@@ -5,9 +5,10 @@ ghost use Rattle.refinement.specs.Calls.{withdrawOf};
 ghost use Rattle.state_words.specs.Decoded.{decoded};
 use answers::Answer;
 use state::Op;
+use state_words::Words;
 
 // No writer is prepared. It is turned back by the rows of a confirm, and then changes no word.
-pub fn withdraw(image: &[u8], words: &mut [u64; 256], writer: usize) -> Answer
+pub fn withdraw(image: &[u8], words: &mut Words, writer: usize) -> Answer
     ensures state { λ r. ⌜ answeredAt r (decoded (now (words .exit))) ≡ withdrawOf (decoded (now (words .entry))) (now (image .entry)) writer ⌝ }
     ensures words { λ r. ⌜ ((numberOf r ≡ 0 → ⊥) → now (words .exit) ≡ now (words .entry)) ⌝ }
 {

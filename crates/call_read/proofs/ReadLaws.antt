@@ -15,8 +15,8 @@ use Rattle.state.specs.State.{State}
 use Rattle.state.specs.Wide.{isWide, entryFor}
 use Rattle.entry_lines.specs.Own.{ownEntry}
 use Rattle.refinement.specs.Wide.{entryBytes}
-use Rattle.refinement.specs.Frames.{pageFrame, seenFrame}
-use Rattle.answers.specs.Answers.{numberOf, storesOf, asAnswer}
+use Rattle.refinement.specs.Frames.{seenFrame}
+use Rattle.answers.specs.Answers.{numberOf, storesOf, isAnswer, asAnswer}
 use Rattle.answers.specs.declared.Answer.{Answer}
 use Rattle.refinement.specs.Calls.{seenLine, readRows, readRow, readBytes}
 use Rattle.answers.proofs.Answered.{as-known}
@@ -40,7 +40,7 @@ asking z w p l n e =
     }
 
 module _ (st : State) (img : List ℕ) (w p l : ℕ) (target : List ℕ) where
-  pub read-refused : (a : Answer) (row : ℕ) → a ≡ asAnswer row 0 → row ≤ 30 → (row ≡ 0 → ⊥) → row ≡ refusal (readRows st img w p l target)
+  pub read-refused : (a : Answer) (row : ℕ) → a ≡ asAnswer row 0 → isAnswer row ≡ true → (row ≡ 0 → ⊥) → row ≡ refusal (readRows st img w p l target)
       → ((numberOf a ≡ readRow st img w p l target) × (storesOf a ≡ 0)) × (target ≡ readBytes st img w p l target)
   unfolding readRow readBytes
   read-refused a row e k n h =
@@ -58,7 +58,7 @@ module _ (st : State) (img : List ℕ) (w p l : ℕ) (target : List ℕ) where
       (λ t. let f : e ≡ n = q ∙ ap found t in absurd (omega arith))
 
   pub frame-line : (e : ℕ) → e ≡ ownEntry (st .wide) w p l → st .wide .count ≤ e
-      → lineBytes img (st .sizes) (seenFrame st w p l (pageFrame st img p)) l ≡ seenLine st img w p l
+      → lineBytes img (st .sizes) (seenFrame st w p l) l ≡ seenLine st img w p l
   frame-line e q high =
       let n : ℕ = st .wide .count in
       caseOn (isWide (st .wide) w)

@@ -4,11 +4,12 @@ ghost use Rattle.answers.specs.Answers.{numberOf, storesOf};
 ghost use Rattle.refinement.specs.Calls.{readRow, readBytes};
 ghost use Rattle.state_words.specs.Decoded.{decoded};
 use answers::Answer;
+use state_words::Words;
 
 // Reads a line as a writer sees it, a wide one its own entry first.
 pub fn read(
     image: &[u8],
-    words: &[u64; 256],
+    words: &Words,
     writer: usize,
     page: usize,
     line: usize,
@@ -27,17 +28,13 @@ pub fn read(
     if (writer > 3) | (page >= z.pages) | (line > 63) | (target.len() < 64) {
         return Answer::BadArgument;
     }
-    let s = state_held::slots::slot_of(z, words, page);
-    let frame = state_lines::page_frame(image, z, words, page, s);
-    if op_rows::frame_bad(z, words, s, frame) {
-        return Answer::BadFrame;
-    }
     let e = state_lines::own_entry(at, words, writer, page, line);
     if e < at.count {
         entry_lines::read_entry(image, z, e, target);
         return Answer::Taken(0);
     }
-    let seen = state_lines::seen_frame(z, words, writer, s, line, frame);
+    let s = state_held::slots::slot_of(z, words, page);
+    let seen = state_lines::seen_frame(z, words, writer, page, s, line);
     lines::read_line(image, z, seen, line, target);
     Answer::Taken(0)
 }

@@ -13,9 +13,9 @@ use Rattle.state_words.specs.Decoded.{start, size, part, decoded}
 use Rattle.state_words.proofs.DecodedLaws.{part-at}
 use Rattle.op_event.proofs.Long.{table-long, held-long, opened-long}
 
-module _ (c : List ℕ) (n : length c ≡ 256) (low : Low c) where
+module _ (c : List ℕ) (n : length c ≡ 1280) (low : Low c) where
   -- a part's numbers are the words' or none
-  part-low : (k : ℕ) → start k + size k ≤ 256 → Low (part c k)
+  part-low : (k : ℕ) → start k + size k ≤ 1280 → Low (part c k)
   unfolding part
   part-low k h i =
       let long : length (take (size k) (drop (start k) c)) ≡ size k = length-take-le (size k) (drop (start k) c) (omega (arith, length-drop (start k) c)) in
@@ -32,4 +32,5 @@ module _ (c : List ℕ) (n : length c ≡ 256) (low : Low c) where
         table = record { sixteen = table-long c n; bitmap-low = part-low 14 (omega arith) };
         writers = record { four = opened-long c n; sixty-four = held-long c n; held-low = part-low 16 (omega arith) };
         keys = length-take-le 64 (drop 184 c) (omega (arith, length-drop 184 c));
+        map = length-take-le 1024 (drop 256 c) (omega (arith, length-drop 256 c));
       }

@@ -8,9 +8,10 @@ use crate::Room;
 use crate::Round;
 use crate::calls;
 use call_write::Span;
+use state_words::Words;
 
 // A slot freed; where the journal is full, after a checkpoint if that is asked for.
-fn free_slot(t: Round, image: &mut [u8], words: &mut [u64; 256], checkpoint: bool) -> Round
+fn free_slot(t: Round, image: &mut [u8], words: &mut Words, checkpoint: bool) -> Round
     requires { ⌜ FineAt (now words) (now image) ⌝ }
     ensures played { λ r. ⌜ playedOf r (now (words .exit)) (now (image .exit))
         ≡ withJournal checkpoint free (playedOf t (now (words .entry)) (now (image .entry))) ⌝ }
@@ -31,7 +32,7 @@ fn free_slot(t: Round, image: &mut [u8], words: &mut [u64; 256], checkpoint: boo
 pub(crate) fn put(
     t: Round,
     image: &mut [u8],
-    words: &mut [u64; 256],
+    words: &mut Words,
     writer: usize,
     a: Span,
     data: &[u8],
@@ -60,7 +61,7 @@ pub(crate) fn put(
 pub(crate) fn commit(
     t: Round,
     image: &mut [u8],
-    words: &mut [u64; 256],
+    words: &mut Words,
     writer: usize,
     checkpoint: bool,
 ) -> Round

@@ -15,6 +15,7 @@ use answers::Answer;
 use call_write::Span;
 use op_stores::Until;
 use state::Places;
+use state_words::Words;
 
 // An answer more.
 fn told(t: Round, a: Answer) -> Round
@@ -28,7 +29,7 @@ fn told(t: Round, a: Answer) -> Round
 }
 
 // Begin, the first call.
-pub(crate) fn begin_made(at: Places, words: &mut [u64; 256], writer: usize) -> Round
+pub(crate) fn begin_made(at: Places, words: &mut Words, writer: usize) -> Round
     requires { ⌜ (at ≡ placesOf (decoded (now words))) × (stateOk (decoded (now words)) ≡ true) ⌝ }
     ensures { λ r. ⌜ ((img : List ℕ) → playedOf r (now (words .exit)) img ≡ made (begin writer) (unplayed (worldOf (decoded (now (words .entry))) img))) ⌝ }
 {
@@ -41,11 +42,11 @@ pub(crate) fn begin_made(at: Places, words: &mut [u64; 256], writer: usize) -> R
     told(none, answer)
 }
 
-// A write.
+// A write made as the next call of the round.
 pub(crate) fn write_made(
     t: Round,
     image: &mut [u8],
-    words: &mut [u64; 256],
+    words: &mut Words,
     writer: usize,
     a: Span,
     data: &[u8],
@@ -61,13 +62,8 @@ pub(crate) fn write_made(
     told(t, answer)
 }
 
-// A commit.
-pub(crate) fn commit_made(
-    t: Round,
-    image: &mut [u8],
-    words: &mut [u64; 256],
-    writer: usize,
-) -> Round
+// A commit made as the next call of the round.
+pub(crate) fn commit_made(t: Round, image: &mut [u8], words: &mut Words, writer: usize) -> Round
     requires { ⌜ FineAt (now words) (now image) ⌝ }
     ensures came { λ r. ⌜ playedOf r (now (words .exit)) (now (image .exit)) ≡ made (commit writer) (playedOf t (now (words .entry)) (now (image .entry))) ⌝ }
     ensures kept { λ _. ⌜ FineAt (now (words .exit)) (now (image .exit)) ⌝ }
@@ -78,18 +74,20 @@ pub(crate) fn commit_made(
     told(t, answer)
 }
 
-// A slot freed.
-pub(crate) fn free_made(t: Round, image: &mut [u8], words: &mut [u64; 256]) -> Round
+// A slot freed as the next call of the round, where none was free.
+pub(crate) fn free_made(t: Round, image: &mut [u8], words: &mut Words) -> Round
     requires { ⌜ FineAt (now words) (now image) ⌝ }
     ensures came { λ r. ⌜ playedOf r (now (words .exit)) (now (image .exit)) ≡ made free (playedOf t (now (words .entry)) (now (image .entry))) ⌝ }
     ensures kept { λ _. ⌜ FineAt (now (words .exit)) (now (image .exit)) ⌝ }
 {
-    let answer = call_consolidate::free_slot(image, words, Until::End);
+    let z = state_words::sizes_in(words);
+    let at = state_words::places_in(words);
+    let answer = call_consolidate::free_valid(image, z, at, words, Until::End);
     told(t, answer)
 }
 
-// A checkpoint.
-pub(crate) fn checkpoint_made(t: Round, image: &mut [u8], words: &mut [u64; 256]) -> Round
+// A checkpoint made as the next call of the round, where the journal was full.
+pub(crate) fn checkpoint_made(t: Round, image: &mut [u8], words: &mut Words) -> Round
     requires { ⌜ FineAt (now words) (now image) ⌝ }
     ensures came { λ r. ⌜ playedOf r (now (words .exit)) (now (image .exit)) ≡ made checkpoint (playedOf t (now (words .entry)) (now (image .entry))) ⌝ }
     ensures kept { λ _. ⌜ FineAt (now (words .exit)) (now (image .exit)) ⌝ }
@@ -99,7 +97,7 @@ pub(crate) fn checkpoint_made(t: Round, image: &mut [u8], words: &mut [u64; 256]
 }
 
 // An abort. It needs no stores.
-pub(crate) fn abort_made(words: &mut [u64; 256], writer: usize)
+pub(crate) fn abort_made(words: &mut Words, writer: usize)
     requires { ⌜ stateOk (decoded (now words)) ≡ true ⌝ }
     ensures { λ _. ⌜ ((img : List ℕ) → worldOf (decoded (now (words .exit))) img
         ≡ toEnd (exec (abort writer) (worldOf (decoded (now (words .entry))) img)) .world) ⌝ }

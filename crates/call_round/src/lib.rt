@@ -12,6 +12,7 @@ ghost use Rattle.state_words.specs.Decoded.{decoded};
 ghost use Rattle.call_round.specs.Kept.{FineAt};
 ghost use Rattle.call_round.specs.Round.{playedOf, putAll, committed, roundOf};
 use call_write::Span;
+use state_words::Words;
 
 // What a round does for want of room: where the journal is full (19) a checkpoint, where no slot is free (15) it frees one.
 pub struct Room {
@@ -48,7 +49,7 @@ fn span_at(writes: &[u64], k: usize) -> Span
 fn put_all(
     t: Round,
     image: &mut [u8],
-    words: &mut [u64; 256],
+    words: &mut Words,
     writer: usize,
     writes: &[u64],
     data: &[u8],
@@ -77,13 +78,7 @@ fn put_all(
 }
 
 // A commit, where all writes are taken.
-fn commit_written(
-    t: Round,
-    image: &mut [u8],
-    words: &mut [u64; 256],
-    writer: usize,
-    room: Room,
-) -> Round
+fn commit_written(t: Round, image: &mut [u8], words: &mut Words, writer: usize, room: Room) -> Round
     requires { ⌜ FineAt (now words) (now image) × (t .call < 2 ^ 63) ⌝ }
     ensures played { λ r. ⌜ playedOf r (now (words .exit)) (now (image .exit))
         ≡ committed room writer (playedOf t (now (words .entry)) (now (image .entry))) ⌝ }
@@ -102,7 +97,7 @@ fn commit_written(
 // other. Where a call is refused the round stops, and what it wrote is dropped.
 pub fn play(
     image: &mut [u8],
-    words: &mut [u64; 256],
+    words: &mut Words,
     writer: usize,
     writes: &[u64],
     data: &[u8],

@@ -2,6 +2,7 @@
 ghost use Prim.Native.Nat.{ℕ, _^_, _<_};
 ghost use lib.ListN.{getD};
 ghost use Rattle.call_round.specs.Kept.{SizedAt};
+use state_words::Words;
 
 fn count(words: &[u64]) -> usize {
     words.len()
@@ -15,7 +16,7 @@ fn all_low(words: &[u64]) -> usize
 }
 
 // The logic knows the length of an array by value, and not of a lent one. The copy is not made.
-pub(crate) fn words_sized(words: [u64; 256]) -> usize
+pub(crate) fn words_sized(words: Words) -> usize
     ensures { λ _. ⌜ SizedAt words ⌝ }
 {
     let _ = state_words::all_words(words);

@@ -14,9 +14,10 @@ ghost use Rattle.state_words.specs.Decoded.{decoded, placesOf};
 pub use freeing::free_row;
 use layout::Sizes;
 use state::Places;
+use state_words::Words;
 
 // The first of rows 8, 4 and 9, of a state that row 8 accepts.
-pub fn valid_row(z: Sizes, words: &[u64; 256], n: usize) -> usize
+pub fn valid_row(z: Sizes, words: &Words, n: usize) -> usize
     requires { ⌜ (z ≡ decoded (now words) .sizes) × (stateOk (decoded (now words)) ≡ true) ⌝ }
     ensures { λ r. ⌜ r ≡ refusal (quietRows (decoded (now (words .entry))) n) ⌝ }
 {
@@ -30,7 +31,7 @@ pub fn valid_row(z: Sizes, words: &[u64; 256], n: usize) -> usize
 }
 
 // The first of rows 8, 4 and 9.
-pub fn quiet_row(z: Sizes, at: Places, words: &[u64; 256], n: usize) -> usize
+pub fn quiet_row(z: Sizes, at: Places, words: &Words, n: usize) -> usize
     requires { ⌜ (z ≡ decoded (now words) .sizes) × (at ≡ placesOf (decoded (now words))) ⌝ }
     ensures { λ r. ⌜ r ≡ refusal (quietRows (decoded (now (words .entry))) n) ⌝ }
 {
@@ -41,7 +42,7 @@ pub fn quiet_row(z: Sizes, at: Places, words: &[u64; 256], n: usize) -> usize
 }
 
 // The first of rows 8, 4 and 10: quiet_row's, which tells by 9 that something is pending.
-pub fn busy_row(z: Sizes, at: Places, words: &[u64; 256], n: usize) -> usize
+pub fn busy_row(z: Sizes, at: Places, words: &Words, n: usize) -> usize
     requires { ⌜ (z ≡ decoded (now words) .sizes) × (at ≡ placesOf (decoded (now words))) ⌝ }
     ensures { λ r. ⌜ r ≡ refusal (busyRows (decoded (now (words .entry))) n) ⌝ }
 {
@@ -56,7 +57,7 @@ pub fn busy_row(z: Sizes, at: Places, words: &[u64; 256], n: usize) -> usize
 }
 
 // The first row that turns a commit back, of a state that row 8 accepts: 4, 9, 11, 13, 23, 19.
-pub fn commit_row(z: Sizes, at: Places, words: &[u64; 256], writer: usize, n: usize) -> usize
+pub fn commit_row(z: Sizes, at: Places, words: &Words, writer: usize, n: usize) -> usize
     requires { ⌜ (z ≡ decoded (now words) .sizes) × (at ≡ placesOf (decoded (now words))) × (stateOk (decoded (now words)) ≡ true) ⌝ }
     ensures { λ r. ⌜ r ≡ refusal (quietRows (decoded (now (words .entry))) n ++ commitRows (decoded (now (words .entry))) writer) ⌝ }
 {

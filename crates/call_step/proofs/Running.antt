@@ -21,7 +21,7 @@ use Rattle.refinement.proofs.Quiet.{Busy, busy}
 use Rattle.refinement.proofs.Steps.{run-image, run-after}
 use Rattle.answers.specs.declared.Answer.{Answer}
 use Rattle.answers.specs.declared.Answer.the-variants.{Taken}
-use Rattle.answers.specs.Answers.{asAnswer, numberOf, answeredAt}
+use Rattle.answers.specs.Answers.{isAnswer, asAnswer, numberOf, answeredAt}
 use Rattle.refinement.specs.Outcome.{Outcome}
 use Rattle.answers.proofs.Answered.{row-known, refused-known}
 use Rattle.state_words.specs.Decoded.{placesOf}
@@ -37,7 +37,7 @@ module _ (st : State) (img : List ℕ) (row : ℕ) (e : row ≡ refusal (busyRow
   unfolding runOf runBytes
   run-refused n k a h =
       let f : eqb (stepRow st img) 0 ≡ false = ne-eqb (stepRow st img) 0 (λ q. n (e ∙ q)) in
-      let low : row ≤ 30 = rw e (row-known (stepRows st img) (omega arith)) in
+      let low : isAnswer row ≡ true = rw e (row-known (stepRows st img) refl) in
       (rw f (rw (e, f) at (refused-known a row st low h)), rw f)
 
   pub next-refused : (row ≡ 0 → ⊥) → (a : Answer) → a ≡ asAnswer row 0 → _≡_ {A = NextStore} (record { answer = a; at = 0; decides = false; before = 0 }) (nextStoreOf st img)
@@ -47,7 +47,7 @@ module _ (st : State) (img : List ℕ) (row : ℕ) (e : row ≡ refusal (busyRow
 
   pub refused-number : (row ≡ 0 → ⊥) → (a : Answer) → a ≡ asAnswer row 0 → numberOf a ≡ 0 → ⊥
   refused-number n a h z =
-      let low : row ≤ 30 = rw e (row-known (stepRows st img) (omega arith)) in
+      let low : isAnswer row ≡ true = rw e (row-known (stepRows st img) refl) in
       n (sym (ap (λ (o : Outcome). o .number) (refused-known a row st low h)) ∙ z)
 
   pub none-left : (row ≡ 0 → ⊥) → 0 ≡ leftOf st img
@@ -73,7 +73,7 @@ module _ (st : State) (img : List ℕ) (row : ℕ) (e : row ≡ refusal (busyRow
         let b : bs ≡ _ = eb ∙ sym (run-image n (worldOf st img) few) in
         (rw (taken, ← en, s), rw (taken, ← en) b)
 
-    pub next-told : (at before : ℕ) → at ≡ storeAt st img (st .pending .op) (st .pending .made) → before ≡ beforeFence st
+    pub next-told : (at before : ℕ) → at ≡ storeAt st (st .pending .op) (st .pending .made) → before ≡ beforeFence st
         → _≡_ {A = NextStore} (record { answer = Taken 0; at = at; decides = eqb before 0; before = before }) (nextStoreOf st img)
     next-told at before p q =
         let low = going st (pends .ok) (pends .pends) .made-low in

@@ -25,7 +25,7 @@ nextStoreOf st img =
     cond (eqb (stepRow st img) 0)
     (record {
       answer = asAnswer 0 0;
-      at = storeAt st img (st .pending .op) (st .pending .made);
+      at = storeAt st (st .pending .op) (st .pending .made);
       decides = toFence st (st .pending .op);
       before = beforeDeciding st;
     })

@@ -9,11 +9,12 @@ ghost use Rattle.state_words.specs.Decoded.{decoded};
 use answers::Answer;
 pub use ranges::NextRange;
 pub use ranges::next_range;
+use state_words::Words;
 pub use telling::NextStore;
 pub use telling::next_store;
 
 // Makes at most k stores, and says how many it made. A call that is turned back changes no word.
-pub fn run(image: &mut [u8], words: &mut [u64; 256], k: usize) -> Answer
+pub fn run(image: &mut [u8], words: &mut Words, k: usize) -> Answer
     ensures outcome { λ r. ⌜ answeredAt r (decoded (now (words .exit))) ≡ runOf (decoded (now (words .entry))) (now (image .entry)) k ⌝ }
     ensures bytes { λ _. ⌜ now (image .exit) ≡ runBytes (decoded (now (words .entry))) (now (image .entry)) k ⌝ }
     ensures words { λ r. ⌜ ((numberOf r ≡ 0 → ⊥) → now (words .exit) ≡ now (words .entry)) ⌝ }
@@ -30,7 +31,7 @@ pub fn run(image: &mut [u8], words: &mut [u64; 256], k: usize) -> Answer
 }
 
 // Makes one store.
-pub fn step(image: &mut [u8], words: &mut [u64; 256]) -> Answer
+pub fn step(image: &mut [u8], words: &mut Words) -> Answer
     ensures outcome { λ r. ⌜ answeredAt r (decoded (now (words .exit))) ≡ stepOf (decoded (now (words .entry))) (now (image .entry)) ⌝ }
     ensures bytes { λ _. ⌜ now (image .exit) ≡ stepBytes (decoded (now (words .entry))) (now (image .entry)) ⌝ }
     ensures words { λ r. ⌜ ((numberOf r ≡ 0 → ⊥) → now (words .exit) ≡ now (words .entry)) ⌝ }

@@ -8,6 +8,7 @@ ghost use Rattle.op_stores.specs.Beside.{Beside};
 ghost use Rattle.call_step.specs.NextStore.{nextStoreOf, leftOf};
 use crate::NextStore;
 use answers::Answer;
+use state_words::Words;
 
 // What next_store tells; how many stores, from that one on, go to words side by side; and how many are left in all. Zeros where it is turned back.
 pub struct NextRange {
@@ -16,10 +17,10 @@ pub struct NextRange {
     pub left: usize,
 }
 
-// Tells of the next store and of its range.
-pub fn next_range(image: &[u8], words: &[u64; 256]) -> NextRange
+// Returns the next store and its range.
+pub fn next_range(image: &[u8], words: &Words) -> NextRange
     ensures next { λ r. ⌜ r .next ≡ nextStoreOf (decoded (now (words .entry))) (now (image .entry)) ⌝ }
-    ensures beside { λ r. ⌜ (numberOf (r .next .answer) ≡ 0 → Beside (decoded (now (words .entry))) (now (image .entry)) (r .beside)) ⌝ }
+    ensures beside { λ r. ⌜ (numberOf (r .next .answer) ≡ 0 → Beside (decoded (now (words .entry))) (r .beside)) ⌝ }
     ensures left { λ r. ⌜ r .left ≡ leftOf (decoded (now (words .entry))) (now (image .entry)) ⌝ }
 {
     let z = state_words::sizes_in(words);

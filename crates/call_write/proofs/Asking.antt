@@ -17,10 +17,10 @@ use Rattle.state.specs.declared.Pending.{Pending}
 use Rattle.state.specs.declared.Op.{Op}
 use Rattle.state.specs.declared.Op.the-variants.{Write, Log}
 use Rattle.state.specs.Wide.{isWide}
-use Rattle.operations.specs.Operations.{isIdle, slotFor, frameBad, writeRows, logRows, opRows, needs}
+use Rattle.operations.specs.Operations.{isIdle, writeRows, logRows, opRows, needs}
 use Rattle.validity.specs.Validity.{opFits, isFresh}
 use Rattle.operations.proofs.Taken.{ArgsGood, write-taken, log-taken}
-use Rattle.refinement.specs.Frames.{pageFrame}
+use Rattle.answers.specs.Answers.{isAnswer}
 use Rattle.answers.proofs.Answered.{row-known}
 use Rattle.refinement.proofs.WriterCalls.{write-fits, write-op-row}
 use Rattle.refinement.specs.Calls.{quietRows, seenLine, finishedLine, writeCallRows, writeOp, changesNothing}
@@ -31,46 +31,41 @@ use Rattle.call_write.specs.Found.{WriteFound, SeenLow, foundLine}
 use Rattle.call_write.proofs.FoundLine.{found-seen, found-low}
 use Rattle.asked.proofs.Asked.{pendingFrom}
 
--- what no row of a write tells, with the frame found
+-- what no row of a write tells
 pub record WriteNone (st : State) (img : List ℕ) (w p l o n : ℕ) (bytes : List ℕ) : Type 0 where
   pub quiet : Quiet st (length img)
   pub long : n ≤ length bytes
   pub args : ArgsGood (st .sizes) w p l o n
-  pub frame-good : frameBad (st .sizes) (st .table .page) (st .table .original) (st .table .spare) (slotFor st p) (pageFrame st img p) ≡ false
 
 pub write-none : (st : State) (img : List ℕ) (w p l o n : ℕ) (bytes : List ℕ) → refusal (writeCallRows st img w p l o n bytes) ≡ 0 → WriteNone st img w p l o n bytes
 write-none st img w p l o n bytes e =
-    let f = pageFrame st img p in
     let first = quietRows st (length img) ++ ((ltb (length bytes) n, 11) ∷ []) in
     caseOn (isWide (st .wide) w)
     (λ t.
     let q : st .wide .writer ≡ w = eqb-true (st .wide .writer) w t in
-    let h = none-apply (first ++ logRows st p l o n f) (omega arith) (rw t at e) in
-    let g = log-taken st p l o n f (sym (row-none (logRows st p l o n f) (h .1 .1 .1 .1))) in
+    let h = none-apply (first ++ logRows st p l o n) (omega arith) (rw t at e) in
+    let g = log-taken st p l o n (sym (row-none (logRows st p l o n) (h .1 .1 .1 .1))) in
     record {
       quiet = quiet st (length img) 0 (row-none (quietRows st (length img)) (h .0, (h .1 .0, (h .1 .1 .0, tt)))) refl;
       long = ltb-false (length bytes) n (h .1 .1 .1 .0);
       args = subst (λ (x : ℕ). ArgsGood (st .sizes) x p l o n) q (g .args);
-      frame-good = g .frame-good;
     })
     (λ t.
-    let h = none-apply (first ++ writeRows st w p l o n f) (omega arith) (rw t at e) in
-    let g = write-taken st w p l o n f (sym (row-none (writeRows st w p l o n f) (h .1 .1 .1 .1))) in
+    let h = none-apply (first ++ writeRows st w p l o n) (omega arith) (rw t at e) in
+    let g = write-taken st w p l o n (sym (row-none (writeRows st w p l o n) (h .1 .1 .1 .1))) in
     record {
       quiet = quiet st (length img) 0 (row-none (quietRows st (length img)) (h .0, (h .1 .0, (h .1 .1 .0, tt)))) refl;
       long = ltb-false (length bytes) n (h .1 .1 .1 .0);
       args = g .args;
-      frame-good = g .frame-good;
     })
 
 -- each number of its rows is an answer's
-pub write-known : (st : State) (img : List ℕ) (w p l o n : ℕ) (bytes : List ℕ) → refusal (writeCallRows st img w p l o n bytes) ≤ 30
+pub write-known : (st : State) (img : List ℕ) (w p l o n : ℕ) (bytes : List ℕ) → isAnswer (refusal (writeCallRows st img w p l o n bytes)) ≡ true
 write-known st img w p l o n bytes =
-    let f = pageFrame st img p in
     let first = quietRows st (length img) ++ ((ltb (length bytes) n, 11) ∷ []) in
     caseOn (isWide (st .wide) w)
-    (λ t. rw t (row-known (first ++ logRows st p l o n f) (omega arith)))
-    (λ t. rw t (row-known (first ++ writeRows st w p l o n f) (omega arith)))
+    (λ t. rw t (row-known (first ++ logRows st p l o n) refl))
+    (λ t. rw t (row-known (first ++ writeRows st w p l o n) refl))
 
 -- what the merge requires of what was found
 pub write-merge : (st : State) (img : List ℕ) (w p l o n : ℕ) (bytes : List ℕ) (found : Found) → WriteFound st img w p l o n bytes found → found .row ≡ 0
@@ -78,7 +73,7 @@ pub write-merge : (st : State) (img : List ℕ) (w p l o n : ℕ) (bytes : List 
 write-merge st img w p l o n bytes found f z =
     let q = write-none st img w p l o n bytes (sym (f .0) ∙ z) in (
       ranges-of st (q .quiet .ok) .legal,
-      found-low st img w p l o n bytes found f z (q .quiet .ok) (q .args .page-low) (q .frame-good),
+      found-low st img w p l o n bytes found f z (q .quiet .ok) (q .args .page-low),
       q .args .line-low,
       q .quiet .long,
       q .args .fits,
@@ -92,22 +87,22 @@ unfolding changesNothing
 idle-is st img w p l o n bytes found f z changed c =
     let g = f .1 z in
     let s : changed ≡ mergeChanges (seenLine st img w p l) o n bytes = c ∙ ap (λ (x : List ℕ). mergeChanges x o n bytes) (found-seen st img w p l o n bytes found f z .1) in
-    rw (g .2, s)
+    rw (g .1, s)
 
 -- the pending operation, as the code has it
 pub pending-is : (st : State) (img : List ℕ) (w p l o n : ℕ) (bytes : List ℕ) (found : Found) → WriteFound st img w p l o n bytes found → found .row ≡ 0
     → (words : List ℕ) → words ≡ lineWords (merged (foundLine img (st .sizes) found l) o n bytes)
-    → (op : Op) (q : Pending) → op ≡ cond (found .wide) (Log p l o n) (Write w p l o n) → q ≡ pendingFrom op words (found .frame)
-    → q ≡ pendingFrom (writeOp st w p l o n) (finishedLine st img w p l o n bytes) (pageFrame st img p)
+    → (op : Op) (q : Pending) → op ≡ cond (found .wide) (Log p l o n) (Write w p l o n) → q ≡ pendingFrom op words
+    → q ≡ pendingFrom (writeOp st w p l o n) (finishedLine st img w p l o n bytes)
 pending-is st img w p l o n bytes found f z words m op q a e =
     let g = f .1 z in
-    let b : op ≡ writeOp st w p l o n = rw (g .3) at a in
+    let b : op ≡ writeOp st w p l o n = rw (g .2) at a in
     let s : words ≡ finishedLine st img w p l o n bytes = m ∙ ap (λ (x : List ℕ). lineWords (merged x o n bytes)) (found-seen st img w p l o n bytes found f z .1) in
-    rw (b, s, g .0) at e
+    rw (b, s) at e
 
 -- the operation that a taken write asks for: no row turns it back, it fits the writer, and it needs stores
 module _ (st : State) (img : List ℕ) (w p l o n : ℕ) (bytes : List ℕ) where
-  pub op-rows : refusal (writeCallRows st img w p l o n bytes) ≡ 0 → refusal (opRows st (writeOp st w p l o n) (pageFrame st img p)) ≡ 0
+  pub op-rows : refusal (writeCallRows st img w p l o n bytes) ≡ 0 → refusal (opRows st (writeOp st w p l o n)) ≡ 0
   op-rows e = write-op-row st img w p l o n bytes e
 
   pub op-fits : opFits (st .wide .writer) (isFresh st) (writeOp st w p l o n) ≡ true

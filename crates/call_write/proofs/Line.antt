@@ -36,7 +36,7 @@ use Rattle.op_stores.proofs.Starting.{put-left, put-needs}
 
 module _ (z : Sizes) (at : Places) (st : State) (img : List ℕ) (p : Pending) (h : Asks z at st img p) (w q l o n : ℕ) (e : p .op ≡ Write w q l o n) where
   pub good : ArgsGood (st .sizes) w q l o n
-  good = write-taken st w q l o n (p .frame) (rw e at (h .rows)) .args
+  good = write-taken st w q l o n (rw e at (h .rows)) .args
 
   -- what its piece leans on
   pub leans : Legal z × (at .next < z .slots) × (slotsShaped z (st .table) ≡ true)
@@ -60,11 +60,11 @@ module _ (z : Sizes) (at : Places) (st : State) (img : List ℕ) (p : Pending) (
 
   -- the piece that holds them is due
   module _ (piece : Piece) (ep : piece ≡ linePiece (lineWord z (frameToWrite z (st .table) (at .next) q l) l) (p .line) 0) (inside : 8 * (piece .at + 8) ≤ imageLength z) where
-    next : Next (λ m. storeAt (put st p) m (p .op)) (λ m. storeValue (put st p) m (p .op)) (p .made + 0) (length img) img piece
+    next : Next (λ m. storeAt (put st p) (p .op)) (λ m. storeValue (put st p) m (p .op)) (p .made + 0) (length img) img piece
     next =
         let k : (d : ℕ) → p .made + 0 + d ≡ 0 + d = λ d. omega (arith, h .none-made) in
         wider _ _ _ _ _ _ _
-        (next-as _ _ (λ m. storeAt (put st p) m (p .op)) (λ m. storeValue (put st p) m (p .op)) 0 (p .made + 0) (imageLength z) img piece
+        (next-as _ _ (λ m. storeAt (put st p) (p .op)) (λ m. storeValue (put st p) m (p .op)) 0 (p .made + 0) (imageLength z) img piece
         (write-next (put st p) q l 0 img z (at .next) (p .line) piece (h .sizes) (ap (λ (a : Places). a .next) (h .places)) refl (omega arith) ep inside)
         (λ d m. rw (k d, e)) (λ d m. rw (k d, e)))
         (h .long)
@@ -83,7 +83,7 @@ module _ (z : Sizes) (at : Places) (st : State) (img : List ℕ) (p : Pending) (
     pub line-made : (u : Until) (bs : List ℕ) → budgetIn u (p .op) 0 8 ≡ 8 → bs ≡ pieceStores piece 8 img → bs ≡ storesMade (put st p) (budget u (put st p)) img
     line-made u bs k b =
         rw (budget-is u, k)
-        (piece-turn (λ m. storeAt (put st p) m (p .op)) (λ m. storeValue (put st p) m (p .op)) (p .made) 0 8 (length img) piece img img bs (up-none _ _) next (rw ep (omega arith)) b)
+        (piece-turn (λ m. storeAt (put st p) (p .op)) (λ m. storeValue (put st p) m (p .op)) (p .made) 0 8 (length img) piece img img bs (up-none _ _) next (rw ep (omega arith)) b)
 
   pub line-done : (u : Until) (after : State) → budgetIn u (p .op) 0 8 ≡ 8 → after ≡ writeDone (put st p) w q l → after ≡ stateAfter (put st p) (budget u (put st p))
   unfolding writeSlot

@@ -10,8 +10,8 @@ use Rattle.state.specs.State.{State}
 use Rattle.operations.specs.Operations.{writeRows, logRows}
 
 -- row 11: short data, or a page past the last
-pub write-bad : (short wide : Bool) (st : State) (w p l o n f : ℕ) → short || leb (st .sizes .pages) p ≡ true
-    → 11 ≡ refusal ((short, 11) ∷ cond wide (logRows st p l o n f) (writeRows st w p l o n f))
-write-bad true wide st w p l o n f e = refl
-write-bad false true st w p l o n f e = caseOn (ltb 3 (st .wide .writer)) (λ t. rw t) (λ t. rw (t, e))
-write-bad false false st w p l o n f e = caseOn (ltb 3 w) (λ t. rw t) (λ t. rw (t, e))
+pub write-bad : (short wide : Bool) (st : State) (w p l o n : ℕ) → short || leb (st .sizes .pages) p ≡ true
+    → 11 ≡ refusal ((short, 11) ∷ cond wide (logRows st p l o n) (writeRows st w p l o n))
+write-bad true wide st w p l o n e = refl
+write-bad false true st w p l o n e = caseOn (ltb 3 (st .wide .writer)) (λ t. rw t) (λ t. rw (t, e))
+write-bad false false st w p l o n e = caseOn (ltb 3 w) (λ t. rw t) (λ t. rw (t, e))

@@ -14,7 +14,6 @@ use Rattle.layout.specs.Layout.{Legal, imageLength}
 use Rattle.state.specs.State.{State}
 use Rattle.state.specs.Wide.{isWide}
 use Rattle.operations.specs.Operations.{writeRows, logRows}
-use Rattle.refinement.specs.Frames.{pageFrame, seenFrame}
 use Rattle.refinement.specs.Calls.{quietRows}
 use Rattle.refinement.proofs.Going.{ranges-of, entries-of}
 use Rattle.refinement.proofs.Quiet.{quiet}
@@ -29,15 +28,13 @@ module _ (st : State) (img : List ℕ) (row : ℕ) (e : row ≡ refusal (quietRo
       let h = ranges-of st (q .ok) in (h .legal, h .next-low, omega (arith, entries-of st (q .ok) .few, h .legal .entries-high), q .long)
 
   module _ (w p l o n : ℕ) (bytes : List ℕ) (r : Found) where
-    pub found-whole : FoundAfter row st img w p l o n bytes r → WriteFound st img w p l o n bytes r
-    unfolding pageFrame seenFrame
+    pub found-whole : FoundAfter row st w p l o n bytes r → WriteFound st img w p l o n bytes r
     found-whole f =
-        let f₀ = pageFrame st img p in
-        let rest : List Row = (ltb (length bytes) n, 11) ∷ cond (isWide (st .wide) w) (logRows st p l o n f₀) (writeRows st w p l o n f₀) in (
+        let rest : List Row = (ltb (length bytes) n, 11) ∷ cond (isWide (st .wide) w) (logRows st p l o n) (writeRows st w p l o n) in (
           caseOn (eqb row 0)
               (λ t. rows-then (quietRows st (length img)) rest (r .row) (quiet st (length img) row e (eqb-true row 0 t) .past) (rw t at (f .0)))
               (λ t.
               let k : r .row ≡ row = rw t at (f .0) in
               k ∙ rows-first (quietRows st (length img)) rest row e (eqb-false row 0 t)),
-          λ z. let g = f .1 z in (g .0, rw (g .0) (g .1), g .2, g .3),
+          f .1,
         )

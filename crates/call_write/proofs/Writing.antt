@@ -16,7 +16,6 @@ use Rattle.state.specs.declared.Op.the-variants.{Write, Log}
 use Rattle.state.specs.Wide.{isWide}
 use Rattle.operations.specs.Operations.{isIdle, needs}
 use Rattle.refinement.specs.Stores.{storesMade, stateAfter}
-use Rattle.refinement.specs.Frames.{pageFrame}
 use Rattle.refinement.specs.Calls.{finishedLine, writeCallRows, writeOp, changesNothing, writeOf}
 use Rattle.answers.specs.declared.Answer.{Answer}
 use Rattle.answers.specs.declared.Answer.the-variants.{Taken}
@@ -52,8 +51,8 @@ module _ (st : State) (img : List ℕ) (w p l o n : ℕ) (bytes : List ℕ) (fou
 
     -- x is the operation, q what is then pending, with the words of the finished line
     module _ (words : List ℕ) (x : Op) (q : Pending) (m : words ≡ lineWords (merged (foundLine img (st .sizes) found l) o n bytes))
-        (ex : x ≡ cond (found .wide) (Log p l o n) (Write w p l o n)) (eq : q ≡ pendingFrom x words (found .frame)) where
-      finished : q ≡ pendingFrom op (finishedLine st img w p l o n bytes) (pageFrame st img p)
+        (ex : x ≡ cond (found .wide) (Log p l o n) (Write w p l o n)) (eq : q ≡ pendingFrom x words) where
+      finished : q ≡ pendingFrom op (finishedLine st img w p l o n bytes)
       finished = pending-is st img w p l o n bytes found f z words m x q ex eq
 
       pub write-asks : (y : Sizes) (at : Places) → y ≡ st .sizes → at ≡ placesOf st → Asks y at st img q

@@ -1,6 +1,5 @@
 -- What a write finds, of a state whose sizes and places were read first: the rows from 11 on of a narrow writer and of the wide one.
 use Prim.Native.Nat.{ℕ}
-use mathlib.Core.List.{List}
 use Rattle.layout.specs.declared.Sizes.{Sizes}
 use Rattle.state.specs.State.{State}
 use Rattle.state.specs.declared.Places.{Places}
@@ -9,8 +8,8 @@ use Rattle.call_write.specs.Found.{FramesFound, EntryFound}
 use Rattle.op_rows.specs.declared.Span.{Span}
 use Rattle.op_rows.specs.Seen.{seen}
 
-abbrev pub FramesIn : Sizes → Places → State → List ℕ → ℕ → Span → Found → Type 0
-FramesIn z at st img w a r = FramesFound (seen z at st) img w (a .page) (a .line) (a .offset) (a .length) r
+abbrev pub FramesIn : Sizes → Places → State → ℕ → Span → Found → Type 0
+FramesIn z at st w a r = FramesFound (seen z at st) w (a .page) (a .line) (a .offset) (a .length) r
 
-abbrev pub EntryIn : Sizes → Places → State → List ℕ → Span → Found → Type 0
-EntryIn z at st img a r = EntryFound (seen z at st) img (a .page) (a .line) (a .offset) (a .length) r
+abbrev pub EntryIn : Sizes → Places → State → Span → Found → Type 0
+EntryIn z at st a r = EntryFound (seen z at st) (a .page) (a .line) (a .offset) (a .length) r

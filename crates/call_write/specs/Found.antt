@@ -1,5 +1,5 @@
--- What a write finds before it is taken: the first row that turns it back; where none does, the page's frame, the frame or the entry that the line is read
--- from, and whether the writer holds the line.
+-- What a write finds before it is taken: the first row that turns it back; where none does, the frame or the entry that the line is read from, and whether
+-- the writer holds the line.
 use Prim.Native.Nat.{ℕ, _<_}
 use mathlib.Core.Bool.{Bool, true, false, _&&_, cond}
 use mathlib.Core.List.{List, _∷_}
@@ -11,10 +11,9 @@ use Rattle.layout.specs.declared.Sizes.{Sizes}
 use Rattle.layout.specs.Layout.{frames}
 use Rattle.image.specs.Lines.{lineBytes}
 use Rattle.state.specs.State.{State}
-use Rattle.state.specs.Held.{heldAt}
 use Rattle.state.specs.Wide.{isWide, entryFor, hasEntry}
-use Rattle.operations.specs.Operations.{slotFor, writeRows, logRows}
-use Rattle.refinement.specs.Frames.{slotAt, frameAt, seenAt, pageFrame, seenFrame, holds}
+use Rattle.operations.specs.Operations.{writeRows, logRows}
+use Rattle.refinement.specs.Frames.{seenFrame, holds}
 use Rattle.refinement.specs.Wide.{entryBytes}
 use Rattle.refinement.specs.Calls.{writeCallRows}
 use Rattle.call_write.specs.declared.found.Found.{Found}
@@ -24,47 +23,31 @@ abbrev pub WriteFound : State → List ℕ → ℕ → ℕ → ℕ → ℕ → �
 WriteFound st img w p l o n bytes r =
     (r .row ≡ refusal (writeCallRows st img w p l o n bytes))
     × (r .row ≡ 0
-    → (r .frame ≡ pageFrame st img p)
-    × (r .seen ≡ cond (isWide (st .wide) w && hasEntry (st .wide) p l) (entryFor (st .wide) p l) (seenFrame st w p l (r .frame)))
+    → (r .seen ≡ cond (isWide (st .wide) w && hasEntry (st .wide) p l) (entryFor (st .wide) p l) (seenFrame st w p l))
     × (r .held ≡ cond (isWide (st .wide) w) (hasEntry (st .wide) p l) (holds st w p l))
     × (r .wide ≡ isWide (st .wide) w))
 
 -- the rows from 11 on: a narrow writer's, and the wide one's
-abbrev pub FramesFound : State → List ℕ → ℕ → ℕ → ℕ → ℕ → ℕ → Found → Type 0
-FramesFound st img w p l o n r =
-    let s = slotFor st p in
-    let f = frameAt (st .sizes) (st .table .original) img p s in
-    (r .row ≡ refusal (writeRows st w p l o n f))
-    × (r .row ≡ 0
-    → (r .frame ≡ f)
-    × (r .seen ≡ seenAt (st .sizes) (slotAt p (st .table .original) (st .table .spare) (st .table .bitmap) s) (heldAt (st .writers .held) w s) s l f)
-    × (r .held ≡ holds st w p l)
-    × (r .wide ≡ false))
+abbrev pub FramesFound : State → ℕ → ℕ → ℕ → ℕ → ℕ → Found → Type 0
+FramesFound st w p l o n r =
+    (r .row ≡ refusal (writeRows st w p l o n)) × (r .row ≡ 0 → (r .seen ≡ seenFrame st w p l) × (r .held ≡ holds st w p l) × (r .wide ≡ false))
 
-abbrev pub EntryFound : State → List ℕ → ℕ → ℕ → ℕ → ℕ → Found → Type 0
-EntryFound st img p l o n r =
-    let s = slotFor st p in
-    let f = frameAt (st .sizes) (st .table .original) img p s in
-    let t = slotAt p (st .table .original) (st .table .spare) (st .table .bitmap) s in
-    (r .row ≡ refusal (logRows st p l o n f))
+abbrev pub EntryFound : State → ℕ → ℕ → ℕ → ℕ → Found → Type 0
+EntryFound st p l o n r =
+    (r .row ≡ refusal (logRows st p l o n))
     × (r .row ≡ 0
-    → (r .frame ≡ f)
-    × (r .seen ≡ cond (hasEntry (st .wide) p l) (entryFor (st .wide) p l) (seenAt (st .sizes) t (heldAt (st .writers .held) (st .wide .writer) s) s l f))
+    → (r .seen ≡ cond (hasEntry (st .wide) p l) (entryFor (st .wide) p l) (seenFrame st (st .wide .writer) p l))
     × (r .held ≡ hasEntry (st .wide) p l)
     × (r .wide ≡ true))
 
 -- all but the rows that come first, row being what they gave
-abbrev pub FoundAfter : ℕ → State → List ℕ → ℕ → ℕ → ℕ → ℕ → ℕ → List ℕ → Found → Type 0
-FoundAfter row st img w p l o n bytes r =
-    let s = slotFor st p in
-    let f = frameAt (st .sizes) (st .table .original) img p s in
-    let t = slotAt p (st .table .original) (st .table .spare) (st .table .bitmap) s in
+abbrev pub FoundAfter : ℕ → State → ℕ → ℕ → ℕ → ℕ → ℕ → List ℕ → Found → Type 0
+FoundAfter row st w p l o n bytes r =
     let own = isWide (st .wide) w && hasEntry (st .wide) p l in
-    let rest = cond (isWide (st .wide) w) (logRows st p l o n f) (writeRows st w p l o n f) in
+    let rest = cond (isWide (st .wide) w) (logRows st p l o n) (writeRows st w p l o n) in
     (r .row ≡ cond (eqb row 0) (refusal ((ltb (length bytes) n, 11) ∷ rest)) row)
     × (r .row ≡ 0
-    → (r .frame ≡ f)
-    × (r .seen ≡ cond own (entryFor (st .wide) p l) (seenAt (st .sizes) t (heldAt (st .writers .held) w s) s l f))
+    → (r .seen ≡ cond own (entryFor (st .wide) p l) (seenFrame st w p l))
     × (r .held ≡ cond (isWide (st .wide) w) (hasEntry (st .wide) p l) (holds st w p l))
     × (r .wide ≡ isWide (st .wide) w))
 

@@ -1,4 +1,4 @@
-// What a write finds before it is taken: the row that turns it back, or the frames of its page and its line and whether the writer holds the line.
+// What a write finds before it is taken: the row that turns it back, or the frame of its line and whether the writer holds the line.
 ghost use mathlib.Core.Path.{_≡_};
 ghost use mathlib.Core.Bool.{true, false, _&&_};
 ghost use Prim.Native.Nat.{_+_, _<_, _≤_};
@@ -17,12 +17,12 @@ use layout::Sizes;
 use lines::Merged;
 use state::Places;
 use state_held::slots::slot_of;
+use state_words::Words;
 
-// The row, 0 where none turns the write back; then the page's frame, the one that the line is read from, whether the writer holds the line, and whether it
-// is the wide one. That one holds a line as an entry: it is then `seen`.
+// The row, 0 where none turns the write back; then the frame that the line is read from, whether the writer holds the line, and whether it is the wide
+// one. That one holds a line as an entry: it is then `seen`.
 pub struct Found {
     pub row: usize,
-    pub frame: usize,
     pub seen: usize,
     pub held: bool,
     pub wide: bool,
@@ -30,11 +30,10 @@ pub struct Found {
 
 // A refusal.
 fn turned_back(row: usize) -> Found
-    ensures { λ r. ⌜ r ≡ record { row = row; frame = 0; seen = 0; held = false; wide = false } ⌝ }
+    ensures { λ r. ⌜ r ≡ record { row = row; seen = 0; held = false; wide = false } ⌝ }
 {
     Found {
         row,
-        frame: 0,
         seen: 0,
         held: false,
         wide: false,
@@ -42,7 +41,7 @@ fn turned_back(row: usize) -> Found
 }
 
 // Whether the writer holds line l, s being its page's slot, S where it has none.
-fn holds_line(z: Sizes, words: &[u64; 256], writer: usize, s: usize, l: usize) -> bool
+fn holds_line(z: Sizes, words: &Words, writer: usize, s: usize, l: usize) -> bool
     requires { ⌜ Legal z × (writer < 4) × (l < 64) ⌝ }
     ensures { λ r. ⌜ r ≡ ltb s (z .slots) && inMask (heldAt (decoded (now (words .entry)) .writers .held) writer s) l ⌝ }
 {
@@ -53,28 +52,19 @@ fn holds_line(z: Sizes, words: &[u64; 256], writer: usize, s: usize, l: usize) -
 }
 
 // The rows from 11 on, of a page below P.
-fn frames_found(
-    image: &[u8],
-    z: Sizes,
-    at: Places,
-    words: &[u64; 256],
-    writer: usize,
-    a: Span,
-) -> Found
-    requires { ⌜ Legal z × (at .next < z .slots) × (a .page < z .pages) × (imageLength z ≤ length (now image)) ⌝ }
-    ensures { λ r. ⌜ FramesIn z at (decoded (now (words .entry))) (now (image .entry)) writer a r ⌝ }
+fn frames_found(z: Sizes, at: Places, words: &Words, writer: usize, a: Span) -> Found
+    requires { ⌜ Legal z × (at .next < z .slots) × (a .page < z .pages) ⌝ }
+    ensures { λ r. ⌜ FramesIn z at (decoded (now (words .entry))) writer a r ⌝ }
 {
     let s = slot_of(z, words, a.page);
-    let frame = state_lines::page_frame(image, z, words, a.page, s);
-    let row = op_rows::write_row(z, at, words, writer, a, s, frame);
+    let row = op_rows::write_row(z, at, words, writer, a, s);
     if row != 0 {
         return turned_back(row);
     }
-    let seen = state_lines::seen_frame(z, words, writer, s, a.line, frame);
+    let seen = state_lines::seen_frame(z, words, writer, a.page, s, a.line);
     let held = holds_line(z, words, writer, s, a.line);
     Found {
         row,
-        frame,
         seen,
         held,
         wide: false,
@@ -82,13 +72,11 @@ fn frames_found(
 }
 
 // The same of a wide write.
-fn entry_found(image: &[u8], z: Sizes, at: Places, words: &[u64; 256], a: Span) -> Found
-    requires { ⌜ Legal z × (at .count ≤ 64) × (a .page < z .pages) × (imageLength z ≤ length (now image)) ⌝ }
-    ensures { λ r. ⌜ EntryIn z at (decoded (now (words .entry))) (now (image .entry)) a r ⌝ }
+fn entry_found(z: Sizes, at: Places, words: &Words, a: Span) -> Found
+    requires { ⌜ Legal z × (at .count ≤ 64) × (a .page < z .pages) ⌝ }
+    ensures { λ r. ⌜ EntryIn z at (decoded (now (words .entry))) a r ⌝ }
 {
-    let s = slot_of(z, words, a.page);
-    let frame = state_lines::page_frame(image, z, words, a.page, s);
-    let row = op_rows::log_row(z, at, words, a, s, frame);
+    let row = op_rows::log_row(z, at, words, a);
     if row != 0 {
         return turned_back(row);
     }
@@ -96,16 +84,15 @@ fn entry_found(image: &[u8], z: Sizes, at: Places, words: &[u64; 256], a: Span) 
     if e < at.count {
         return Found {
             row,
-            frame,
             seen: e,
             held: true,
             wide: true,
         };
     }
-    let seen = state_lines::seen_frame(z, words, at.wide, s, a.line, frame);
+    let s = slot_of(z, words, a.page);
+    let seen = state_lines::seen_frame(z, words, at.wide, a.page, s, a.line);
     Found {
         row,
-        frame,
         seen,
         held: false,
         wide: true,
@@ -117,7 +104,7 @@ pub fn write_found(
     image: &[u8],
     z: Sizes,
     at: Places,
-    words: &[u64; 256],
+    words: &Words,
     writer: usize,
     a: Span,
     data: &[u8],
@@ -134,9 +121,9 @@ pub fn write_found(
         return turned_back(11);
     }
     if at.wide == writer {
-        return entry_found(image, z, at, words, a);
+        return entry_found(z, at, words, a);
     }
-    frames_found(image, z, at, words, writer, a)
+    frames_found(z, at, words, writer, a)
 }
 
 // The line that was found, with the first n bytes of data laid over it from offset on.

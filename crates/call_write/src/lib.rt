@@ -22,10 +22,11 @@ use op_stores::Until;
 use state::Op;
 use state::Pending;
 use state::Places;
+use state_words::Words;
 
-// A write with its finished line and its page's frame, none of its stores made: a narrow writer's, and the wide one's.
-fn pending(op: Op, line: [u64; 8], frame: usize) -> Pending
-    ensures { λ r. ⌜ r ≡ record { op = op; made = 0; line = line; second = replicate 8 0; frame = frame } ⌝ }
+// A write with its finished line, none of its stores made: a narrow writer's, and the wide one's.
+fn pending(op: Op, line: [u64; 8]) -> Pending
+    ensures { λ r. ⌜ r ≡ record { op = op; made = 0; line = line; second = replicate 8 0 } ⌝ }
 {
     let second = [0u64; 8];
     Pending {
@@ -33,7 +34,6 @@ fn pending(op: Op, line: [u64; 8], frame: usize) -> Pending
         made: 0,
         line,
         second,
-        frame,
     }
 }
 
@@ -65,7 +65,7 @@ fn put_line(
     image: &mut [u8],
     z: Sizes,
     at: Places,
-    words: &mut [u64; 256],
+    words: &mut Words,
     writer: usize,
     a: Span,
     p: Pending,
@@ -95,7 +95,7 @@ pub fn write_valid(
     image: &mut [u8],
     z: Sizes,
     at: Places,
-    words: &mut [u64; 256],
+    words: &mut Words,
     writer: usize,
     span: Span,
     data: &[u8],
@@ -117,10 +117,10 @@ pub fn write_valid(
     }
     let line = merged.words;
     if found.wide {
-        let p = pending(wide(span), line, found.frame);
+        let p = pending(wide(span), line);
         return op_stores::start(image, z, at, words, p, until);
     }
-    let p = pending(narrow(writer, span), line, found.frame);
+    let p = pending(narrow(writer, span), line);
     put_line(image, z, at, words, writer, span, p, until)
 }
 
@@ -128,7 +128,7 @@ pub fn write_valid(
 // call that is turned back changes no word.
 pub fn write(
     image: &mut [u8],
-    words: &mut [u64; 256],
+    words: &mut Words,
     writer: usize,
     span: Span,
     data: &[u8],

@@ -4,7 +4,7 @@ use mathlib.Core.Path.{_≡_, refl}
 use Rattle.answers.specs.Answers.{storesOf}
 use Rattle.answers.specs.declared.Answer.the-variants.{Taken, ImageTooShort, UnknownLayout, SizesOutOfRange, BufferTooShort, BadPositions, BadRecord}
 use Rattle.answers.specs.declared.Answer.the-variants.{BadSlots, BadState, OperationPending, NothingPending, BadArgument, WriterOpen, WriterNotOpen}
-use Rattle.answers.specs.declared.Answer.the-variants.{LineHeld, NoFreeSlot, BadFrame, PageWithoutSlot, PageHeld, JournalFull, UnknownEvent}
+use Rattle.answers.specs.declared.Answer.the-variants.{LineHeld, NoFreeSlot, PageWithoutSlot, PageHeld, JournalFull, UnknownEvent}
 use Rattle.answers.specs.declared.Answer.the-variants.{AmountOutOfRange, NoSlotToFree, TransactionPrepared, WriterNotPrepared, BadTableLine}
 use Rattle.answers.specs.declared.Answer.the-variants.{ModulusOutOfRange, MeterNotBelow, NoWideRounds, OtherOpen, EntriesUsed}
 use Rattle.answers.specs.declared.Answer.{Answer}
@@ -27,7 +27,6 @@ stores-none WriterOpen h = refl
 stores-none WriterNotOpen h = refl
 stores-none LineHeld h = refl
 stores-none NoFreeSlot h = refl
-stores-none BadFrame h = refl
 stores-none PageWithoutSlot h = refl
 stores-none PageHeld h = refl
 stores-none JournalFull h = refl

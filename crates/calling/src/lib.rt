@@ -5,11 +5,13 @@ ghost use Prim.Native.Nat.{_≤_};
 ghost use lib.ListN.{replicate};
 ghost use Rattle.bounded.specs.Tab.{filled};
 ghost use Rattle.answers.specs.Answers.{numberOf, storesOf, answeredAt};
+ghost use Rattle.op_stores.specs.Started.{Started};
 ghost use Rattle.state_words.specs.Decoded.{decoded};
 ghost use Rattle.calling.specs.WriteLine.{datum, areBytes, hasData, writeBy};
 use answers::Answer;
 use call_write::Span;
 use op_stores::Until;
+use state_words::Words;
 
 // Whether the n numbers after the first five are bytes.
 fn all_bytes(numbers: &[u64; 69], n: usize) -> bool
@@ -53,12 +55,17 @@ fn data_of(numbers: &[u64; 69], n: usize) -> [u8; 64]
     bytes
 }
 
-// The write that a line's numbers ask for: its stores are pending, and none is made. A call that is turned back changes no word.
-pub fn write(image: &mut [u8], words: &mut [u64; 256], count: usize, numbers: &[u64; 69]) -> Answer
+// The write that a line's numbers ask for, gone on with as far as is said. A call that is turned back changes no word.
+pub fn write_until(
+    image: &mut [u8],
+    words: &mut Words,
+    count: usize,
+    numbers: &[u64; 69],
+    until: Until,
+) -> Answer
     requires { ⌜ hasData count (now numbers) ≡ true ⌝ }
-    ensures state { λ r. ⌜ answeredAt r (decoded (now (words .exit)))
-        ≡ writeBy (decoded (now (words .entry))) (now (image .entry)) count (now (numbers .entry)) ⌝ }
-    ensures bytes { λ _. ⌜ now (image .exit) ≡ now (image .entry) ⌝ }
+    ensures started { λ r. ⌜ Started r (decoded (now (words .exit))) (now (image .exit))
+        (writeBy (decoded (now (words .entry))) (now (image .entry)) count (now (numbers .entry))) (now (image .entry)) until ⌝ }
     ensures words { λ r. ⌜ ((numberOf r ≡ 0 → ⊥) → now (words .exit) ≡ now (words .entry)) ⌝ }
 {
     let n = count - 5;
@@ -70,7 +77,18 @@ pub fn write(image: &mut [u8], words: &mut [u64; 256], count: usize, numbers: &[
         length: numbers[4] as usize,
     };
     let writer = numbers[0] as usize;
-    call_write::write(image, words, writer, span, &bytes[..n], Until::Asked)
+    call_write::write(image, words, writer, span, &bytes[..n], until)
+}
+
+// The same asked for: its stores are pending, and none is made.
+pub fn write(image: &mut [u8], words: &mut Words, count: usize, numbers: &[u64; 69]) -> Answer
+    requires { ⌜ hasData count (now numbers) ≡ true ⌝ }
+    ensures state { λ r. ⌜ answeredAt r (decoded (now (words .exit)))
+        ≡ writeBy (decoded (now (words .entry))) (now (image .entry)) count (now (numbers .entry)) ⌝ }
+    ensures bytes { λ _. ⌜ now (image .exit) ≡ now (image .entry) ⌝ }
+    ensures words { λ r. ⌜ ((numberOf r ≡ 0 → ⊥) → now (words .exit) ≡ now (words .entry)) ⌝ }
+{
+    write_until(image, words, count, numbers, Until::Asked)
 }
 
 // The stores that a taken call needs or made.

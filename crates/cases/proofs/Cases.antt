@@ -13,12 +13,13 @@ use Rattle.entries.specs.Entries.{keysFrom, entriesOk}
 use Rattle.state.specs.Wide.{wideOk}
 use Rattle.state.specs.Held.{heldOk, othersHold, someHold, heldSlots}
 use Rattle.operations.specs.Operations.{copyCount, recordedSlots, needs}
-use Rattle.state.specs.Slots.{freeAfter, frameOfSlot, framesApart}
+use Rattle.replay.specs.Map.{mapFrom}
+use Rattle.state.specs.Slots.{freeAfter}
 use Rattle.validity.specs.Validity.{slotsOk, lastsOk, preparedOk, pendingOk, stateOk}
 use Rattle.refinement.specs.Checkpoint.{checkpointAtOf, checkpointValueOf}
 use Rattle.refinement.specs.Commit.{closedWriter, commitRecordOf, commitAtOf, commitValueOf}
 use Rattle.refinement.specs.Consolidate.{freeingRecord, consolidateAt, consolidateValue}
-use Rattle.refinement.specs.Frames.{pageFrame, seenFrame}
+use Rattle.refinement.specs.Frames.{seenFrame}
 use Rattle.refinement.specs.Stores.{stepped, steppedBy}
 use Rattle.refinement.specs.Write.{writeSlot}
 use Rattle.refinement.specs.Calls.{beginOf, abortOf, changesNothing, writeOf, commitOf, consolidateOf, checkpointOf, readRow, readBytes, runOf, runBytes, stepOf, stepBytes}
@@ -27,5 +28,5 @@ use Rattle.refinement.specs.Run.{exec, after}
 use Rattle.cases.specs.Cases.{words, seen, fresh, formats, mounts, finds, gives, copies, case, cases, computedAll, statedAll}
 
 pub every-case : computedAll cases ≡ statedAll cases
-unfolding allBelow someBelow firstBelow one countBelow those upTo countOf eachOnce tab filled leOf bytesOf part over wordAt putWord wordsAt flat freshWords formatted freshTable liveRecord recordsOk tableFrom replay frameNames keysFrom entriesOk mountRead mountOf inMask withLine exclusiveOr disjoint others linesIn countLines linesNotIn wideOk heldOk othersHold someHold heldSlots copyCount recordedSlots needs freeAfter frameOfSlot framesApart slotsOk lastsOk preparedOk pendingOk stateOk checkpointAtOf checkpointValueOf commitRecordOf commitAtOf commitValueOf closedWriter freeingRecord consolidateAt consolidateValue pageFrame seenFrame stepped steppedBy writeSlot beginOf abortOf changesNothing writeOf commitOf consolidateOf checkpointOf readRow readBytes runOf runBytes stepOf stepBytes formatCall mountCall exec after words seen fresh formats mounts finds gives copies case cases computedAll statedAll
+unfolding mapFrom allBelow someBelow firstBelow one countBelow those upTo countOf eachOnce tab filled leOf bytesOf part over wordAt putWord wordsAt flat freshWords formatted freshTable liveRecord recordsOk tableFrom replay frameNames keysFrom entriesOk mountRead mountOf inMask withLine exclusiveOr disjoint others linesIn countLines linesNotIn wideOk heldOk othersHold someHold heldSlots copyCount recordedSlots needs freeAfter slotsOk lastsOk preparedOk pendingOk stateOk checkpointAtOf checkpointValueOf commitRecordOf commitAtOf commitValueOf closedWriter freeingRecord consolidateAt consolidateValue seenFrame stepped steppedBy writeSlot beginOf abortOf changesNothing writeOf commitOf consolidateOf checkpointOf readRow readBytes runOf runBytes stepOf stepBytes formatCall mountCall exec after words seen fresh formats mounts finds gives copies case cases computedAll statedAll
 every-case = refl

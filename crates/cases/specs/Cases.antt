@@ -9,6 +9,7 @@ use Rattle.layout.specs.declared.Sizes.{Sizes}
 use Rattle.words.specs.Words.{word, store}
 use Rattle.journal.specs.Records.{liveCount}
 use Rattle.replay.specs.Table.{emptyTable, withSlot}
+use Rattle.replay.specs.Map.{mapFrom}
 use Rattle.state.specs.State.{State}
 use Rattle.refinement.specs.Stores.{World, storeAt}
 use Rattle.refinement.specs.Mount.{quietState, formatCall, mountCall}
@@ -63,7 +64,7 @@ words img (a ∷ l) = word img a ∷ words img l
 unfoldable pub seen : Result → List ℕ → List ℕ
 seen d l =
     let st = d .world .st in
-    d .number ∷ d .stores ∷ (tab (d .stores) (storeAt st (d .world .image) (st .pending .op)) ++ words (exec (run (d .stores)) (d .world) .world .image) l)
+    d .number ∷ d .stores ∷ (tab (d .stores) (storeAt st (st .pending .op)) ++ words (exec (run (d .stores)) (d .world) .world .image) l)
 
 unfoldable pub gives : List Call → Call → List ℕ → List ℕ
 gives before c l = seen (exec c (after before fresh)) l
@@ -78,7 +79,7 @@ finds before =
 -- the stores that a consolidation of page 0 with a bitmap is answered with
 unfoldable pub copies : ℕ → ℕ
 copies bits =
-    let st = quietState small 0 0 (withSlot emptyTable 0 (record { page = 0; original = 0; spare = 2; bitmap = bits })) in
+    let st = quietState small 0 0 (withSlot emptyTable 0 (record { page = 0; original = 0; spare = 2; bitmap = bits })) (mapFrom 2 (λ p. p)) in
     exec (consolidate 0) (record { st = st; image = replicate 12480 0 }) .stores
 
 -- what each case gives, and what document 01 says

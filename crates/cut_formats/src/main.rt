@@ -5,6 +5,7 @@
 use call_write::Span;
 use layout::Sizes;
 use op_stores::Until;
+use state_words::WORD_COUNT;
 
 // What a cut comes to.
 struct Told {
@@ -46,7 +47,7 @@ fn make_noise(image: &mut [u8; 12552]) {
 
 // An image of one page, with a committed line.
 fn make_used(image: &mut [u8; 12552]) {
-    let mut words = [0u64; 256];
+    let mut words = [0u64; WORD_COUNT];
     let z = Sizes {
         pages: 1,
         slots: 1,
@@ -61,7 +62,7 @@ fn make_used(image: &mut [u8; 12552]) {
 
 // An image of layout 2 whose wide round was cut after its commit's first store.
 fn make_wide(image: &mut [u8; 12552]) {
-    let mut words = [0u64; 256];
+    let mut words = [0u64; WORD_COUNT];
     let _ = call_mount::format_whole(image, &mut words, sizes(1));
     let _ = call_begin::begin_wide(&mut words, 0);
     let _ = call_write::write(image, &mut words, 0, first_byte(), b"A", Until::End);
@@ -84,8 +85,8 @@ fn same_from(a: &[u8; 12552], b: &[u8; 12552], from: usize) -> bool {
 // A format of the old bytes, cut after k stores.
 fn cut(old: [u8; 12552], k: usize) -> Told {
     let mut image = old;
-    let mut words = [0u64; 256];
-    let mut other = [0u64; 256];
+    let mut words = [0u64; WORD_COUNT];
+    let mut other = [0u64; WORD_COUNT];
     let mut line = [0u8; 64];
     let _ = call_mount::format(&mut image, &mut words, sizes(0), Until::Asked);
     let _ = call_step::run(&mut image, &mut words, k);

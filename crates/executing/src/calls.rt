@@ -8,15 +8,10 @@ ghost use Rattle.executing.specs.Called.{callOf, worldAt, resultAt};
 use answers::Answer;
 use forms::Ask;
 use op_stores::Until;
+use state_words::Words;
 
 // The call; the stores that it needs are pending, and none is made.
-pub fn ask(
-    image: &mut [u8],
-    words: &mut [u64; 256],
-    a: Ask,
-    count: usize,
-    numbers: &[u64; 69],
-) -> Answer
+pub fn ask(image: &mut [u8], words: &mut Words, a: Ask, count: usize, numbers: &[u64; 69]) -> Answer
     requires { ⌜ (a ≡ Write → hasData count (now numbers) ≡ true) ⌝ }
     ensures { λ r. ⌜ resultAt r (now (words .exit)) (now (image .exit))
         ≡ exec (callOf a count (now (numbers .entry))) (worldAt (now (words .entry)) (now (image .entry))) ⌝ }

@@ -11,6 +11,7 @@ use crate::Mode;
 use crate::Turned;
 use answers::Answer;
 use printing::Output;
+use state_words::Words;
 
 // How many stores may be made.
 fn budget_of(cut: Cut, needed: usize) -> usize
@@ -23,7 +24,7 @@ fn budget_of(cut: Cut, needed: usize) -> usize
 }
 
 // What follows the stores: under a K a mount, whose number then is the line's.
-fn mount_cut(image: &[u8], words: &mut [u64; 256], cut: Cut, number: usize) -> usize
+fn mount_cut(image: &[u8], words: &mut Words, cut: Cut, number: usize) -> usize
     ensures number { λ r. ⌜ r ≡ afterCut cut number (worldAt (now (words .entry)) (now (image .entry))) .number ⌝ }
     ensures state { λ _. ⌜ decoded (now (words .exit)) ≡ afterCut cut number (worldAt (now (words .entry)) (now (image .entry))) .world .st ⌝ }
 {
@@ -69,13 +70,7 @@ fn ended(letter: u8, number: usize, stores: usize) -> Turned
 }
 
 // What a call came to that was asked for; one that needs stores makes them.
-pub fn finish(
-    image: &mut [u8],
-    words: &mut [u64; 256],
-    cut: Cut,
-    letter: u8,
-    answer: Answer,
-) -> Turned
+pub fn finish(image: &mut [u8], words: &mut Words, cut: Cut, letter: u8, answer: Answer) -> Turned
     ensures { λ r. ⌜ turnAt r (now (words .exit)) (now (image .exit)) ≡ finished letter cut (resultAt answer (now (words .entry)) (now (image .entry))) ⌝ }
 {
     let number = answers::number_of(answer);

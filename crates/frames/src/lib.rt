@@ -15,7 +15,7 @@ pub fn committed_frame(t: Slot, l: usize) -> usize
     t.original
 }
 
-// The other frame.
+// The frame that has not the committed copy of line l, which a write goes to.
 pub fn other_frame(t: Slot, l: usize) -> usize
     requires { ⌜ l < 64 ⌝ }
     ensures { λ r. ⌜ r ≡ otherFrame t l ⌝ }

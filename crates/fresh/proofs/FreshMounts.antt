@@ -24,15 +24,16 @@ use Rattle.journal.specs.declared.Slot.{Slot}
 use Rattle.journal.specs.Slots.{noPage, slotFrom, freeSlot, shaped}
 use Rattle.journal.specs.Records.{liveCount}
 use Rattle.replay.specs.Table.{slotIn, emptyTable, tableFrom, slotsShaped, pageApart, pagesApart, slotOf, homeOf}
+use Rattle.replay.specs.Map.{pageFrames, mapFrom}
 use Rattle.entries.specs.Entries.{noKeys}
 use Rattle.entries.proofs.EntryLaws.{no-keys, none-right, right-entries}
 use Rattle.mount.specs.Mount.{wideWord, sizesFrom, countFrom, mountOf}
-use Rattle.fresh.specs.Fresh.{formatted, freshTable}
+use Rattle.fresh.specs.Fresh.{formatted, freshTable, freshMap}
 use Rattle.journal.proofs.Ring.{live-none, positions-none}
 use Rattle.journal.proofs.SlotWords.{slot-back, free-shaped}
 use Rattle.replay.proofs.Tables.{laid-slot, laid-ext, sixteen-empty}
 use Rattle.mount.proofs.View.{View, viewWith, Shows, header-view}
-use Rattle.mount.proofs.Verdict.{recordIn, namesIn, Taken, taken-mount}
+use Rattle.mount.proofs.Verdict.{recordIn, namesIn, mapIn, Taken, taken-mount}
 use Rattle.mount.proofs.HeadTail.{none-live}
 use Rattle.journal.proofs.RightRecords.{right-all}
 use Rattle.fresh.proofs.FreshWords.{length-formatted, formatted-header, formatted-page, formatted-slot}
@@ -103,14 +104,14 @@ module _ (z : Sizes) (g : Legal z) (b : List ℕ) (fits : imageLength z ≤ leng
       laid-ext (z .slots) (λ s. slotFrom (word (formatted z b)) (slotWord z s)) (λ s. freeSlot (z .pages + s)) emptyTable
       (λ s l. slot-back (word (formatted z b)) (slotWord z s) (freeSlot (z .pages + s)) (omega arith) (λ k m. formatted-slot z g b fits s k l m))
 
-  fresh-home : (p : ℕ) → p < z .pages → homeOf (word (formatted z b)) z (freshTable z) p ≡ p
+  fresh-home : (p : ℕ) → p < z .pages → homeOf (pageFrames (word (formatted z b))) z (freshTable z) p ≡ p
   fresh-home p l = rw (no-slot z p g l) (formatted-page z g b fits p l)
 
   fresh-with : viewWith (word (formatted z b)) z (layoutOf z) 0 0 0 ≡ freshView z
   fresh-with =
       none-live (word (formatted z b)) z (layoutOf z) 0 0 (freshTable z) fresh-table
       ∙ ap₂ (λ (h k : List ℕ). record { sizes = z; layout = layoutOf z; head = 0; tail = 0; records = []; table = freshTable z; homes = h; count = 0; keys = k })
-      (tab-ext (z .pages) (homeOf (word (formatted z b)) z (freshTable z)) (λ p. p) fresh-home) (no-keys (word (formatted z b)) z)
+      (tab-ext (z .pages) (homeOf (pageFrames (word (formatted z b))) z (freshTable z)) (λ p. p) fresh-home) (no-keys (word (formatted z b)) z)
 
   pub fresh-shows : Shows (formatted z b) (freshView z)
   fresh-shows =
@@ -174,7 +175,8 @@ module _ (z : Sizes) (g : Legal z) where
       }
 
 pub fresh-mounts : (z : Sizes) (b : List ℕ) → sizesOk z ≡ true → imageLength z ≤ length b
-    → mountOf (formatted z b) ≡ record { row = 0; sizes = z; head = 0; tail = 0; table = freshTable z; count = 0; keys = noKeys }
+    → mountOf (formatted z b) ≡ record { row = 0; sizes = z; head = 0; tail = 0; table = freshTable z; map = freshMap z; count = 0; keys = noKeys }
+unfolding mapIn mapFrom
 fresh-mounts z b e fits =
     let g : Legal z = legal z e in
     taken-mount (formatted z b) (freshView z) (fresh-shows z g b fits)

@@ -13,6 +13,7 @@ use Rattle.words.specs.Words.{over, flat, store}
 use Rattle.replay.specs.declared.Table.{Table}
 use Rattle.journal.specs.Slots.{freeSlot, wordOfSlot}
 use Rattle.replay.specs.Table.{withSlot, emptyTable}
+use Rattle.replay.specs.Map.{mapFrom}
 
 -- head and tail 0, no entry counted
 abbrev pub freshHeader : Sizes → List ℕ
@@ -56,6 +57,10 @@ formatted z buffer = over buffer 0 (flat (freshWords z))
 -- the slots of a fresh image
 unfoldable pub freshTable : Sizes → Table
 freshTable z = upTo (z .slots) (λ s t. withSlot t s (freeSlot (z .pages + s))) emptyTable
+
+-- and its map: page i in frame i
+abbrev pub freshMap : Sizes → List ℕ
+freshMap z = mapFrom (z .pages) (λ p. p)
 
 abbrev pub formatRows : Sizes → ℕ → List Row
 formatRows z n = (not (sizesOk z), 3) ∷ (ltb n (imageLength z), 4) ∷ []

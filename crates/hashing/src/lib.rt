@@ -1,4 +1,4 @@
-// A hash of bytes.
+// A hash of bytes, by which the test programs print an image or a page in a number.
 ghost use mathlib.Core.Path.{_≡_};
 ghost use Rattle.hashing.specs.Hash.{hashOf};
 

@@ -1,8 +1,9 @@
 // The state that a host keeps, as a record: document 01's state record. Any words are a state.
 use answers::Answer;
+use state_words::Words;
 
 pub struct State {
-    pub words: [u64; 256],
+    pub words: Words,
 }
 
 // A call's answer and the state after it.

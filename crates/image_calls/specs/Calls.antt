@@ -1,13 +1,12 @@
 -- The lines that make a call on the whole image: F, M, S, N and n of PROBE.md. Each is the call's own definition.
 use Prim.Native.Nat.{ℕ}
-use mathlib.Core.Bool.{cond}
+use mathlib.Core.Bool.{Bool, _||_, cond}
 use mathlib.Core.List.{List}
 use lib.Dec.{eqb}
 use Rattle.layout.specs.declared.Sizes.{Sizes}
-use Rattle.fresh.specs.Fresh.{formatBytes}
 use Rattle.state.specs.State.{State}
 use Rattle.refinement.specs.Calls.{stepOf, stepBytes, runOf, runBytes}
-use Rattle.refinement.specs.Mount.{mountCall, formatCall}
+use Rattle.refinement.specs.Mount.{mountCall, formatOf}
 use Rattle.answers.specs.Answers.{numberOf}
 use Rattle.text.specs.declared.Line.{Line}
 use Rattle.workbench.specs.Turns.{Turn, arg, formedSaid, formed, called, replacing}
@@ -18,14 +17,16 @@ use Rattle.call_step.specs.declared.telling.NextStore.{NextStore}
 
 -- ---- format, mount
 
+-- F,P,S,J,L, or without L, which then is 0
+abbrev pub formatForm : Line → Bool
+formatForm line = eqb (line .count) 3 || eqb (line .count) 4
+
 abbrev pub sizesIn : Line → Sizes
-sizesIn line = record { pages = arg line 0; slots = arg line 1; places = arg line 2; entries = 0 }
+sizesIn line = record { pages = arg line 0; slots = arg line 1; places = arg line 2; entries = cond (eqb (line .count) 4) (arg line 3) 0 }
 
+-- it is asked for, and changes no byte
 abbrev pub formatTurn : State → List ℕ → Line → Turn
-formatTurn st img line = formed (eqb (line .count) 3) st (replacing st (formatCall (sizesIn line) img))
-
-abbrev pub formatted : List ℕ → Line → List ℕ
-formatted img line = cond (eqb (line .count) 3) (formatBytes (sizesIn line) img) img
+formatTurn st img line = formed (formatForm line) st (replacing st (formatOf (sizesIn line) img))
 
 abbrev pub mountTurn : State → List ℕ → Line → Turn
 mountTurn st img line = formed (eqb (line .count) 0) st (replacing st (mountCall img))

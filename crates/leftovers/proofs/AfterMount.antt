@@ -11,7 +11,7 @@ use borrow.Author.Tests.{eqb-true, eqb-false, eq-eqb, ne-eqb}
 use Rattle.bounded.proofs.Tests.{caseOn}
 use Rattle.layout.specs.Layout.{imageLength}
 use Rattle.words.specs.Words.{Bytes}
-use Rattle.mount.proofs.Verdict.{Taken, foundIn}
+use Rattle.mount.proofs.Verdict.{Taken, foundIn, mapIn}
 use Rattle.mount.proofs.View.{View, Shows}
 use Rattle.state.specs.State.{State, Wide}
 use Rattle.state.specs.declared.Pending.{Pending}
@@ -33,7 +33,7 @@ use Rattle.refinement.proofs.Viewed.{Viewed}
 -- a state with what the view shows
 abbrev pub foundState : View → Wide → Pending → State
 foundState v d p =
-    record { sizes = v .sizes; head = v .head; tail = v .tail; next = 0; table = v .table; writers = allClosed; wide = d; pending = p }
+    record { sizes = v .sizes; head = v .head; tail = v .tail; next = 0; table = v .table; map = mapIn v; writers = allClosed; wide = d; pending = p }
 
 -- it is the one that a mount returns, and tells the entries that are counted
 pub record Found (v : View) (d : Wide) (p : Pending) : Type 0 where

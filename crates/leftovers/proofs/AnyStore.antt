@@ -13,7 +13,7 @@ use Rattle.layout.specs.declared.Sizes.{Sizes}
 use Rattle.layout.specs.Layout.{Legal, countWord, frameWord, lineWord}
 use Rattle.entries.specs.Entries.{keyLine}
 use Rattle.mount.proofs.View.{View}
-use Rattle.state.specs.State.{State, Wide}
+use Rattle.state.specs.State.{State, Wide, ownFrame}
 use Rattle.state.specs.declared.Pending.{Pending}
 use Rattle.state.specs.declared.Op.{Op}
 use Rattle.state.specs.declared.Op.the-variants.{Idle, Write, Commit, Consolidate, Checkpoint, Event, Prepare, Confirm, Log, Copy, Format}
@@ -52,32 +52,32 @@ ofWide (Confirm w) = false
 ofWide Format = false
 
 -- its stores go to the count of entries, to a frame or to an entry
-beyond-at : (st : State) (img : List ℕ) (op : Op) (i : ℕ) → ofWide op ≡ true → (storeAt st img op i ≡ countWord) ⊎ (frameWord (st .sizes) ≤ storeAt st img op i)
+beyond-at : (st : State) (op : Op) (i : ℕ) → ofWide op ≡ true → (storeAt st op i ≡ countWord) ⊎ (frameWord (st .sizes) ≤ storeAt st op i)
 unfolding copyAtOf
-beyond-at st img (Log p l o n) i t = inr (omega arith)
-beyond-at st img Copy i t =
+beyond-at st (Log p l o n) i t = inr (omega arith)
+beyond-at st Copy i t =
     let z = st .sizes in
     let k : ℕ = getD (st .wide .keys) ((i - 1) / 8) 0 in
-    let a : ℕ = lineWord z (copiedFrame z (st .table) img k) (keyLine k) + (i - 1) % 8 in
+    let a : ℕ = lineWord z (copiedFrame (ownFrame st) z (st .table) k) (keyLine k) + (i - 1) % 8 in
     row-keeps (λ (x : ℕ). (x ≡ countWord) ⊎ (frameWord z ≤ x)) (eqb i 0 || ltb (8 * st .wide .count) i) countWord a (inl refl) (inr (omega arith))
-beyond-at st img Idle i t = contradicts t refl
-beyond-at st img (Write w p l o n) i t = contradicts t refl
-beyond-at st img (Commit w) i t = contradicts t refl
-beyond-at st img (Consolidate p) i t = contradicts t refl
-beyond-at st img Checkpoint i t = contradicts t refl
-beyond-at st img (Event k m a) i t = contradicts t refl
-beyond-at st img (Prepare w) i t = contradicts t refl
-beyond-at st img (Confirm w) i t = contradicts t refl
-beyond-at st img Format i t = contradicts t refl
+beyond-at st Idle i t = contradicts t refl
+beyond-at st (Write w p l o n) i t = contradicts t refl
+beyond-at st (Commit w) i t = contradicts t refl
+beyond-at st (Consolidate p) i t = contradicts t refl
+beyond-at st Checkpoint i t = contradicts t refl
+beyond-at st (Event k m a) i t = contradicts t refl
+beyond-at st (Prepare w) i t = contradicts t refl
+beyond-at st (Confirm w) i t = contradicts t refl
+beyond-at st Format i t = contradicts t refl
 
 wide-stays : (past : List ℕ) (st : State) (img : List ℕ) (b : Reference) → Standing past (worldOf st img) b → isIdle (st .pending .op) ≡ false → ofWide (st .pending .op) ≡ true
-    → Stays (st .sizes) img (storeMade st img (st .pending .op) (st .pending .made))
+    → Stays img (storeMade st img (st .pending .op) (st .pending .made))
 wide-stays past st img b s some t =
     let made = st .pending .made in
     let p = pends st (st .pending .op) (s .valid) refl some in
     let seen = s .viewed in
-    beyond-stays img (storeAt st img (st .pending .op) made) _ (st .sizes) (ap (λ (v : View). v .sizes) (seen .shows) ∙ seen .sizes-same) (subst Legal (seen .sizes-same) (seen .mounts .legal))
-    (viewed-fits st img b seen) (store-in-range st (s .valid) some img made (p .made-low)) (beyond-at st img (st .pending .op) made t)
+    beyond-stays img (storeAt st (st .pending .op) made) _ (st .sizes) (ap (λ (v : View). v .sizes) (seen .shows) ∙ seen .sizes-same) (subst Legal (seen .sizes-same) (seen .mounts .legal))
+    (viewed-fits st img b seen) (store-in-range st (s .valid) some made (p .made-low)) (beyond-at st (st .pending .op) made t)
 
 -- what goes on is narrow, or beside
 goes-beside : {past : List ℕ} (st : State) (img : List ℕ) (b : Reference) → Stage past st img b → isIdle (st .pending .op) ≡ false → ofWide (st .pending .op) ≡ false
@@ -87,7 +87,7 @@ goes-beside st img b (writes p l o n e L) some t = contradicts (ap ofWide e) t
 goes-beside st img b (asked e m w) some t = contradicts (ap ofWide e) t
 goes-beside st img b (beside s B) some t = (s, B)
 
-module _ (past past′ : List ℕ) (st : State) (x y : List ℕ) (b : Reference) (same : Alike (st .sizes) x y) where
+module _ (past past′ : List ℕ) (st : State) (x y : List ℕ) (b : Reference) (same : Alike x y) where
   abbrev op : Op
   op = st .pending .op
 
@@ -95,12 +95,12 @@ module _ (past past′ : List ℕ) (st : State) (x y : List ℕ) (b : Reference)
   made = st .pending .made
 
   abbrev After : Type 0
-  After = Alike (st .sizes) (stepped (worldOf st x) .image) (stepped (worldOf st y) .image)
+  After = Alike (stepped (worldOf st x) .image) (stepped (worldOf st y) .image)
 
-  by-images : Alike (st .sizes) (storeMade st x op made) (storeMade st y op made) → After
+  by-images : Alike (storeMade st x op made) (storeMade st y op made) → After
   by-images a =
-      subst (λ (i : List ℕ). Alike (st .sizes) i (stepped (worldOf st y) .image)) (sym (stepped-image (worldOf st x)))
-      (subst (Alike (st .sizes) (storeMade st x op made)) (sym (stepped-image (worldOf st y))) a)
+      subst (λ (i : List ℕ). Alike i (stepped (worldOf st y) .image)) (sym (stepped-image (worldOf st x)))
+      (subst (Alike (storeMade st x op made)) (sym (stepped-image (worldOf st y))) a)
 
   beside-store : Logging past st x b → Logging past′ st y b → isIdle op ≡ false → ofWide op ≡ false → After
   beside-store G H some t =
@@ -108,8 +108,8 @@ module _ (past past′ : List ℕ) (st : State) (x y : List ℕ) (b : Reference)
       let C = goes-beside st y b (H .stage) some t in
       let a = one-store past past′ (shut st) x y (emptied (st .wide .writer) b) (B .1) (C .1) same in
       by-images
-      (subst (λ (i : List ℕ). Alike (st .sizes) i (storeMade st y op made)) (stepped-image (worldOf (shut st) x) ∙ same-store st op (B .0) x made)
-      (subst (Alike (st .sizes) (stepped (worldOf (shut st) x) .image)) (stepped-image (worldOf (shut st) y) ∙ same-store st op (B .0) y made) a))
+      (subst (λ (i : List ℕ). Alike i (storeMade st y op made)) (stepped-image (worldOf (shut st) x) ∙ same-store st op (B .0) x made)
+      (subst (Alike (stepped (worldOf (shut st) x) .image)) (stepped-image (worldOf (shut st) y) ∙ same-store st op (B .0) y made) a))
 
   -- there is none beside an open one
   not-narrow : {p : List ℕ} (i : List ℕ) (c : Reference) {q : List ℕ} (j : List ℕ) → Between p (worldOf st i) c → Logging q st j c → ⊥

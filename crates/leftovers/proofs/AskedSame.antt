@@ -21,12 +21,11 @@ use Rattle.state.specs.declared.Op.{Op}
 use Rattle.state.specs.declared.Op.the-variants.{Event}
 use Rattle.state.specs.Held.{noWriter}
 use Rattle.state.specs.Wide.{isWide, hasEntry}
-use Rattle.operations.specs.Operations.{isIdle, slotFor, frameBad, writeRows, logRows, confirmRows}
-use Rattle.operations.proofs.Taken.{args-good}
+use Rattle.operations.specs.Operations.{isIdle, writeRows, logRows, confirmRows}
 use Rattle.meters.specs.Meters.{modulusOf, eventKnown, movesCredit, firstMeter, ownMeter, eventNeeds, rolled, firstNumber, amountBad}
 use Rattle.meters.proofs.MeterLaws.{first-low, own-range}
 use Rattle.moduli_text.specs.Text.{moduliIn}
-use Rattle.refinement.specs.Frames.{pageFrame, holds}
+use Rattle.refinement.specs.Frames.{holds}
 use Rattle.refinement.specs.Outcome.{answered}
 use Rattle.refinement.specs.Settled.{withWriters, withPrepared, withLines}
 use Rattle.refinement.specs.Calls.{rowState, rowShort, rowPending, withPending, asked, writeCallRows, writeOp, seenLine, changesNothing, writeOf, withdrawOf, eventLine, eventSecond, eventCallRows, eventOf, meterStored, loadRows, loadOf}
@@ -43,11 +42,6 @@ module _ (st : State) (x y : List ℕ) (reads : SameReads st x y) where
   abbrev z : Sizes
   z = st .sizes
 
-  pub bad-same : (p : ℕ) → p < z .pages
-      → frameBad z (st .table .page) (st .table .original) (st .table .spare) (slotFor st p) (pageFrame st x p)
-      ≡ frameBad z (st .table .page) (st .table .original) (st .table .spare) (slotFor st p) (pageFrame st y p)
-  bad-same p low = ap (frameBad z (st .table .page) (st .table .original) (st .table .spare) (slotFor st p)) (reads .frame p low)
-
   -- a write taken, by the line as the writer reads it
   abbrev idle : ℕ → ℕ → ℕ → ℕ → ℕ → List ℕ → List ℕ → Bool
   idle w p l o n bytes line = cond (isWide (st .wide) w) (hasEntry (st .wide) p l) (holds st w p l) && not (mergeChanges line o n bytes)
@@ -55,8 +49,8 @@ module _ (st : State) (x y : List ℕ) (reads : SameReads st x y) where
   abbrev stores : ℕ → Bool → ℕ
   stores w none = cond none 0 (cond (isWide (st .wide) w) 9 8)
 
-  abbrev asks : ℕ → ℕ → ℕ → ℕ → ℕ → List ℕ → List ℕ → ℕ → State
-  asks w p l o n bytes line f = cond (idle w p l o n bytes line) st (withPending st (writeOp st w p l o n) (lineWords (merged line o n bytes)) f)
+  abbrev asks : ℕ → ℕ → ℕ → ℕ → ℕ → List ℕ → List ℕ → State
+  asks w p l o n bytes line = cond (idle w p l o n bytes line) st (withPending st (writeOp st w p l o n) (lineWords (merged line o n bytes)))
 
   -- its rows, of either kind of writer
   abbrev rowsOf : List ℕ → ℕ → List ℕ → List Row → List Row
@@ -67,29 +61,29 @@ module _ (st : State) (x y : List ℕ) (reads : SameReads st x y) where
       caseOn (isWide (st .wide) w)
       (λ t.
       rw t
-      (same-refusal (rowsOf x n bytes (logRows st p l o n (pageFrame st x p))) (rowsOf y n bytes (logRows st p l o n (pageFrame st y p)))
-      (refl, refl, λ _. (reads .short, refl, λ _. (refl, refl, λ _. (refl, refl, λ _. (refl, refl, λ f. (refl, refl, λ _. (refl, refl, λ _. (bad-same p (args-good z (st .wide .writer) p l o n f .page-low), refl, λ _. tt))))))))))
+      (same-refusal (rowsOf x n bytes (logRows st p l o n)) (rowsOf y n bytes (logRows st p l o n))
+      (refl, refl, λ _. (reads .short, refl, λ _. (refl, refl, λ _. (refl, refl, λ _. (refl, refl, λ _. (refl, refl, λ _. (refl, refl, λ _. tt)))))))))
       (λ t.
       rw t
-      (same-refusal (rowsOf x n bytes (writeRows st w p l o n (pageFrame st x p))) (rowsOf y n bytes (writeRows st w p l o n (pageFrame st y p)))
-      (refl, refl, λ _. (reads .short, refl, λ _. (refl, refl, λ _. (refl, refl, λ _. (refl, refl, λ f. (refl, refl, λ _. (refl, refl, λ _. (refl, refl, λ _. (refl, refl, λ _. (bad-same p (args-good z w p l o n f .page-low), refl, λ _. tt))))))))))))
+      (same-refusal (rowsOf x n bytes (writeRows st w p l o n)) (rowsOf y n bytes (writeRows st w p l o n))
+      (refl, refl, λ _. (reads .short, refl, λ _. (refl, refl, λ _. (refl, refl, λ _. (refl, refl, λ _. (refl, refl, λ _. (refl, refl, λ _. (refl, refl, λ _. (refl, refl, λ _. tt)))))))))))
 
   pub write-same : (w p l o n : ℕ) (bytes : List ℕ) → writeOf st x w p l o n bytes ≡ writeOf st y w p l o n bytes
   unfolding writeOf changesNothing
   write-same w p l o n bytes =
       let none : List ℕ → Bool = idle w p l o n bytes in
       answered-same st (refusal (writeCallRows st x w p l o n bytes)) (refusal (writeCallRows st y w p l o n bytes)) (stores w (none (seenLine st x w p l))) (stores w (none (seenLine st y w p l)))
-      (asks w p l o n bytes (seenLine st x w p l) (pageFrame st x p)) (asks w p l o n bytes (seenLine st y w p l) (pageFrame st y p)) (write-row w p l o n bytes)
+      (asks w p l o n bytes (seenLine st x w p l)) (asks w p l o n bytes (seenLine st y w p l)) (write-row w p l o n bytes)
       (λ q.
       let a = write-args st x w p l o n bytes q in
       let line = reads .seen (write-first st x w p l o n bytes q .1 .1 .0) w p l (a .writer-low) (a .page-low) (a .line-low) in
-      (ap (λ (s : List ℕ). stores w (none s)) line, ap₂ (asks w p l o n bytes) line (reads .frame p (a .page-low))))
+      (ap (λ (s : List ℕ). stores w (none s)) line, ap (asks w p l o n bytes) line))
 
   -- the others read the image's length alone
   pub rest-same : (rows : List Row) (op : Op)
-      → asked (refusal (rowState st ∷ (ltb (length x) (imageLength z), 4) ∷ rowPending st ∷ rows)) st op (replicate 8 0) 0
-      ≡ asked (refusal (rowState st ∷ (ltb (length y) (imageLength z), 4) ∷ rowPending st ∷ rows)) st op (replicate 8 0) 0
-  rest-same rows op = ap (λ (s : Bool). asked (refusal (rowState st ∷ (s, 4) ∷ rowPending st ∷ rows)) st op (replicate 8 0) 0) (reads .short)
+      → asked (refusal (rowState st ∷ (ltb (length x) (imageLength z), 4) ∷ rowPending st ∷ rows)) st op (replicate 8 0)
+      ≡ asked (refusal (rowState st ∷ (ltb (length y) (imageLength z), 4) ∷ rowPending st ∷ rows)) st op (replicate 8 0)
+  rest-same rows op = ap (λ (s : Bool). asked (refusal (rowState st ∷ (s, 4) ∷ rowPending st ∷ rows)) st op (replicate 8 0)) (reads .short)
 
   pub withdraw-same : (w : ℕ) → withdrawOf st x w ≡ withdrawOf st y w
   unfolding withdrawOf
@@ -139,12 +133,8 @@ module _ (st : State) (x y : List ℕ) (reads : SameReads st x y) where
                         λ _. (
                           refl,
                           refl,
-                          λ _. (
-                            bad-same 0 (reads .some-page),
-                            refl,
-                            λ _.
-                                (ap (λ (line : List ℕ). amountBad ms i m (wordAt line 0) a) (meter-same q first (omega (arith, first-low i m (not-false (eventKnown i m) g)))), refl, λ _. (refl, refl, λ _. tt)),
-                          ),
+                          λ _.
+                              (ap (λ (line : List ℕ). amountBad ms i m (wordAt line 0) a) (meter-same q first (omega (arith, first-low i m (not-false (eventKnown i m) g)))), refl, λ _. (refl, refl, λ _. tt)),
                         ),
                       ),
                     ),
@@ -155,7 +145,7 @@ module _ (st : State) (x y : List ℕ) (reads : SameReads st x y) where
           ),
         ),
       ) in
-      answered-same st row (refusal (eventCallRows st y ms i m a)) (eventNeeds i) (eventNeeds i) (withLines st (Event i m a) (eventLine st x ms i m a) (eventSecond st x ms i m a) (pageFrame st x 0)) _ e
+      answered-same st row (refusal (eventCallRows st y ms i m a)) (eventNeeds i) (eventNeeds i) (withLines st (Event i m a) (eventLine st x ms i m a) (eventSecond st x ms i m a)) _ e
       (λ t.
       let rows = none-apply (eventCallRows st x ms i m a) (omega arith) t in
       let q = rows .1 .1 .0 in
@@ -164,8 +154,7 @@ module _ (st : State) (x y : List ℕ) (reads : SameReads st x y) where
       ap (λ (l : List ℕ). lineWords (merged l 0 8 (bytesOf 8 (firstNumber ms i m (wordAt l 0) a)))) (meter-same q first (omega (arith, first-low i m known))) in
       let second : eventSecond st x ms i m a ≡ eventSecond st y ms i m a =
       ap (λ (l : List ℕ). cond (movesCredit i) (lineWords (merged l 0 8 (bytesOf 8 (rolled ms own (wordAt l 0) a)))) (replicate 8 0)) (meter-same q own (omega (arith, own-range i m known .1))) in
-      let f = reads .frame 0 (reads .some-page) in
-      (refl, λ j. withLines st (Event i m a) (line j) (second j) (f j)))
+      (refl, λ j. withLines st (Event i m a) (line j) (second j)))
 
   -- ---- load
 
@@ -180,5 +169,5 @@ module _ (st : State) (x y : List ℕ) (reads : SameReads st x y) where
   load-same text =
       let e : refusal (loadRows st x text) ≡ refusal (loadRows st y text) =
       same-refusal (loadRows st x text) (loadRows st y text)
-      (refl, refl, λ _. (reads .short, refl, λ _. (refl, refl, λ q. (refl, refl, λ _. (refl, refl, λ _. (bad-same 0 (reads .some-page), refl, λ _. (high-same q (moduliIn text), refl, λ _. tt))))))) in
+      (refl, refl, λ _. (reads .short, refl, λ _. (refl, refl, λ q. (refl, refl, λ _. (refl, refl, λ _. (high-same q (moduliIn text), refl, λ _. tt)))))) in
       ap (λ (r : ℕ). record { number = r; moduli = cond (eqb r 0) (moduliIn text) (replicate 24 0) }) e

@@ -2,18 +2,15 @@
 use Prim.Native.Nat.{ℕ, _+_, _*_, _<_, _≤_}
 use mathlib.Core.List.{List}
 use mathlib.Core.Logic.{_⊎_, ⊎-elim}
-use mathlib.Core.Path.{_≡_, refl, sym, ap, _∙_, subst}
+use mathlib.Core.Path.{_≡_, sym, ap, _∙_, subst}
 use native.Mathlib.Omega.{arith}
 use lib.ListN.{length}
-use Rattle.bounded.proofs.Tests.{contradicts}
 use Rattle.layout.specs.declared.Sizes.{Sizes}
-use Rattle.layout.specs.Layout.{Legal, layoutWord, headWord, tailWord, countWord, entriesWord, pageWord, frameWord, imageLength}
+use Rattle.layout.specs.Layout.{Legal, layoutWord, headWord, tailWord, countWord, entriesWord, frameWord, imageLength}
 use Rattle.layout.proofs.LayoutLaws.{place-lt}
 use Rattle.words.specs.Words.{word, store}
 use Rattle.words.proofs.WordLaws.{word-store-other}
 use Rattle.journal.specs.Records.{position}
-use Rattle.replay.specs.declared.Table.{Table}
-use Rattle.replay.specs.Table.{slotOf}
 use Rattle.mount.specs.Mount.{sizesFrom}
 use Rattle.mount.proofs.View.{View, Read, header, wide, journal, slot, page, entry, tableWith, viewWith, body-view, wide-same}
 use Rattle.leftovers.proofs.Alike.{slotsOf, Stays}
@@ -54,10 +51,6 @@ module _ (img : List ℕ) (a x : ℕ) (z : Sizes) (sizes : sizesFrom (word img) 
       let t = kept tailWord (λ e. omega arith) (omega arith) in
       (λ i. tableWith (word after) (sizes-kept i) (h i) (t i)) ∙ sym (table-kept (word img headWord) (word img tailWord)) ∙ ap (λ (y : Sizes). tableWith (word img) y (word img headWord) (word img tailWord)) (sym sizes)
 
-  pub beyond-stays : Stays z img after
+  pub beyond-stays : Stays img after
   beyond-stays =
-      record {
-        table = slots-kept;
-        stored = λ p t. contradicts t refl;
-        kept = λ p low t none. (ap (λ (u : Table). slotOf z u p) (sym slots-kept) ∙ none, kept (pageWord p) (λ e. omega arith) (omega arith));
-      }
+      record { table = slots-kept }

@@ -31,10 +31,9 @@ use Rattle.refinement.specs.Reference.{Reference}
 use Rattle.refinement.proofs.Cases.{Invariant, standing-of}
 use Rattle.refinement.proofs.CaseSound.{call-sound}
 use Rattle.refinement.proofs.MountCall.{mount-viewed}
-use Rattle.refinement.proofs.ReadCall.{read-args}
 use Rattle.refinement.proofs.RecallCall.{row-is}
 use Rattle.refinement.proofs.Standing.{Standing}
-use Rattle.refinement.proofs.Viewed.{Viewed}
+use Rattle.refinement.proofs.Viewed.{Viewed, view-found}
 use Rattle.leftovers.specs.Leftovers.{Same}
 use Rattle.leftovers.proofs.Alike.{Alike}
 use Rattle.leftovers.proofs.OneStore.{shown-slots}
@@ -42,7 +41,7 @@ use Rattle.leftovers.proofs.AnyStore.{any-store}
 use Rattle.leftovers.proofs.Runs.{run-state, run-alike}
 use Rattle.leftovers.proofs.SameRows.{same-refusal}
 use Rattle.leftovers.proofs.SameReads.{SameReads, same-reads}
-use Rattle.leftovers.proofs.AskedSame.{bad-same, write-same, rest-same, withdraw-same, event-same, load-same}
+use Rattle.leftovers.proofs.AskedSame.{write-same, rest-same, withdraw-same, event-same, load-same}
 
 -- equal outcomes, over any images
 by-outcome : {o p : Outcome} {x y : List ℕ} → o ≡ p → Same (result o x) (result p y)
@@ -55,7 +54,7 @@ when-taken P row row′ a b c d e f g =
     (λ t. let u : eqb row′ 0 ≡ true = ap (λ (n : ℕ). eqb n 0) (sym e) ∙ t in rw (t, u) (f (eqb-true row 0 t)))
     (λ t. let u : eqb row′ 0 ≡ false = ap (λ (n : ℕ). eqb n 0) (sym e) ∙ t in rw (t, u) g)
 
-module _ {past past′ : List ℕ} (st : State) (x y : List ℕ) (b : Reference) (h : Invariant past (worldOf st x) b) (k : Invariant past′ (worldOf st y) b) (same : Alike (st .sizes) x y) where
+module _ {past past′ : List ℕ} (st : State) (x y : List ℕ) (b : Reference) (h : Invariant past (worldOf st x) b) (k : Invariant past′ (worldOf st y) b) (same : Alike x y) where
   abbrev z : Sizes
   z = st .sizes
 
@@ -78,7 +77,7 @@ module _ {past past′ : List ℕ} (st : State) (x y : List ℕ) (b : Reference)
   E = Y .viewed
 
   reads : SameReads st x y
-  reads = same-reads st x y b h k same
+  reads = same-reads st x y b h k
 
   -- ---- mount
 
@@ -92,15 +91,16 @@ module _ {past past′ : List ℕ} (st : State) (x y : List ℕ) (b : Reference)
       let e₂ = D .tail-same ∙ sym (E .tail-same) in
       let e₃ = sym (shown-slots x d (D .shows)) ∙ same .table ∙ shown-slots y f (E .shows) in
       let e₄ = D .count-same ∙ sym (E .count-same) in
+      let e₆ = view-found st x b D ∙ sym (view-found st y b E) in
       caseOn (eqb (d .count) 0)
       (λ t.
       let u : eqb (f .count) 0 ≡ true = ap (λ (n : ℕ). eqb n 0) (sym e₄) ∙ t in
-      rw (t, u) (λ i. quietState (e₀ i) (e₁ i) (e₂ i) (e₃ i)))
+      rw (t, u) (λ i. quietState (e₀ i) (e₁ i) (e₂ i) (e₃ i) (e₆ i)))
       (λ t.
       let u : eqb (f .count) 0 ≡ false = ap (λ (n : ℕ). eqb n 0) (sym e₄) ∙ t in
       let some : counted st ≡ 0 → ⊥ = λ q. eqb-false (d .count) 0 t (D .count-same ∙ q) in
       let e₅ = D .keys-same some ∙ sym (E .keys-same some) in
-      rw (t, u) (λ i. copyingState (e₀ i) (e₁ i) (e₂ i) (e₃ i) (e₄ i) (e₅ i)))
+      rw (t, u) (λ i. copyingState (e₀ i) (e₁ i) (e₂ i) (e₃ i) (e₆ i) (e₄ i) (e₅ i)))
 
   mount-same : Same (exec mount v) (exec mount u)
   unfolding exec
@@ -121,7 +121,7 @@ module _ {past past′ : List ℕ} (st : State) (x y : List ℕ) (b : Reference)
   read-same w p l target =
       let e : readRow st x w p l target ≡ readRow st y w p l target =
       same-refusal (readRows st x w p l target) (readRows st y w p l target)
-      (refl, refl, λ _. (reads .short, refl, λ _. (refl, refl, λ _. (refl, refl, λ a. (bad-same st x y reads p (read-args st w p l target a .1), refl, λ _. tt))))) in
+      (refl, refl, λ _. (reads .short, refl, λ _. (refl, refl, λ _. (refl, refl, λ _. tt)))) in
       record {
         number = e;
         stores = refl;
@@ -166,10 +166,10 @@ module _ {past past′ : List ℕ} (st : State) (x y : List ℕ) (b : Reference)
   unfolding stepOf stepped
   step-same = ap (λ (r : ℕ). answered r st 1 (stepped v .st)) row-same
 
-  step-alike : Alike z (stepBytes st x) (stepBytes st y)
+  step-alike : Alike (stepBytes st x) (stepBytes st y)
   unfolding stepBytes
   step-alike =
-      when-taken (Alike z) (stepRow st x) (stepRow st y) (stepped v .image) x (stepped u .image) y row-same
+      when-taken Alike (stepRow st x) (stepRow st y) (stepped v .image) x (stepped u .image) y row-same
       (λ e. any-store past past′ st x y b same h k (some-pending e)) same
 
   run-same : (n : ℕ) → runOf st x n ≡ runOf st y n
@@ -178,11 +178,11 @@ module _ {past past′ : List ℕ} (st : State) (x y : List ℕ) (b : Reference)
       let m : ℕ = min n (left st) in
       ap₂ (λ (r : ℕ) (s : State). answered r st m s) row-same (run-state m v u refl)
 
-  runs-alike : (n : ℕ) → Alike z (runBytes st x n) (runBytes st y n)
+  runs-alike : (n : ℕ) → Alike (runBytes st x n) (runBytes st y n)
   unfolding runBytes
   runs-alike n =
       let m : ℕ = min n (left st) in
-      when-taken (Alike z) (stepRow st x) (stepRow st y) (steppedBy m v .image) x (steppedBy m u .image) y row-same
+      when-taken Alike (stepRow st x) (stepRow st y) (steppedBy m v .image) x (steppedBy m u .image) y row-same
       (λ e. run-alike past past′ st x y b h k (some-pending e) same m (omega arith)) same
 
   -- ---- every call
@@ -210,7 +210,7 @@ module _ {past past′ : List ℕ} (st : State) (x y : List ℕ) (b : Reference)
       let e = load-same st x y reads text in
       record { number = ap (λ (o : Loading). o .number) e; stores = refl; target = ap (λ (o : Loading). o .moduli) e; state = refl }
 
-  pub call-alike : (c : Call) → Alike z (exec c v .world .image) (exec c u .world .image)
+  pub call-alike : (c : Call) → Alike (exec c v .world .image) (exec c u .world .image)
   unfolding exec
   call-alike mount = same
   call-alike checkpoint = same

@@ -16,10 +16,11 @@ use Rattle.layout.specs.Layout.{Legal, placeOf, recordWord, paddingWord, frameW
 use Rattle.entries.specs.Entries.{keyPage, keyLine}
 use Rattle.entries.proofs.EntryLaws.{page-of-key, line-of-key}
 use Rattle.layout.proofs.LayoutLaws.{place-lt}
-use Rattle.words.specs.Words.{Bytes, word}
+use Rattle.words.specs.Words.{Bytes}
 use Rattle.words.proofs.WordLaws.{word-store-other, length-store, bytes-store}
 use Rattle.journal.specs.Records.{position, liveCount}
 use Rattle.replay.specs.Table.{noPosition, lastIn, slotOf}
+use Rattle.state.specs.State.{ownFrame}
 use Rattle.mount.proofs.View.{slot-none}
 use Rattle.refinement.specs.Stores.{World}
 use Rattle.refinement.specs.Calls.{worldOf}
@@ -77,11 +78,11 @@ module _ (v : World) (g : Legal (v .st .sizes)) where
       (some-or-none (λ j. eqb (there j) (placeOf z q)) (liveCount z (v .st .head) (v .st .tail)))
 
   -- the committed copy of a line with an entry, or without one
-  copy-told : (a p m k : ℕ) → p < z .pages → m < 64 → k < 8 → a ≡ lineWord z (frameOf (word (v .image)) z (v .st .table) p m) m + k → Told a
+  copy-told : (a p m k : ℕ) → p < z .pages → m < 64 → k < 8 → a ≡ lineWord z (frameOf (ownFrame (v .st)) z (v .st .table) p m) m + k → Told a
   copy-told a p m k lp lm lk at =
       let keys = v .st .wide .keys in
       let n : ℕ = counted (v .st) in
-      let copy : ℕ → ℕ → ℕ = λ x y. lineWord z (frameOf (word (v .image)) z (v .st .table) x y) y in
+      let copy : ℕ → ℕ → ℕ = λ x y. lineWord z (frameOf (ownFrame (v .st)) z (v .st .table) x y) y in
       shown-by keys n p m
       (λ e le q found.
       let same : copy p m ≡ copiedWord v (getD keys e 0) = sym (ap₂ copy (ap keyPage found ∙ page-of-key p m lm) (ap keyLine found ∙ line-of-key p m lm)) in
@@ -93,7 +94,7 @@ module _ (v : World) (g : Legal (v .st .sizes)) where
       let i : ℕ = a - frameWord z in
       let f : ℕ = i / 512 in
       let m : ℕ = i % 512 / 8 in
-      let copy : ℕ → ℕ = λ p. frameOf (word (v .image)) z (v .st .table) p m in
+      let copy : ℕ → ℕ = λ p. frameOf (ownFrame (v .st)) z (v .st .table) p m in
       ⊎-elim
       (λ (x : (p : ℕ) × (p < z .pages) × (eqb (copy p) f ≡ true)).
       copy-told a (x .0) m (i % 8) (x .1) (omega arith) (omega arith) (omega (arith, eqb-true (copy (x .0)) f (x .2))))

@@ -9,7 +9,6 @@ use native.Mathlib.Omega.{arith}
 use lib.Dec.{ltb}
 use borrow.Author.Tests.{ltb-true, ltb-false}
 use Rattle.bounded.proofs.Tests.{caseOn}
-use Rattle.layout.specs.declared.Sizes.{Sizes}
 use Rattle.state.specs.State.{State}
 use Rattle.state.specs.declared.Op.{Op}
 use Rattle.state.specs.declared.Op.the-variants.{Idle, Write, Commit, Consolidate, Checkpoint, Event, Prepare, Confirm, Log, Copy, Format}
@@ -22,7 +21,6 @@ use Rattle.refinement.specs.Reference.{Reference, Task, idle, under, committing
 use Rattle.refinement.proofs.Between.{Between}
 use Rattle.refinement.proofs.CommitMid.{commit-mid}
 use Rattle.refinement.proofs.EventReady.{one-slot}
-use Rattle.refinement.proofs.EventRows.{first-sizes, lines-sizes}
 use Rattle.refinement.proofs.EventStores.{lines-eight}
 use Rattle.refinement.proofs.Invariant.{Doing}
 use Rattle.refinement.proofs.Moving.{Under, Stage, in-first, in-second, in-commit, Moving, commitAsked, firstReference, linesReference, firstTask, secondTask}
@@ -72,7 +70,7 @@ closing st op = withMade (commitAsked st (kindIn op) (meterIn op)) 4
 -- what the next store of it leaves
 record Leaving (st : State) (img : List ℕ) (op : Op) : Type 0 where
   left : st .pending .made < before op + 1
-  on : st .pending .made < before op → Stays (st .sizes) img (storeMade st img op (st .pending .made))
+  on : st .pending .made < before op → Stays img (storeMade st img op (st .pending .made))
   last : st .pending .made ≡ before op → Committed (closing st op) 1 img (storeMade st img op (st .pending .made))
 
 module _ (past : List ℕ) (st : State) (img : List ℕ) (b : Reference) (M : Moving past st img b) where
@@ -95,13 +93,12 @@ module _ (past : List ℕ) (st : State) (img : List ℕ) (b : Reference) (M : Mo
   event = Event (M .kind) (M .meter) (M .amount)
 
   -- a store of an operation of its transaction
-  part-stays : (s : State) (t : Task) (c : Reference) (j : ℕ) (U : Under past s img t c j) → s .sizes ≡ st .sizes → storeMade st img event n ≡ storeMade s img (s .pending .op) j
+  part-stays : (s : State) (t : Task) (c : Reference) (j : ℕ) (U : Under past s img t c j) → storeMade st img event n ≡ storeMade s img (s .pending .op) j
       → Mid past (withMade s j) img (withWork (under t (needs s (s .pending .op) - j)) c) (U .busy .durable) (s .pending .op) j
-      → Stays (st .sizes) img (storeMade st img event n)
-  part-stays s t c j U z e mid =
-      subst (λ (i : List ℕ). Stays (st .sizes) img i) (store-of s j img (s .pending .op) j ∙ sym e)
-      (subst (λ (y : Sizes). Stays y img (storeMade (withMade s j) img (s .pending .op) j)) z
-      (mid-stays past (withMade s j) img (withWork (under t (needs s (s .pending .op) - j)) c) (U .busy .durable) (s .pending .op) j mid))
+      → Stays img (storeMade st img event n)
+  part-stays s t c j U e mid =
+      subst (λ (i : List ℕ). Stays img i) (store-of s j img (s .pending .op) j ∙ sym e)
+      (mid-stays past (withMade s j) img (withWork (under t (needs s (s .pending .op) - j)) c) (U .busy .durable) (s .pending .op) j mid)
 
   part-leaves : Stage past st img base (M .moduli) k m a → Leaving st img event
   part-leaves (in-first j e U) =
@@ -110,7 +107,7 @@ module _ (past : List ℕ) (st : State) (img : List ℕ) (b : Reference) (M : Mo
         left = omega (arith, e, low, lines-eight k);
         on =
             λ _.
-            part-stays (firstAsked st k m) (firstTask (M .moduli) k m a base) base j U refl (store₁ past st img b M j e U)
+            part-stays (firstAsked st k m) (firstTask (M .moduli) k m a base) base j U (store₁ past st img b M j e U)
             (write-mid past (withMade (firstAsked st k m) j) img _ (U .busy) 1 0 (firstMeter k m) 0 8 refl j low);
         last = λ q. absurd (omega (arith, e, low, lines-eight k, q));
       }
@@ -121,20 +118,20 @@ module _ (past : List ℕ) (st : State) (img : List ℕ) (b : Reference) (M : Mo
         left = omega (arith, e, low, lines);
         on =
             λ _.
-            part-stays (secondAsked st k m) (secondTask (M .moduli) k m a base) (firstReference (M .moduli) k m a base) j U (first-sizes st k m) (store₂ past st img b M j u e U)
+            part-stays (secondAsked st k m) (secondTask (M .moduli) k m a base) (firstReference (M .moduli) k m a base) j U (store₂ past st img b M j u e U)
             (write-mid past (withMade (secondAsked st k m) j) img _ (U .busy) 1 0 (ownMeter k m) 0 8 refl j low);
         last = λ q. absurd (omega (arith, e, low, lines, q));
       }
   part-leaves (in-commit j e U) =
       let low : j < 5 = low₃ past st img b M j e U in
       let s : State = commitAsked st k m in
-      let one = one-slot (linesDone st k m) k m (st .pending .frame) (W past st img b M) in
+      let one = one-slot (linesDone st k m) k m (W past st img b M) in
       let same = store₃ past st img b M j e U in
       record {
         left = omega (arith, e, low);
         on =
             λ l.
-            part-stays s (committing 1) (linesReference (M .moduli) k m a base) j U (lines-sizes st k m) same
+            part-stays s (committing 1) (linesReference (M .moduli) k m a base) j U same
             (commit-mid past (withMade s j) img _ (U .busy) 1 refl j (omega (arith, e, l, one)));
         last =
             λ q.
@@ -149,7 +146,7 @@ module _ (past : List ℕ) (st : State) (img : List ℕ) (b : Reference) (M : Mo
 
 -- ---- in two images, of the same state
 
-module _ (past past′ : List ℕ) (st : State) (x y : List ℕ) (b : Reference) (same : Alike (st .sizes) x y) where
+module _ (past past′ : List ℕ) (st : State) (x y : List ℕ) (b : Reference) (same : Alike x y) where
   abbrev op : Op
   op = st .pending .op
 
@@ -157,22 +154,20 @@ module _ (past past′ : List ℕ) (st : State) (x y : List ℕ) (b : Reference)
   made = st .pending .made
 
   abbrev After : Type 0
-  After = Alike (st .sizes) (stepped (worldOf st x) .image) (stepped (worldOf st y) .image)
+  After = Alike (stepped (worldOf st x) .image) (stepped (worldOf st y) .image)
 
-  both-leave : Leaving st x op → Leaving st y op → Alike (st .sizes) (storeMade st x op made) (storeMade st y op made)
+  both-leave : Leaving st x op → Leaving st y op → Alike (storeMade st x op made) (storeMade st y op made)
   both-leave L R =
-      let sizes : linesDone st (kindIn op) (meterIn op) .sizes ≡ st .sizes = lines-sizes st (kindIn op) (meterIn op) in
       caseOn (ltb made (before op))
       (λ t. let l = ltb-true made (before op) t in alike-after (L .on l) (R .on l) same)
       (λ t.
       let q : made ≡ before op = omega (arith, L .left, ltb-false made (before op) t) in
-      subst (λ (z : Sizes). Alike z (storeMade st x op made) (storeMade st y op made)) sizes
-      (alike-after (L .last q) (R .last q) (subst (λ (z : Sizes). Alike z x y) (sym sizes) same)))
+      alike-after (L .last q) (R .last q) same)
 
   one-event : Moving past st x b → Moving past′ st y b → After
   one-event M N =
-      subst (λ (i : List ℕ). Alike (st .sizes) i (stepped (worldOf st y) .image)) (sym (stepped-image (worldOf st x)))
-      (subst (Alike (st .sizes) (storeMade st x op made)) (sym (stepped-image (worldOf st y))) (both-leave (event-leaves past st x b M) (event-leaves past′ st y b N)))
+      subst (λ (i : List ℕ). Alike i (stepped (worldOf st y) .image)) (sym (stepped-image (worldOf st x)))
+      (subst (Alike (storeMade st x op made)) (sym (stepped-image (worldOf st y))) (both-leave (event-leaves past st x b M) (event-leaves past′ st y b N)))
 
   -- whatever is pending
   pub narrow-store : Between past (worldOf st x) b → Between past′ (worldOf st y) b → isIdle op ≡ false → After

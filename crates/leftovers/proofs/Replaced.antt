@@ -4,12 +4,10 @@ use Prim.Native.Nat.{ℕ, _+_, _*_, _<_, _≤_}
 use mathlib.Core.List.{List}
 use mathlib.Core.Path.{_≡_, refl, sym, ap, ap₂, _∙_, subst}
 use native.Mathlib.Omega.{arith}
-use lib.Dec.{ltb}
 use lib.ListN.{length, getD}
 use borrow.Author.Tests.{lt-ltb, le-ltb}
-use Rattle.bounded.proofs.Tests.{caseOn}
 use Rattle.layout.specs.declared.Sizes.{Sizes}
-use Rattle.layout.specs.Layout.{Legal, frames, pageWord, lineWord, entryWord, imageWords}
+use Rattle.layout.specs.Layout.{Legal, frames, lineWord, entryWord, imageWords}
 use Rattle.layout.proofs.LayoutLaws.{place-lt, line-end, line-apart, entry-apart}
 use Rattle.words.specs.Words.{Bytes, word}
 use Rattle.image.specs.Lines.{lineBytes}
@@ -18,11 +16,11 @@ use Rattle.entries.specs.Entries.{keyOf, keyPage, keyLine, entryOf}
 use Rattle.entries.proofs.EntryLaws.{Right, entries-right, key-back, entry-before}
 use Rattle.journal.specs.Records.{position}
 use Rattle.replay.specs.declared.Table.{Table}
-use Rattle.replay.specs.Table.{slotOf}
-use Rattle.mount.proofs.View.{View, Shows, Read, header, wide, journal, slot, page, entry, slot-none, same-view}
-use Rattle.mount.proofs.Verdict.{Taken}
+use Rattle.replay.specs.Map.{pageFrames}
+use Rattle.mount.proofs.View.{View, Shows, Read, header, wide, journal, slot, page, entry, same-view}
+use Rattle.mount.proofs.Verdict.{Taken, entry-shown}
 use Rattle.mount.proofs.Dead.{Dead, dead-between, dead-line, dead-entry, dead-place, dead-slot, dead-page}
-use Rattle.state.specs.State.{Wide}
+use Rattle.state.specs.State.{Wide, ownFrame}
 use Rattle.state.specs.declared.Pending.{Pending}
 use Rattle.refinement.specs.Stores.{World}
 use Rattle.refinement.specs.Calls.{worldOf}
@@ -31,6 +29,7 @@ use Rattle.refinement.specs.Wide.{entryBytes, shownLine}
 use Rattle.refinement.specs.Beside.{counted}
 use Rattle.refinement.specs.Reference.{Reference}
 use Rattle.refinement.proofs.Copying.{shown-by}
+use Rattle.refinement.proofs.OwnFrames.{frame-is}
 use Rattle.refinement.proofs.Remount.{Shown, copy-low, one-page}
 use Rattle.leftovers.specs.Leftovers.{Leftover, journal-place, under-record, slotted-page, padding, other-copy, past-entries, under-entry, copiedWord, Replaced}
 use Rattle.leftovers.proofs.AfterMount.{foundState, Found}
@@ -61,11 +60,18 @@ module _ (img : List ℕ) (view : View) (shows : Shows img view) (taken : Taken 
   legal : Legal z
   legal = taken .legal
 
+  abbrev own : ℕ → ℕ
+  own = ownFrame (foundState view d w)
+
   abbrev copyOf : ℕ → ℕ → ℕ
-  copyOf p l = frameOf (word img) z t p l
+  copyOf p l = frameOf own z t p l
+
+  -- by the map it lies where it lies by the page table
+  own-same : (p l : ℕ) → p < z .pages → copyOf p l ≡ frameOf (pageFrames (word img)) z t p l
+  own-same = frame-is own (pageFrames (word img)) z t (entry-shown img view shows)
 
   low : (p l : ℕ) → p < z .pages → copyOf p l < frames z
-  low = copy-low img view shows taken
+  low p l m = subst (λ (f : ℕ). f < frames z) (sym (own-same p l m)) (copy-low img view shows taken p l m)
 
   right : Right z (view .keys) n
   right = entries-right z (view .keys) n (taken .entries)
@@ -109,7 +115,7 @@ module _ (img : List ℕ) (view : View) (shows : Shows img view) (taken : Taken 
       let i : ℕ = key e in
       let le : e < n = omega (arith, m, F .count) in
       let w = line-apart z (copyOf p l) l k (copyOf (keyPage i) (keyLine i)) (keyLine i) j ll (omega arith) lk lj (sym at ∙ q) in
-      let one : p ≡ keyPage i = one-page img view shows taken p l (keyPage i) (keyLine i) lp (key-page e le) (w .0) in
+      let one : p ≡ keyPage i = one-page img view shows taken p l (keyPage i) (keyLine i) lp (key-page e le) (sym (own-same p l lp) ∙ w .0 ∙ own-same (keyPage i) (keyLine i) (key-page e le)) in
       entry-before (view .keys) n (keyOf p l) e (omega (arith, le, bare)) (sym (F .keys e le) ∙ sym (key-back i) ∙ sym (ap₂ keyOf one (w .1)))
 
   -- or of an entry that is counted
@@ -133,11 +139,8 @@ module _ (img : List ℕ) (view : View) (shows : Shows img view) (taken : Taken 
     pub still-taken : Taken (length image) view
     still-taken = subst (λ (n : ℕ). Taken n view) (sym (R .as-long)) taken
 
-    page-same : (p : ℕ) → p < z .pages → slotOf z t p ≡ z .slots → word image (pageWord p) ≡ word img (pageWord p)
-    page-same p low n = read-kept (pageWord p) (page p low n refl)
-
-    pub frame-same : (p l : ℕ) → p < z .pages → frameOf (word image) z t p l ≡ copyOf p l
-    frame-same p l low = caseOn (ltb (slotOf z t p) (z .slots)) (λ e. rw e) (λ e. rw e (page-same p low (slot-none z t p e)))
+    pub frame-same : (p l : ℕ) → p < z .pages → frameOf (pageFrames (word image)) z t p l ≡ copyOf p l
+    frame-same p l low = sym (frame-is own (pageFrames (word image)) z t (entry-shown image view still-shows) p l low)
 
     -- the line of an entry that is counted, and that of a committed copy without one
     entry-same : Bytes img → (e : ℕ) → e < n → entryBytes image z e ≡ entryBytes img z e
@@ -147,7 +150,7 @@ module _ (img : List ℕ) (view : View) (shows : Shows img view) (taken : Taken 
         (λ k lk. R .kept (entryWord z e + 1 + k) (omega (arith, few, le)) (entry-left e (1 + k) le (omega arith) (entryWord z e + 1 + k) (omega arith)))
 
     copy-same : Bytes img → (p l : ℕ) → p < z .pages → l < 64 → entryOf (view .keys) n (keyOf p l) ≡ n
-        → lineBytes image z (frameOf (word image) z t p l) l ≡ lineBytes img z (copyOf p l) l
+        → lineBytes image z (frameOf (pageFrames (word image)) z t p l) l ≡ lineBytes img z (copyOf p l) l
     copy-same bytes p l lp ll bare =
         let f : ℕ = copyOf p l in
         let lf = low p l lp in
@@ -157,15 +160,11 @@ module _ (img : List ℕ) (view : View) (shows : Shows img view) (taken : Taken 
 
     pub still-shown : (b : Reference) → Bytes img → Shown img view b → Shown image view b
     still-shown b bytes c p l lp ll =
-        let same : shownLine image z t n (view .keys) p l ≡ shownLine img z t n (view .keys) p l =
+        let same : shownLine image (pageFrames (word image)) z t n (view .keys) p l ≡ shownLine img (pageFrames (word img)) z t n (view .keys) p l =
         shown-by (view .keys) n p l
         (λ e m q k. rw (q, lt-ltb e n m) (entry-same bytes e m))
-        (λ q. rw (q, le-ltb n n (omega arith)) (copy-same bytes p l lp ll q)) in
+        (λ q. rw (q, le-ltb n n (omega arith)) (copy-same bytes p l lp ll q ∙ ap (λ (f : ℕ). lineBytes img z f l) (own-same p l lp))) in
         same ∙ c p l lp ll
 
-    pub still-alike : Alike z img image
-    still-alike =
-        record {
-          table = ap (λ (u : View). u .table) (shows ∙ sym still-shows);
-          words = λ p low n. sym (page-same p low (ap (λ (u : View). slotOf z (u .table) p) (sym shows) ∙ n));
-        }
+    pub still-alike : Alike img image
+    still-alike = record { table = ap (λ (u : View). u .table) (shows ∙ sym still-shows) }

@@ -69,14 +69,14 @@ module _ (past : List ℕ) (st : State) (img : List ℕ) (b : Reference) (h : In
   pub image-on : steppedBy (suc n) (worldOf st img) .image ≡ stepped (worldOf on image) .image
   image-on = ap (λ (w : World). w .image) (run-step n (worldOf st img)) ∙ ap (λ (w : World). stepped w .image) world-on
 
-module _ (past past′ : List ℕ) (st : State) (x y : List ℕ) (b : Reference) (h : Invariant past (worldOf st x) b) (k : Invariant past′ (worldOf st y) b) (e : isIdle (st .pending .op) ≡ false) (same : Alike (st .sizes) x y) where
-  pub run-alike : (n : ℕ) → n ≤ left st → Alike (st .sizes) (steppedBy n (worldOf st x) .image) (steppedBy n (worldOf st y) .image)
+module _ (past past′ : List ℕ) (st : State) (x y : List ℕ) (b : Reference) (h : Invariant past (worldOf st x) b) (k : Invariant past′ (worldOf st y) b) (e : isIdle (st .pending .op) ≡ false) (same : Alike x y) where
+  pub run-alike : (n : ℕ) → n ≤ left st → Alike (steppedBy n (worldOf st x) .image) (steppedBy n (worldOf st y) .image)
   run-alike zero l =
-      subst (λ (v : World). Alike (st .sizes) (v .image) (steppedBy 0 (worldOf st y) .image)) (sym (run-none (worldOf st x)))
-      (subst (λ (v : World). Alike (st .sizes) x (v .image)) (sym (run-none (worldOf st y))) same)
+      subst (λ (v : World). Alike (v .image) (steppedBy 0 (worldOf st y) .image)) (sym (run-none (worldOf st x)))
+      (subst (λ (v : World). Alike x (v .image)) (sym (run-none (worldOf st y))) same)
   run-alike (suc n) l =
       let one =
       any-store past past′ (withMade st (st .pending .made + n)) (steppedBy n (worldOf st x) .image) (steppedBy n (worldOf st y) .image) (advances n (b .work) b) (run-alike n (omega arith))
       (invariant-on past st x b h e n l) (invariant-on past′ st y b k e n l) e in
-      subst (λ (i : List ℕ). Alike (st .sizes) i (steppedBy (suc n) (worldOf st y) .image)) (sym (image-on past st x b h e n l))
-      (subst (λ (i : List ℕ). Alike (st .sizes) (stepped (worldOf (withMade st (st .pending .made + n)) (steppedBy n (worldOf st x) .image)) .image) i) (sym (image-on past′ st y b k e n l)) one)
+      subst (λ (i : List ℕ). Alike i (steppedBy (suc n) (worldOf st y) .image)) (sym (image-on past st x b h e n l))
+      (subst (λ (i : List ℕ). Alike (stepped (worldOf (withMade st (st .pending .made + n)) (steppedBy n (worldOf st x) .image)) .image) i) (sym (image-on past′ st y b k e n l)) one)

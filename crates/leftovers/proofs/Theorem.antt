@@ -8,7 +8,6 @@ use lib.Dec.{eqb}
 use lib.ListN.{length, drop}
 use borrow.Author.Tests.{eqb-true, eqb-false}
 use Rattle.bounded.proofs.Tests.{caseOn}
-use Rattle.layout.specs.declared.Sizes.{Sizes}
 use Rattle.layout.specs.Layout.{imageLength}
 use Rattle.words.specs.Words.{Bytes}
 use Rattle.state.specs.State.{State, Wide}
@@ -32,7 +31,7 @@ use Rattle.leftovers.proofs.CallSame.{call-same, call-alike}
 use Rattle.leftovers.proofs.Replaced.{still-shows, still-taken, still-shown, still-alike}
 
 same-from : {past past′ : List ℕ} (calls : List Call) → AllLent calls → (st : State) (x y : List ℕ) (b : Reference)
-    → Invariant past (worldOf st x) b → Invariant past′ (worldOf st y) b → Alike (st .sizes) x y → SameFrom calls (worldOf st x) (worldOf st y)
+    → Invariant past (worldOf st x) b → Invariant past′ (worldOf st y) b → Alike x y → SameFrom calls (worldOf st x) (worldOf st y)
 same-from [] lent st x y b h k a = tt
 same-from {past = past} {past′ = past′} (c ∷ cs) lent st x y b h k a =
     let d : Result = exec c (worldOf st x) in
@@ -46,7 +45,7 @@ same-from {past = past} {past′ = past′} (c ∷ cs) lent st x y b h k a =
     (subst (λ (n : ℕ). Invariant past′ (e .world) (turn c (e .number) n b)) (sym (s .stores)) (call-sound c (lent .0) (worldOf st y) b k .related))) in
     let rest =
     same-from cs (lent .1) (d .world .st) (d .world .image) (e .world .image) next (m .related) other
-    (subst (λ (z : Sizes). Alike z (d .world .image) (e .world .image)) (sym (m .sizes)) (call-alike st x y b h k a c)) in
+    (call-alike st x y b h k a c) in
     (s, subst (λ (t : State). SameFrom cs (d .world) (worldOf t (e .world .image))) (s .state) rest)
 
 module _ {past : List ℕ} (w : World) (b : Reference) (s : Viewed past (w .st) (w .image) b) (d : Wide) (p : Pending) (F : Found (s .view) d p) where

@@ -12,15 +12,17 @@ use Rattle.fresh.specs.Fresh.{freshWords, formatted, freshTable}
 use Rattle.image.specs.Lines.{mergeChanges}
 use Rattle.journal.specs.Records.{liveRecord, recordsOk}
 use Rattle.replay.specs.Table.{tableFrom, replay, frameNames}
+use Rattle.replay.specs.Map.{mapFrom}
+use Rattle.state.specs.State.{ownFrame}
 use Rattle.mount.specs.Mount.{mountRead, mountOf}
 use Rattle.masks.specs.Lines.{inMask, withLine, exclusiveOr, disjoint, others}
 use Rattle.entries.specs.Entries.{keysFrom, entriesOk}
 use Rattle.state.specs.Wide.{wideOk}
 use Rattle.state.specs.Held.{heldOk, othersHold, someHold, heldSlots}
 use Rattle.operations.specs.Operations.{recordedSlots, needs}
-use Rattle.state.specs.Slots.{freeAfter, frameOfSlot, framesApart}
+use Rattle.state.specs.Slots.{freeAfter}
 use Rattle.validity.specs.Validity.{slotsOk, lastsOk, preparedOk, pendingOk, stateOk}
-use Rattle.refinement.specs.Frames.{pageFrame, seenFrame}
+use Rattle.refinement.specs.Frames.{seenFrame}
 use Rattle.refinement.specs.Stores.{stepped, steppedBy}
 use Rattle.refinement.specs.Write.{writeSlot}
 use Rattle.refinement.specs.Calls.{beginOf, changesNothing, writeOf, runOf, runBytes}
@@ -43,14 +45,14 @@ record Computed : Type 0 where
   was : word (mounted .image) place ≡ 165
   is : word other place ≡ 7
   sizes-are : mounted .st .sizes ≡ sizes
-  home : frameOf (word (mounted .image)) (mounted .st .sizes) (mounted .st .table) 0 0 ≡ 0
+  home : frameOf (ownFrame (mounted .st)) (mounted .st .sizes) (mounted .st .table) 0 0 ≡ 0
 
 computed : Computed
-unfolding allBelow someBelow firstBelow one countBelow those upTo countOf eachOnce tab filled leOf bytesOf part over wordAt putWord wordsAt flat freshWords formatted freshTable liveRecord recordsOk tableFrom replay frameNames keysFrom entriesOk mountRead mountOf inMask withLine exclusiveOr disjoint others wideOk heldOk othersHold someHold heldSlots recordedSlots needs freeAfter frameOfSlot framesApart slotsOk lastsOk preparedOk pendingOk stateOk pageFrame seenFrame stepped steppedBy writeSlot beginOf changesNothing writeOf runOf runBytes formatCall mountCall exec after buffer fresh mergeChanges mounted
+unfolding mapFrom allBelow someBelow firstBelow one countBelow those upTo countOf eachOnce tab filled leOf bytesOf part over wordAt putWord wordsAt flat freshWords formatted freshTable liveRecord recordsOk tableFrom replay frameNames keysFrom entriesOk mountRead mountOf inMask withLine exclusiveOr disjoint others wideOk heldOk othersHold someHold heldSlots recordedSlots needs freeAfter slotsOk lastsOk preparedOk pendingOk stateOk seenFrame stepped steppedBy writeSlot beginOf changesNothing writeOf runOf runBytes formatCall mountCall exec after buffer fresh mergeChanges mounted
 computed = record { was = refl; is = refl; sizes-are = refl; home = refl }
 
 -- no page but 0, whose committed line is in frame 0
-apart : (p : ℕ) → p < mounted .st .sizes .pages → frameOf (word (mounted .image)) (mounted .st .sizes) (mounted .st .table) p 0 ≡ 1 → ⊥
+apart : (p : ℕ) → p < mounted .st .sizes .pages → frameOf (ownFrame (mounted .st)) (mounted .st .sizes) (mounted .st .table) p 0 ≡ 1 → ⊥
 apart zero l e = omega (arith, computed .home)
 apart (suc p) l e = omega (arith, ap (λ (z : Sizes). z .pages) (computed .sizes-are))
 

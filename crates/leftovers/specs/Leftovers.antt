@@ -11,6 +11,7 @@ use Rattle.layout.specs.Layout.{frames, placeOf, pageWord, slotWord, recordWord
 use Rattle.entries.specs.Entries.{keyOf, keyPage, keyLine, entryOf}
 use Rattle.journal.specs.Records.{position, liveCount}
 use Rattle.replay.specs.Table.{noPosition, lastIn, slotOf}
+use Rattle.state.specs.State.{ownFrame}
 use Rattle.refinement.specs.Stores.{World}
 use Rattle.refinement.specs.Calls.{worldOf}
 use Rattle.refinement.specs.Recall.{frameOf}
@@ -21,7 +22,7 @@ use Rattle.refinement.specs.Beside.{Always, counted}
 -- the first word of the committed copy of the line with this key
 abbrev pub copiedWord : World → ℕ → ℕ
 copiedWord v key =
-    lineWord (v .st .sizes) (frameOf (word (v .image)) (v .st .sizes) (v .st .table) (keyPage key) (keyLine key)) (keyLine key)
+    lineWord (v .st .sizes) (frameOf (ownFrame (v .st)) (v .st .sizes) (v .st .table) (keyPage key) (keyLine key)) (keyLine key)
 
 -- word a of the image is left over, v being a world right after a mount: its state has the header and the slots after replay
 pub data Leftover (v : World) (a : ℕ) : Type 0 where
@@ -42,7 +43,7 @@ pub data Leftover (v : World) (a : ℕ) : Type 0 where
   padding : paddingWord (v .st .sizes) ≤ a → a < frameWord (v .st .sizes) → Leftover v a
   -- one of the eight words of line l in frame f, if no page has its committed copy of line l there
   other-copy : (f l k : ℕ) → f < frames (v .st .sizes) → l < 64 → k < 8
-      → ((p : ℕ) → p < v .st .sizes .pages → frameOf (word (v .image)) (v .st .sizes) (v .st .table) p l ≡ f → ⊥)
+      → ((p : ℕ) → p < v .st .sizes .pages → frameOf (ownFrame (v .st)) (v .st .sizes) (v .st .table) p l ≡ f → ⊥)
       → a ≡ lineWord (v .st .sizes) f l + k → Leftover v a
   -- one of the nine words of an entry that is not counted (document 02, L14)
   past-entries : (e k : ℕ) → counted (v .st) ≤ e → e < v .st .sizes .entries → k < 9 → a ≡ entryWord (v .st .sizes) e + k → Leftover v a
@@ -91,7 +92,7 @@ pub data Needed (v : World) (a : ℕ) : Type 0 where
   page-table : (p : ℕ) → p < v .st .sizes .pages → slotOf (v .st .sizes) (v .st .table) p ≡ v .st .sizes .slots → a ≡ pageWord p → Needed v a
   counted-entry : (e k : ℕ) → e < counted (v .st) → k < 9 → a ≡ entryWord (v .st .sizes) e + k → Needed v a
   committed-copy : (p l k : ℕ) → p < v .st .sizes .pages → l < 64 → k < 8 → entryOf (v .st .wide .keys) (counted (v .st)) (keyOf p l) ≡ counted (v .st)
-      → a ≡ lineWord (v .st .sizes) (frameOf (word (v .image)) (v .st .sizes) (v .st .table) p l) l + k → Needed v a
+      → a ≡ lineWord (v .st .sizes) (frameOf (ownFrame (v .st)) (v .st .sizes) (v .st .table) p l) l + k → Needed v a
 
 -- every word of the image is left over or needed
 abbrev pub EveryWord : Type 0

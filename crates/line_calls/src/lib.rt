@@ -5,6 +5,7 @@ ghost use lib.ListN.{length};
 ghost use Rattle.line_calls.specs.Calls.{lineSaid, readInto, readSaid, recallInto, recallSaid};
 ghost use Rattle.state_words.specs.Decoded.{decoded};
 use answers;
+use state_words::Words;
 use text::Line;
 use workbench::Said;
 
@@ -20,7 +21,7 @@ fn said(number: usize, target: &[u8]) -> Said
 }
 
 // A read's answer, or the hash of the 64 bytes.
-fn read_into(image: &[u8], words: &[u64; 256], line: Line, target: &mut [u8]) -> Said
+fn read_into(image: &[u8], words: &Words, line: Line, target: &mut [u8]) -> Said
     ensures { λ r. ⌜ r ≡ readInto (decoded (now (words .entry))) (now (image .entry)) line (now (target .entry)) ⌝ }
 {
     let answer = call_read::read(
@@ -34,7 +35,7 @@ fn read_into(image: &[u8], words: &[u64; 256], line: Line, target: &mut [u8]) ->
     said(answers::number_of(answer), target)
 }
 
-pub fn read(image: &[u8], words: &[u64; 256], line: Line) -> Said
+pub fn read(image: &[u8], words: &Words, line: Line) -> Said
     ensures { λ r. ⌜ r ≡ readSaid (decoded (now (words .entry))) (now (image .entry)) line ⌝ }
 {
     let t = line.numbers[3] as usize;

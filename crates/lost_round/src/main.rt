@@ -5,6 +5,8 @@ use answers::Answer;
 use call_write::Span;
 use layout::Sizes;
 use op_stores::Until;
+use state_words::WORD_COUNT;
+use state_words::Words;
 
 // A call's name and its number: 0 is taken.
 fn show(name: &[u8], a: Answer) {
@@ -25,7 +27,7 @@ fn first_byte() -> Span {
 }
 
 // The wide round, cut: its commit's first store has landed.
-fn cut_round(image: &mut [u8; 12552], words: &mut [u64; 256]) {
+fn cut_round(image: &mut [u8; 12552], words: &mut Words) {
     let z = Sizes {
         pages: 2,
         slots: 1,
@@ -47,7 +49,7 @@ fn cut_round(image: &mut [u8; 12552], words: &mut [u64; 256]) {
 }
 
 // Every call but step and run, while the copying is pending.
-fn meet_the_copying(image: &mut [u8; 12552], words: &mut [u64; 256]) {
+fn meet_the_copying(image: &mut [u8; 12552], words: &mut Words) {
     let mut line = [0u8; 64];
     let moduli = [0u64; 24];
     show(b"begin", call_begin::begin(words, 0));
@@ -90,7 +92,7 @@ fn meet_the_copying(image: &mut [u8; 12552], words: &mut [u64; 256]) {
 }
 
 // The calls go on once the copying has been run.
-fn go_on(image: &mut [u8; 12552], words: &mut [u64; 256]) {
+fn go_on(image: &mut [u8; 12552], words: &mut Words) {
     let mut line = [0u8; 64];
     show(b"run", call_step::run(image, words, 1000));
     show(b"begin", call_begin::begin(words, 0));
@@ -108,7 +110,7 @@ fn go_on(image: &mut [u8; 12552], words: &mut [u64; 256]) {
 
 fn main() {
     let mut image = [0u8; 12552];
-    let mut words = [0u64; 256];
+    let mut words = [0u64; WORD_COUNT];
     cut_round(&mut image, &mut words);
     meet_the_copying(&mut image, &mut words);
     go_on(&mut image, &mut words);

@@ -116,6 +116,13 @@ in-ext (suc k) a b h l f =
     let lows : a % 2 ≡ b % 2 = sym (in-low a) ∙ ap one (f 0 (omega arith)) ∙ in-low b in
     omega arith
 
+-- no line from k on is in a mask below 2 ^ k
+pub in-past : (k m i : ℕ) → m < 2 ^ k → inMask m (k + i) ≡ false
+in-past zero m i h = let e : m ≡ 0 = omega arith in ap (λ (x : ℕ). inMask x (0 + i)) e ∙ in-none (0 + i)
+in-past (suc k) m i h =
+    let e : suc k + i ≡ suc (k + i) = omega arith in
+    ap (inMask m) e ∙ in-suc m (k + i) ∙ in-past k (m / 2) i (half-lt k h)
+
 -- all ones less m has the lines that m has not
 pub in-complement : (k m i : ℕ) → m < 2 ^ k → i < k → inMask (2 ^ k - 1 - m) i ≡ not (inMask m i)
 in-complement zero m i h p = absurd (omega arith)

@@ -3,6 +3,8 @@
 // the meters, and credit.
 mod play;
 
+use state_words::WORD_COUNT;
+
 const HALF: usize = 500;
 
 fn number(v: u64, end: &[u8]) {
@@ -12,7 +14,7 @@ fn number(v: u64, end: &[u8]) {
 
 fn main() {
     let mut image = [0u8; 16640];
-    let mut words = [0u64; 256];
+    let mut words = [0u64; WORD_COUNT];
     let fresh = play::fresh(&mut image, &mut words);
     let first = play::events(&mut image, &mut words, fresh, HALF);
     let loaded = play::with_venue(&image, &words, first);

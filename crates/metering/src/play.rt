@@ -4,6 +4,7 @@ ghost use Prim.Native.Nat.{_+_, _*_, _%_};
 use answers::number_of;
 use layout::Sizes;
 use op_stores::Until;
+use state_words::Words;
 
 // A venue's moduli.
 const VENUE: [u8; 251] =
@@ -46,7 +47,7 @@ fn amount_of(drawn: u64) -> u64 {
 }
 
 // Makes at most k stores; where more are needed, power goes.
-fn run_or_cut(image: &mut [u8; 16640], words: &mut [u64; 256], k: usize, needed: usize) {
+fn run_or_cut(image: &mut [u8; 16640], words: &mut Words, k: usize, needed: usize) {
     call_step::run(image, words, k);
     if k < needed {
         call_mount::mount(image, words);
@@ -56,7 +57,7 @@ fn run_or_cut(image: &mut [u8; 16640], words: &mut [u64; 256], k: usize, needed:
 // Asks for one event, and gives the answer's number. Where the journal is full, a checkpoint follows.
 fn ask(
     image: &mut [u8; 16640],
-    words: &mut [u64; 256],
+    words: &mut Words,
     kind: usize,
     meter: usize,
     amount: u64,
@@ -77,7 +78,7 @@ fn ask(
 }
 
 // One turn: kind 0 to 6, meter 0 to 25, an amount, and the stores allowed, 0 to 43.
-fn turn(image: &mut [u8; 16640], words: &mut [u64; 256], game: Game) -> Game {
+fn turn(image: &mut [u8; 16640], words: &mut Words, game: Game) -> Game {
     let a = drawn(game.seed);
     let b = drawn(a);
     let c = drawn(b);
@@ -95,7 +96,7 @@ fn turn(image: &mut [u8; 16640], words: &mut [u64; 256], game: Game) -> Game {
 }
 
 // A fresh store, with the fixed moduli.
-pub fn fresh(image: &mut [u8; 16640], words: &mut [u64; 256]) -> Game {
+pub fn fresh(image: &mut [u8; 16640], words: &mut Words) -> Game {
     call_mount::format_whole(
         image,
         words,
@@ -115,7 +116,7 @@ pub fn fresh(image: &mut [u8; 16640], words: &mut [u64; 256]) -> Game {
 }
 
 // The moduli of a text loaded, the ones before where the load is refused, and its answer in the checksum.
-fn with_text(image: &[u8; 16640], words: &[u64; 256], game: Game, text: &[u8]) -> Game {
+fn with_text(image: &[u8; 16640], words: &Words, game: Game, text: &[u8]) -> Game {
     let loaded = call_load::load(image, words, text);
     let answer = loaded.answer;
     let number = number_of(answer) as u64;
@@ -137,7 +138,7 @@ fn with_text(image: &[u8; 16640], words: &[u64; 256], game: Game, text: &[u8]) -
 }
 
 // Texts of a wrong count and a wrong range are turned back, then moduli that the meters have outgrown; a venue's are taken.
-pub fn with_venue(image: &[u8; 16640], words: &[u64; 256], game: Game) -> Game {
+pub fn with_venue(image: &[u8; 16640], words: &Words, game: Game) -> Game {
     let a = with_text(image, words, game, b"0,100\n");
     let b = with_text(image, words, a, b"0,99\n1,x");
     let c = with_text(image, words, b, &SMALL);
@@ -145,7 +146,7 @@ pub fn with_venue(image: &[u8; 16640], words: &[u64; 256], game: Game) -> Game {
 }
 
 // The game after n events more.
-pub fn events(image: &mut [u8; 16640], words: &mut [u64; 256], game: Game, n: usize) -> Game {
+pub fn events(image: &mut [u8; 16640], words: &mut Words, game: Game, n: usize) -> Game {
     let mut game = game;
     let mut i = 0;
     while i < n {
@@ -156,14 +157,14 @@ pub fn events(image: &mut [u8; 16640], words: &mut [u64; 256], game: Game, n: us
 }
 
 // The stored number of meter m.
-pub fn meter(image: &[u8; 16640], words: &[u64; 256], m: usize) -> u64 {
+pub fn meter(image: &[u8; 16640], words: &Words, m: usize) -> u64 {
     let mut line = [0u8; 64];
     call_read::read(image, words, 0, 0, m, &mut line);
     image_words::read_word(&line, 0)
 }
 
 // The checksum with the 24 meters.
-pub fn folded(image: &[u8; 16640], words: &[u64; 256], sum: u64) -> u64 {
+pub fn folded(image: &[u8; 16640], words: &Words, sum: u64) -> u64 {
     let mut sum = sum;
     let mut m = 0;
     while m < 24 {

@@ -17,6 +17,7 @@ use Rattle.entries.specs.Entries.{keysFrom}
 use Rattle.journal.specs.declared.Record.{Record}
 use Rattle.journal.specs.Records.{position, liveCount, recordFrom, wordOfRecord, liveRecord, recordsOk}
 use Rattle.replay.specs.Table.{tableFrom, replay, slotsShaped, pagesApart, homeOf}
+use Rattle.replay.specs.Map.{pageFrames}
 use Rattle.journal.proofs.Ring.{Positions, pos-lt, pos-after, head-of, live-more, positions-more}
 use Rattle.journal.proofs.SlotWords.{record-back, shaped-fits}
 use Rattle.replay.proofs.Latest.{replay-ext, replay-more}
@@ -35,7 +36,7 @@ appended r v n new =
       tail = v .tail;
       records = v .records ++ tab n new;
       table = replay (v .sizes) (v .head) n new (v .table);
-      homes = tab (v .sizes .pages) (homeOf r (v .sizes) (replay (v .sizes) (v .head) n new (v .table)));
+      homes = tab (v .sizes .pages) (homeOf (pageFrames r) (v .sizes) (replay (v .sizes) (v .head) n new (v .table)));
       count = v .count;
       keys = v .keys;
     }
@@ -73,7 +74,7 @@ module _ (r : ℕ → ℕ) (z : Sizes) (layout head tail count n : ℕ) (new : �
       ∙ replay-more z tail m n e (tableFrom r z)
       ∙ ap (λ (q : ℕ). replay z q n (λ j. e (m + j)) (tableWith r z head tail)) (head-of z (ok .legal) head tail (ok .positions .head-low) (ok .positions .tail-low))
       ∙ replay-ext z head n (λ j. e (m + j)) new (tableWith r z head tail) (new-record landed) in
-      λ i. record { sizes = z; layout = layout; head = position z head n; tail = tail; records = e₁ i; table = e₂ i; homes = tab (z .pages) (homeOf r z (e₂ i)); count = count; keys = keysFrom r z count }
+      λ i. record { sizes = z; layout = layout; head = position z head n; tail = tail; records = e₁ i; table = e₂ i; homes = tab (z .pages) (homeOf (pageFrames r) z (e₂ i)); count = count; keys = keysFrom r z count }
 
 module _ (img : List ℕ) (v : View) (shows : Shows img v) (n : ℕ) (new : ℕ → Record) (ok : Appendable v n new) where
   -- after the store to head

@@ -19,6 +19,7 @@ use Rattle.replay.specs.declared.Table.{Table}
 use Rattle.journal.specs.Slots.{slotFrom, wordOfSlot}
 use Rattle.journal.specs.Records.{liveCount, liveRecord, recordsOk}
 use Rattle.replay.specs.Table.{noPosition, slotIn, lastIn, emptyTable, tableFrom, slotsOfArrays, homeOf}
+use Rattle.replay.specs.Map.{pageFrames}
 use Rattle.journal.proofs.Ring.{live-none, positions-none}
 use Rattle.journal.proofs.SlotWords.{slot-back}
 use Rattle.replay.proofs.Tables.{Sixteen, table-ext, sixteen-from, from-slot, from-past, from-last, empty-last}
@@ -88,9 +89,9 @@ module _ (img : List ℕ) (v : View) (shows : Shows img v) (legal : Legal (v .si
         from-past (word img) z s l ∙ sym (past-kept s l)))
         (λ s m. from-last (word img) z s ∙ sym (empty-last s))
 
-    homes-kept : tab (v .sizes .pages) (homeOf (word img) (v .sizes) (unrecorded (v .table))) ≡ v .homes
+    homes-kept : tab (v .sizes .pages) (homeOf (pageFrames (word img)) (v .sizes) (unrecorded (v .table))) ≡ v .homes
     homes-kept =
-        ap (λ (t : Table). tab (v .sizes .pages) (homeOf (word img) (v .sizes) t)) (table-shown img v shows)
+        ap (λ (t : Table). tab (v .sizes .pages) (homeOf (pageFrames (word img)) (v .sizes) t)) (table-shown img v shows)
         ∙ sym (ap (λ (u : View). u .homes) (shown img v shows))
 
     -- after the store to tail

@@ -17,6 +17,7 @@ use Rattle.words.proofs.WordLaws.{word-store, word-store-other}
 use Rattle.replay.specs.declared.Table.{Table}
 use Rattle.journal.specs.Records.{liveCount, liveRecord}
 use Rattle.replay.specs.Table.{tableFrom, replay, homeOf}
+use Rattle.replay.specs.Map.{pageFrames}
 use Rattle.entries.specs.Entries.{keysFrom}
 use Rattle.mount.specs.Mount.{wideWord, sizesFrom, countFrom}
 use Rattle.journal.proofs.Ring.{live-none}
@@ -24,13 +25,13 @@ use Rattle.mount.proofs.View.{View, tableWith, viewWith, Shows, body-vi
 
 -- no record is live from a position to itself
 pub none-live : (r : ℕ → ℕ) (z : Sizes) (layout q count : ℕ) (t : Table) → tableFrom r z ≡ t
-    → viewWith r z layout q q count ≡ record { sizes = z; layout = layout; head = q; tail = q; records = []; table = t; homes = tab (z .pages) (homeOf r z t); count = count; keys = keysFrom r z count }
+    → viewWith r z layout q q count ≡ record { sizes = z; layout = layout; head = q; tail = q; records = []; table = t; homes = tab (z .pages) (homeOf (pageFrames r) z t); count = count; keys = keysFrom r z count }
 unfolding replay upTo tab
 none-live r z layout q count t e =
     let n : liveCount z q q ≡ 0 = live-none z q in
     let e₁ : tab (liveCount z q q) (liveRecord r z q) ≡ [] = ap (λ (k : ℕ). tab k (liveRecord r z q)) n in
     let e₂ : tableWith r z q q ≡ t = ap (λ (k : ℕ). replay z q k (liveRecord r z q) (tableFrom r z)) n ∙ e in
-    λ i. record { sizes = z; layout = layout; head = q; tail = q; records = e₁ i; table = e₂ i; homes = tab (z .pages) (homeOf r z (e₂ i)); count = count; keys = keysFrom r z count }
+    λ i. record { sizes = z; layout = layout; head = q; tail = q; records = e₁ i; table = e₂ i; homes = tab (z .pages) (homeOf (pageFrames r) z (e₂ i)); count = count; keys = keysFrom r z count }
 
 module _ (img : List ℕ) (v : View) (shows : Shows img v) (x : ℕ) (low : x < 2 ^ 64) where
   -- a store to word 4, 5 or 6 leaves the sizes, the layout and all that stands past the header

@@ -16,11 +16,11 @@ use Rattle.layout.specs.Layout.{headWord, tailWord}
 use Rattle.words.specs.Words.{word}
 use Rattle.journal.specs.declared.Record.{Record}
 use Rattle.replay.specs.declared.Table.{Table}
-use Rattle.mount.specs.declared.Mounted.{Mounted}
+use Rattle.mount.specs.declared.Judged.{Judged}
 use Rattle.journal.specs.Records.{position, liveCount, positionsOk, liveRecord, recordRight, recordOk, recordsOk}
 use Rattle.replay.specs.Table.{tableFrom, replay}
 use Rattle.entries.specs.Entries.{keysFrom, entriesOk}
-use Rattle.mount.specs.Mount.{sizesFrom, liveFrom, tableAfter, countFrom, keysAfter, mountRows, turnedBack, found, mountRead, mountOf}
+use Rattle.mount.specs.Mount.{sizesFrom, liveFrom, tableAfter, countFrom, keysAfter, mountRows, turnedBack, found, mountRead, mountOf, judged}
 
 -- ---- any table of refusals
 
@@ -36,7 +36,7 @@ numbered-at (r ∷ rs) zero l n = n .0
 numbered-at (r ∷ rs) (suc k) l n = numbered-at rs k (le-of-suc-le-suc l) (n .1)
 
 -- row 0, and what is found
-abbrev taken : Sizes → ℕ → ℕ → Table → ℕ → List ℕ → Mounted
+abbrev taken : Sizes → ℕ → ℕ → Table → ℕ → List ℕ → Judged
 taken z head tail t count keys = record { row = 0; sizes = z; head = head; tail = tail; table = t; count = count; keys = keys }
 
 -- ---- the header as it was read, and what is worked out from it
@@ -71,7 +71,7 @@ module _ {r : ℕ → ℕ} {z : Sizes} {head tail : ℕ} (h : Header r z head ta
   entries-read n keys e k =
       ap (λ (y : Sizes). entriesOk y keys n) (h .sizes-is) ∙ ap₂ (entriesOk (sizesFrom r)) (k ∙ keys-read n e) e
 
-  pub found-read : (t : Table) (n : ℕ) (keys : List ℕ) → t ≡ tableAfter r → n ≡ countFrom r → keys ≡ keysFrom r z n → taken z head tail t n keys ≡ found r
+  pub found-read : (t : Table) (n : ℕ) (keys : List ℕ) → t ≡ tableAfter r → n ≡ countFrom r → keys ≡ keysFrom r z n → taken z head tail t n keys ≡ judged (found r)
   found-read t n keys e m k =
       ap (λ (u : Table). taken z head tail u n keys) e
       ∙ ap₂ (taken z head tail (tableAfter r)) m (k ∙ keys-read n m)
@@ -84,16 +84,16 @@ pub mount-past : (img : List ℕ) (k : ℕ) → Past (mountRows (length img) (wo
 mount-past img = past-more (mountRows (length img) (word img))
 
 pub mount-refused : (img : List ℕ) (k : ℕ) → k < 7 → Past (mountRows (length img) (word img)) k → getD (mountRows (length img) (word img)) k (true, 0) .0 ≡ true
-    → turnedBack (getD (mountRows (length img) (word img)) k (true, 0) .1) ≡ mountOf img
+    → judged (turnedBack (getD (mountRows (length img) (word img)) k (true, 0) .1)) ≡ judged (mountOf img)
 unfolding mountOf mountRead
 mount-refused img k l p t =
     let rs = mountRows (length img) (word img) in
     let e : getD rs k (true, 0) .1 ≡ refusal rs = row-at rs k l p t in
     let n : 0 < getD rs k (true, 0) .1 = numbered-at rs k l (omega arith, (omega arith, (omega arith, (omega arith, (omega arith, (omega arith, (omega arith, tt))))))) in
-    row-no (eqb (refusal rs) 0) (found (word img)) (turnedBack (refusal rs)) (turnedBack (getD rs k (true, 0) .1)) (ne-eqb (refusal rs) 0 (λ q. omega arith)) (ap turnedBack e)
+    ap judged (row-no (eqb (refusal rs) 0) (found (word img)) (turnedBack (refusal rs)) (turnedBack (getD rs k (true, 0) .1)) (ne-eqb (refusal rs) 0 (λ q. omega arith)) (ap turnedBack e))
 
-pub mount-taken : (img : List ℕ) → Past (mountRows (length img) (word img)) 7 → found (word img) ≡ mountOf img
+pub mount-taken : (img : List ℕ) → Past (mountRows (length img) (word img)) 7 → judged (found (word img)) ≡ judged (mountOf img)
 unfolding mountOf mountRead
 mount-taken img p =
     let rs = mountRows (length img) (word img) in
-    row-yes (eqb (refusal rs) 0) (found (word img)) (turnedBack (refusal rs)) (eq-eqb (refusal rs) 0 (sym (row-none rs p)))
+    ap judged (row-yes (eqb (refusal rs) 0) (found (word img)) (turnedBack (refusal rs)) (eq-eqb (refusal rs) 0 (sym (row-none rs p))))

@@ -1,12 +1,12 @@
 -- Mount judges the view alone: images of one length that show the same view have the same mount, and what a taken
 -- mount tells of the view.
 use Prim.Native.Nat.{ℕ, _-_, _≤_, _<_}
-use mathlib.Core.Path.{_≡_, sym, ap, ap₂, _∙_}
+use mathlib.Core.Path.{_≡_, refl, sym, ap, ap₂, _∙_, subst}
 use mathlib.Core.Bool.{Bool, true, cond, not, _&&_, _||_}
 use mathlib.Core.List.{List, [], _∷_, _++_}
 use native.Mathlib.Omega.{arith}
 use lib.Dec.{ltb, eqb}
-use lib.ListN.{length, getD}
+use lib.ListN.{length, getD, replicate}
 use borrow.Author.Tests.{ltb-false, le-ltb, eqb-true, eq-eqb, not-false}
 use Rattle.bounded.specs.Rows.{Row, refusal, Numbered}
 use Rattle.bounded.specs.Tab.{tab}
@@ -22,13 +22,15 @@ use Rattle.entries.specs.Entries.{entriesOk}
 use Rattle.words.specs.Words.{word}
 use Rattle.layout.proofs.LayoutLaws.{legal, legal-ok}
 use Rattle.journal.specs.declared.Record.{Record}
-use Rattle.mount.specs.declared.Mounted.{Mounted}
 use Rattle.journal.specs.Slots.{shaped}
 use Rattle.journal.specs.Records.{position, liveCount, positionsOk, liveRecord, recordOk, recordsOk}
-use Rattle.replay.specs.Table.{slotIn, slotsShaped, pagesApart, frameNames}
-use Rattle.mount.specs.Mount.{sizesFrom, liveFrom, countFrom, turnedBack, mountRead, mountOf}
+use Rattle.replay.specs.Table.{slotIn, slotsShaped, pagesApart, homeOf, frameNames}
+use Rattle.replay.specs.Map.{pageFrames, mapFrom}
+use Rattle.mount.specs.Mount.{Mounted, sizesFrom, liveFrom, countFrom, turnedBack, mountRead, mountOf}
 use Rattle.journal.proofs.Ring.{Positions, positions, positions-ok}
-use Rattle.mount.proofs.View.{View, live, viewWith, viewOf, Shows, shown}
+use Rattle.replay.specs.declared.Table.{Table}
+use Rattle.replay.proofs.Maps.{map-at}
+use Rattle.mount.proofs.View.{View, live, viewWith, viewOf, Shows, shown, table-shown, Agree, same-view}
 
 -- the i-th live record
 abbrev noRecord : Record
@@ -40,6 +42,10 @@ recordIn v i = getD (v .records) i noRecord
 -- the names of frames
 abbrev pub namesIn : View → List ℕ
 namesIn v = tab (v .sizes .slots) (λ s. slotIn (v .table) s .spare) ++ v .homes
+
+-- the map: the homes, and 0 past them
+unfoldable pub mapIn : View → List ℕ
+mapIn v = v .homes ++ replicate (1024 - v .sizes .pages) 0
 
 -- ---- the same rows, of the view
 
@@ -55,7 +61,7 @@ viewRows n v =
     ∷ []
 
 abbrev pub foundIn : View → Mounted
-foundIn v = record { row = 0; sizes = v .sizes; head = v .head; tail = v .tail; table = v .table; count = v .count; keys = v .keys }
+foundIn v = record { row = 0; sizes = v .sizes; head = v .head; tail = v .tail; table = v .table; map = mapIn v; count = v .count; keys = v .keys }
 
 unfoldable pub verdict : ℕ → View → Mounted
 verdict n v = let row = refusal (viewRows n v) in cond (eqb row 0) (foundIn v) (turnedBack row)
@@ -80,7 +86,7 @@ record-at img v shows i l =
     ap (λ (u : View). recordIn u i) (shown img v shows) ∙ record-of (word img) (v .sizes) (v .layout) (v .head) (v .tail) (v .count) i l
 
 pub through-view : (n : ℕ) (r : ℕ → ℕ) → mountRead n r ≡ verdict n (viewOf r)
-unfolding mountRead verdict frameNames
+unfolding mountRead verdict frameNames mapFrom mapIn
 through-view n r =
     let e : recordsOk (sizesFrom r) (r tailWord) (liveFrom r) (liveRecord r (sizesFrom r) (r tailWord)) ≡ recordsOk (sizesFrom r) (r tailWord) (liveFrom r) (recordIn (viewOf r)) =
     records-ext (sizesFrom r) (r tailWord) (liveFrom r) (liveRecord r (sizesFrom r) (r tailWord)) (recordIn (viewOf r)) (λ i l. sym (record-of r (sizesFrom r) (r layoutWord) (r headWord) (r tailWord) (countFrom r) i l)) in
@@ -185,3 +191,23 @@ mount-taken img v shows e = taken (length img) v (sym (ap (λ (m : Mounted). m .
 
 pub taken-mount : (img : List ℕ) (v : View) → Shows img v → Taken (length img) v → mountOf img ≡ foundIn v
 taken-mount img v shows h = mount-view img v shows ∙ taken-found (length img) v h
+
+-- ---- the map
+
+-- that of the homes, by the page table, so that its entries are the homes
+pub map-shown : (img : List ℕ) (v : View) → Shows img v → mapIn v ≡ mapFrom (v .sizes .pages) (homeOf (pageFrames (word img)) (v .sizes) (v .table))
+unfolding mapIn mapFrom
+map-shown img v shows = ap mapIn (shown img v shows) ∙ ap (λ (t : Table). mapFrom (v .sizes .pages) (homeOf (pageFrames (word img)) (v .sizes) t)) (sym (table-shown img v shows))
+
+pub entry-shown : (img : List ℕ) (v : View) → Shows img v → (p : ℕ) → p < v .sizes .pages
+    → getD (mapIn v) p 0 ≡ homeOf (pageFrames (word img)) (v .sizes) (v .table) p
+entry-shown img v shows p l =
+    ap (λ (m : List ℕ). getD m p 0) (map-shown img v shows) ∙ map-at (v .sizes .pages) (homeOf (pageFrames (word img)) (v .sizes) (v .table)) p l
+
+-- of an image that is taken, as it is put where the state is
+pub map-put : (img : List ℕ) → mountOf img .row ≡ 0
+    → mountOf img .map ≡ mapFrom (mountOf img .sizes .pages) (homeOf (pageFrames (word img)) (mountOf img .sizes) (mountOf img .table))
+map-put img e =
+    let v = viewOf (word img) in
+    subst (λ (m : Mounted). m .map ≡ mapFrom (m .sizes .pages) (homeOf (pageFrames (word img)) (m .sizes) (m .table)))
+    (sym (taken-mount img v refl (mount-taken img v refl e))) (map-shown img v refl)

@@ -20,6 +20,7 @@ use Rattle.journal.specs.declared.Record.{Record}
 use Rattle.replay.specs.declared.Table.{Table}
 use Rattle.journal.specs.Records.{position, liveCount, liveRecord}
 use Rattle.replay.specs.Table.{noPosition, slotIn, lastIn, tableFrom, replay, slotOf, homeOf}
+use Rattle.replay.specs.Map.{pageFrames}
 use Rattle.mount.specs.Mount.{wideWord, sizesFrom, countFrom}
 use Rattle.journal.proofs.SlotWords.{slot-ext, record-ext}
 use Rattle.replay.proofs.Tables.{sixteen-from, from-slot, from-past, from-last}
@@ -46,7 +47,7 @@ tableWith r z head tail = replay z tail (liveCount z head tail) (liveRecord r z 
 
 abbrev pub viewWith : (ℕ → ℕ) → Sizes → ℕ → ℕ → ℕ → ℕ → View
 viewWith r z layout head tail count =
-    record { sizes = z; layout = layout; head = head; tail = tail; records = tab (liveCount z head tail) (liveRecord r z tail); table = tableWith r z head tail; homes = tab (z .pages) (homeOf r z (tableWith r z head tail)); count = count; keys = keysFrom r z count }
+    record { sizes = z; layout = layout; head = head; tail = tail; records = tab (liveCount z head tail) (liveRecord r z tail); table = tableWith r z head tail; homes = tab (z .pages) (homeOf (pageFrames r) z (tableWith r z head tail)); count = count; keys = keysFrom r z count }
 
 -- of the words r
 abbrev pub viewOf : (ℕ → ℕ) → View
@@ -83,7 +84,7 @@ slot-none z t p e =
     le-antisymm (first-le (λ s. eqb (slotIn t s .page) p) (z .slots)) (ltb-false (slotOf z t p) (z .slots) e)
 
 -- a home by the page's word alone
-pub home-ext : (r r′ : ℕ → ℕ) (z : Sizes) (t : Table) (p : ℕ) → (slotOf z t p ≡ z .slots → r (pageWord p) ≡ r′ (pageWord p)) → homeOf r z t p ≡ homeOf r′ z t p
+pub home-ext : (r r′ : ℕ → ℕ) (z : Sizes) (t : Table) (p : ℕ) → (slotOf z t p ≡ z .slots → r (pageWord p) ≡ r′ (pageWord p)) → homeOf (pageFrames r) z t p ≡ homeOf (pageFrames r′) z t p
 home-ext r r′ z t p h =
     caseOn (ltb (slotOf z t p) (z .slots))
     (λ e. rw e)
@@ -129,10 +130,10 @@ module _ (r r′ : ℕ → ℕ) (z : Sizes) (layout head tail count : ℕ) (g : 
       let e₁ = tab-ext (liveCount z head tail) (liveRecord r z tail) (liveRecord r′ z tail) record-same in
       let e₂ = table-same in
       let e₄ = keys-same in
-      let e₃ : tab (z .pages) (homeOf r z (tableWith r z head tail)) ≡ tab (z .pages) (homeOf r′ z (tableWith r′ z head tail)) =
-      tab-ext (z .pages) (homeOf r z (tableWith r z head tail)) (homeOf r′ z (tableWith r z head tail))
+      let e₃ : tab (z .pages) (homeOf (pageFrames r) z (tableWith r z head tail)) ≡ tab (z .pages) (homeOf (pageFrames r′) z (tableWith r′ z head tail)) =
+      tab-ext (z .pages) (homeOf (pageFrames r) z (tableWith r z head tail)) (homeOf (pageFrames r′) z (tableWith r z head tail))
       (λ p l. home-ext r r′ z (tableWith r z head tail) p (λ q. g (pageWord p) (omega arith) (page p l q refl)))
-      ∙ ap (λ (t : Table). tab (z .pages) (homeOf r′ z t)) e₂ in
+      ∙ ap (λ (t : Table). tab (z .pages) (homeOf (pageFrames r′) z t)) e₂ in
       λ i. record { sizes = z; layout = layout; head = head; tail = tail; records = e₁ i; table = e₂ i; homes = e₃ i; count = count; keys = e₄ i }
 
 -- under equal headers

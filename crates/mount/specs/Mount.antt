@@ -10,9 +10,10 @@ use Rattle.layout.specs.Layout.{sizesOk, layoutOf, imageLength, pagesWord, slot
 use Rattle.words.specs.Words.{word}
 use Rattle.entries.specs.Entries.{noKeys, keysFrom, entriesOk}
 use Rattle.replay.specs.declared.Table.{Table}
-use Rattle.mount.specs.declared.Mounted.{Mounted}
+use Rattle.mount.specs.declared.Judged.{Judged}
 use Rattle.journal.specs.Records.{liveCount, positionsOk, liveRecord, recordsOk}
-use Rattle.replay.specs.Table.{emptyTable, tableFrom, replay, tableOk}
+use Rattle.replay.specs.Table.{emptyTable, tableFrom, replay, homeOf, tableOk}
+use Rattle.replay.specs.Map.{pageFrames, mapFrom}
 
 -- the header, read through r; its last two words under layout 2 alone (document 02, L14)
 abbrev pub wideWord : (ℕ → ℕ) → ℕ → ℕ
@@ -35,6 +36,10 @@ liveFrom r = liveCount (sizesFrom r) (r headWord) (r tailWord)
 abbrev pub tableAfter : (ℕ → ℕ) → Table
 tableAfter r = replay (sizesFrom r) (r tailWord) (liveFrom r) (liveRecord r (sizesFrom r) (r tailWord)) (tableFrom r (sizesFrom r))
 
+-- the map after replay: each page's home
+abbrev pub mapAfter : (ℕ → ℕ) → List ℕ
+mapAfter r = mapFrom (sizesFrom r .pages) (homeOf (pageFrames r) (sizesFrom r) (tableAfter r))
+
 -- the table of refusals, of an image of n bytes read through r. 3: L is 0 under layout 2, so that the layout is not that of the sizes, too; 6: an
 -- entry that is counted is wrong, too
 abbrev pub mountRows : ℕ → (ℕ → ℕ) → List Row
@@ -49,22 +54,45 @@ mountRows n r =
           (sizesFrom r) (keysAfter r) (countFrom r)),
       6,
     )
-    ∷ (not (tableOk r (sizesFrom r) (tableAfter r)), 7)
+    ∷ (not (tableOk (pageFrames r) (sizesFrom r) (tableAfter r)), 7)
     ∷ []
 
--- what is found: the number of a row, with nothing; or 0, with the header, the slots and the keys of the entries that are counted
+-- what is found: the number of a row, with nothing; or 0, with the header, the slots, the map and the keys of the entries that are counted
+pub record Mounted : Type 0 where
+  pub row : ℕ
+  pub sizes : Sizes
+  pub head : ℕ
+  pub tail : ℕ
+  pub table : Table
+  pub map : List ℕ
+  pub count : ℕ
+  pub keys : List ℕ
+
 abbrev pub noSizes : Sizes
 noSizes = record { pages = 0; slots = 0; places = 0; entries = 0 }
 
 abbrev pub turnedBack : ℕ → Mounted
-turnedBack n = record { row = n; sizes = noSizes; head = 0; tail = 0; table = emptyTable; count = 0; keys = noKeys }
+turnedBack n = record { row = n; sizes = noSizes; head = 0; tail = 0; table = emptyTable; map = mapFrom 0 (λ p. 0); count = 0; keys = noKeys }
 
 abbrev pub found : (ℕ → ℕ) → Mounted
 found r =
-    record { row = 0; sizes = sizesFrom r; head = r headWord; tail = r tailWord; table = tableAfter r; count = countFrom r; keys = keysAfter r }
+    record {
+      row = 0;
+      sizes = sizesFrom r;
+      head = r headWord;
+      tail = r tailWord;
+      table = tableAfter r;
+      map = mapAfter r;
+      count = countFrom r;
+      keys = keysAfter r;
+    }
 
 unfoldable pub mountRead : ℕ → (ℕ → ℕ) → Mounted
 mountRead n r = let row = refusal (mountRows n r) in cond (eqb row 0) (found r) (turnedBack row)
 
 unfoldable pub mountOf : List ℕ → Mounted
 mountOf img = mountRead (length img) (word img)
+
+-- the same without the map, which is put where the state is (`put_homes` of names)
+abbrev pub judged : Mounted → Judged
+judged m = record { row = m .row; sizes = m .sizes; head = m .head; tail = m .tail; table = m .table; count = m .count; keys = m .keys }

@@ -3,13 +3,13 @@ ghost use mathlib.Core.Path.{_≡_};
 ghost use Prim.Native.Nat.{_<_, _≤_};
 ghost use lib.ListN.{length};
 ghost use Rattle.words.specs.Words.{word};
-ghost use Rattle.mount.specs.Mount.{wideWord, sizesFrom, turnedBack, mountOf};
+ghost use Rattle.mount.specs.Mount.{wideWord, sizesFrom, turnedBack, mountOf, judged};
 use layout::Sizes;
 use replay::Table;
 
-// What a mount finds: row 0 and the header with the slots and the keys of the entries that are counted, or the row that turns the image back and
-// nothing else.
-pub struct Mounted {
+// What a mount finds but for the map: row 0 and the header with the slots and the keys of the entries that are counted, or the row that turns the image
+// back and nothing else.
+pub struct Judged {
     pub row: usize,
     pub sizes: Sizes,
     pub head: usize,
@@ -48,10 +48,10 @@ fn sizes_from(image: &[u8]) -> Sizes
 }
 
 // A row's number, and nothing found.
-fn turned_back(row: usize) -> Mounted
-    ensures { λ r. ⌜ r ≡ turnedBack row ⌝ }
+fn turned_back(row: usize) -> Judged
+    ensures { λ r. ⌜ r ≡ judged (turnedBack row) ⌝ }
 {
-    Mounted {
+    Judged {
         row,
         sizes: Sizes {
             pages: 0,
@@ -67,9 +67,24 @@ fn turned_back(row: usize) -> Mounted
     }
 }
 
+// Row 0, and what an image holds.
+fn holds(z: Sizes, head: usize, tail: usize, table: Table, count: usize, keys: [u64; 64]) -> Judged
+    ensures { λ r. ⌜ r ≡ record { row = 0; sizes = z; head = head; tail = tail; table = table; count = count; keys = keys } ⌝ }
+{
+    Judged {
+        row: 0,
+        sizes: z,
+        head,
+        tail,
+        table,
+        count,
+        keys,
+    }
+}
+
 // The first of rows 1 to 7 that applies, or what the image holds.
-pub fn judge(image: &[u8]) -> Mounted
-    ensures { λ r. ⌜ r ≡ mountOf (now (image .entry)) ⌝ }
+pub fn judge(image: &[u8]) -> Judged
+    ensures { λ r. ⌜ r ≡ judged (mountOf (now (image .entry))) ⌝ }
 {
     if image.len() < 64 {
         return turned_back(1);
@@ -100,13 +115,5 @@ pub fn judge(image: &[u8]) -> Mounted
     if !names::table_ok(image, z, found) {
         return turned_back(7);
     }
-    Mounted {
-        row: 0,
-        sizes: z,
-        head,
-        tail,
-        table: found,
-        count,
-        keys,
-    }
+    holds(z, head, tail, found, count, keys)
 }

@@ -1,4 +1,4 @@
--- The homes of pages: the originals put over the page-table words, slot by slot, are each page's home, since no page is
+-- The homes of pages: the originals put over the pages' own frames, slot by slot, are each page's home, since no page is
 -- in two slots.
 use mathlib.Core.Path.{_≡_, refl, sym, ap, ap₂, _∙_, subst}
 use mathlib.Core.Bool.{Bool, true, false, not, cond, _||_}
@@ -11,12 +11,13 @@ use lib.ListN.{length, getD, set, take, drop, length-set, length-append, length-
 use lib.Seq.{ext-getD, getD-set-same, getD-set-other, take-at, drop-at, drop-drop}
 use borrow.Author.Tests.{ltb-true, ltb-false, lt-ltb, eqb-true, eqb-false, eq-eqb, ne-eqb, not-true, not-false}
 use Rattle.bounded.specs.Below.{upTo, allBelow, firstBelow}
+use Rattle.bounded.specs.Count.{eachOnce}
 use Rattle.bounded.specs.Tab.{tab, filled}
 use Rattle.bounded.proofs.Tests.{caseOn, contradicts}
 use Rattle.bounded.proofs.Below.{split-below, all-at, first-le, first-holds, first-before, up-keeps}
 use Rattle.bounded.proofs.Tab.{length-tab, getD-tab, length-filled, getD-filled}
 use Rattle.layout.specs.declared.Sizes.{Sizes}
-use Rattle.layout.specs.Layout.{Legal, frames, pageWord}
+use Rattle.layout.specs.Layout.{Legal, frames}
 use Rattle.replay.specs.declared.Table.{Table}
 use Rattle.journal.specs.Slots.{noPage}
 use Rattle.replay.specs.Table.{pageApart, pagesApart, slotIn, slotOf, homeOf, frameNames}
@@ -79,55 +80,47 @@ module _ (z : Sizes) (page original : List ℕ) where
       put-other n p (originalsPut z page original n m) (u n (omega arith)) ∙ puts-out n p m (λ j l. u j (omega arith))
 
 -- a page's home
-home-at : (r : ℕ → ℕ) (z : Sizes) (t : Table) → Legal z → pagesApart z (t .page) ≡ true → (p : ℕ) → p < z .pages
-    → getD (originalsPut z (t .page) (t .original) (z .slots) (tab (z .pages) (λ q. r (pageWord q)))) p 0 ≡ homeOf r z t p
-home-at r z t legal u p h =
+home-at : (own : ℕ → ℕ) (z : Sizes) (t : Table) → Legal z → pagesApart z (t .page) ≡ true → (p : ℕ) → p < z .pages
+    → getD (originalsPut z (t .page) (t .original) (z .slots) (tab (z .pages) own)) p 0 ≡ homeOf own z t p
+home-at own z t legal u p h =
     let f : ℕ → Bool = λ s. eqb (getD (t .page) s 0) p in
-    let words : List ℕ = tab (z .pages) (λ q. r (pageWord q)) in
+    let frames : List ℕ = tab (z .pages) own in
     let k = firstBelow (z .slots) f in
     caseOn (ltb k (z .slots))
     (λ w.
     let l : k < z .slots = ltb-true k (z .slots) w in
     let q : getD (t .page) k 0 ≡ p = eqb-true (getD (t .page) k 0) p (first-holds f (z .slots) l) in
     rw w
-    (puts-in z (t .page) (t .original) (z .slots) k p words (length-tab (z .pages) (λ q. r (pageWord q))) l h q
+    (puts-in z (t .page) (t .original) (z .slots) k p frames (length-tab (z .pages) own) l h q
     (λ j a b e. apart z (t .page) (omega arith) u k j a b (omega arith) (e ∙ sym q))))
     (λ w.
     let l : z .slots ≤ k = ltb-false k (z .slots) w in
     rw w
-    (puts-out z (t .page) (t .original) (z .slots) p words
+    (puts-out z (t .page) (t .original) (z .slots) p frames
     (λ j a e. contradicts (eq-eqb (getD (t .page) j 0) p e) (first-before f (z .slots) j (omega arith)))
-    ∙ getD-tab (z .pages) (λ q. r (pageWord q)) p 0 h))
+    ∙ getD-tab (z .pages) own p 0 h))
 
-pub homes : (r : ℕ → ℕ) (z : Sizes) (t : Table) → Legal z → pagesApart z (t .page) ≡ true
-    → originalsPut z (t .page) (t .original) (z .slots) (tab (z .pages) (λ q. r (pageWord q))) ≡ tab (z .pages) (homeOf r z t)
-homes r z t legal u =
-    let words : List ℕ = tab (z .pages) (λ q. r (pageWord q)) in
-    let e : length (originalsPut z (t .page) (t .original) (z .slots) words) ≡ z .pages =
-    length-originals z (t .page) (t .original) (z .slots) words ∙ length-tab (z .pages) (λ q. r (pageWord q)) in
-    ext-getD 0 (originalsPut z (t .page) (t .original) (z .slots) words) (tab (z .pages) (homeOf r z t)) (e ∙ sym (length-tab (z .pages) (homeOf r z t)))
-    (λ p l. home-at r z t legal u p (omega arith) ∙ sym (getD-tab (z .pages) (homeOf r z t) p 0 (omega arith)))
+pub homes : (own : ℕ → ℕ) (z : Sizes) (t : Table) → Legal z → pagesApart z (t .page) ≡ true
+    → originalsPut z (t .page) (t .original) (z .slots) (tab (z .pages) own) ≡ tab (z .pages) (homeOf own z t)
+homes own z t legal u =
+    let frames : List ℕ = tab (z .pages) own in
+    let e : length (originalsPut z (t .page) (t .original) (z .slots) frames) ≡ z .pages =
+    length-originals z (t .page) (t .original) (z .slots) frames ∙ length-tab (z .pages) own in
+    ext-getD 0 (originalsPut z (t .page) (t .original) (z .slots) frames) (tab (z .pages) (homeOf own z t)) (e ∙ sym (length-tab (z .pages) (homeOf own z t)))
+    (λ p l. home-at own z t legal u p (omega arith) ∙ sym (getD-tab (z .pages) (homeOf own z t) p 0 (omega arith)))
 
--- ---- the names: spares lent and come back from 0 to s, then homes from s to e
+-- ---- the names
 
-pub names-room : (l xs : List ℕ) (s e : ℕ) → length xs ≡ s → s ≤ e → e ≤ length l
-    → length (take (e - s) (drop s (take 0 l ++ (xs ++ drop (s - 0) (drop 0 l))))) ≡ e - s
-names-room l xs s e n a b =
-    let k : s - 0 ≡ s = omega arith in
-    rw k (ap (λ (t : List ℕ). length (take (e - s) t)) (drop-at xs (drop s l) s n) ∙ simp (length-take, length-drop) (omega arith))
-
-pub names-back : (l : List ℕ) {xs us ys vs : List ℕ} (s e : ℕ) → xs ≡ us → ys ≡ vs → length us ≡ s → s ≤ e
-    → take s (take 0 l ++ (xs ++ drop (s - 0) (drop 0 l))) ++ (ys ++ drop (e - s) (drop s (take 0 l ++ (xs ++ drop (s - 0) (drop 0 l)))))
-    ≡ (us ++ vs) ++ drop e l
-names-back l {us = us} {vs = vs} s e p q n h =
-    let k : s - 0 ≡ s = omega arith in
-    let j : s + (e - s) ≡ e = omega arith in
-    rw (p, q, k)
-    (ap₂ (λ (t u : List ℕ). t ++ (vs ++ drop (e - s) u)) (take-at us (drop s l) s n) (drop-at us (drop s l) s n)
-    ∙ ap (λ (t : List ℕ). us ++ (vs ++ t)) (drop-drop (e - s) s l ∙ ap (λ (i : ℕ). drop i l) j)
-    ∙ sym (append-assoc us vs (drop e l)))
-
-pub length-names : (r : ℕ → ℕ) (z : Sizes) (t : Table) → length (frameNames r z t) ≡ frames z
+-- spares and homes, as many as there are frames
+pub both-once : (own : ℕ → ℕ) (z : Sizes) (t : Table) (a b : List ℕ) → a ≡ tab (z .slots) (λ s. slotIn t s .spare) → b ≡ tab (z .pages) (homeOf own z t)
+    → eachOnce (length a + length b) (a ++ b) ≡ eachOnce (frames z) (frameNames own z t)
 unfolding frameNames
-length-names r z t =
-    omega (arith, length-append (tab (z .slots) (λ s. slotIn t s .spare)) (tab (z .pages) (homeOf r z t)), length-tab (z .slots) (λ s. slotIn t s .spare), length-tab (z .pages) (homeOf r z t))
+both-once own z t a b e f =
+    let n : length a + length b ≡ frames z =
+    omega (arith, ap length e, ap length f, length-tab (z .slots) (λ s. slotIn t s .spare), length-tab (z .pages) (homeOf own z t)) in
+    ap₂ (λ (k : ℕ) (l : List ℕ). eachOnce k l) n (ap₂ (λ (x y : List ℕ). x ++ y) e f)
+
+pub length-names : (own : ℕ → ℕ) (z : Sizes) (t : Table) → length (frameNames own z t) ≡ frames z
+unfolding frameNames
+length-names own z t =
+    omega (arith, length-append (tab (z .slots) (λ s. slotIn t s .spare)) (tab (z .pages) (homeOf own z t)), length-tab (z .slots) (λ s. slotIn t s .spare), length-tab (z .pages) (homeOf own z t))

@@ -1,2 +1,1 @@
 pub mod Homes
-pub mod Marks

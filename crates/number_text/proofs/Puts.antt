@@ -44,9 +44,9 @@ unfolding blanked
 length-blanked [] = omega arith
 length-blanked (x ∷ xs) = omega (arith, length-append (blank x) (blanked xs), decimal-le x, length-blanked xs)
 
--- four lists of them
-pub blanked-four : (a b c d : List ℕ) → blanked a ++ (blanked b ++ (blanked c ++ blanked d)) ≡ blanked (a ++ (b ++ (c ++ d)))
-blanked-four a b c d = sym (blanked-append a (b ++ (c ++ d)) ∙ ap (λ (t : List ℕ). blanked a ++ t) (blanked-append b (c ++ d) ∙ ap (λ (t : List ℕ). blanked b ++ t) (blanked-append c d)))
+-- three lists of them
+pub blanked-three : (a b c : List ℕ) → blanked a ++ (blanked b ++ blanked c) ≡ blanked (a ++ (b ++ c))
+blanked-three a b c = sym (blanked-append a (b ++ c) ∙ ap (λ (t : List ℕ). blanked a ++ t) (blanked-append b c))
 
 -- a loop that puts them has come to number i
 pub numbers-none : (l : List ℕ) (a : ℕ) (xs : List ℕ) → Put l a (blanked (take 0 xs)) l a

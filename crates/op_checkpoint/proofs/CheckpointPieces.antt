@@ -64,7 +64,7 @@ module _ (z : Sizes) (last : List ℕ) (j s : ℕ) (e : s ≡ getD (recordedSlot
       (λ t. ltb-false j (length (recordedSlots z last)) t)
 
 -- there are 16 last positions
-pub lasts-long : (c : List ℕ) → length c ≡ 256 → length (decoded c .table .last) ≡ 16
+pub lasts-long : (c : List ℕ) → length c ≡ 1280 → length (decoded c .table .last) ≡ 16
 unfolding decoded part start size
 lasts-long c n =
     let more : 16 ≤ length (drop 104 c) = omega (arith, length-drop 104 c) in
@@ -74,7 +74,7 @@ lasts-long c n =
 
 module _ (z : Sizes) (st : State) (sizes : z ≡ st .sizes) (i s : ℕ) (img : List ℕ) (p : Piece) (e : s ≡ getD (recordedSlots z (st .table .last)) (i / 3) (z .slots)) where
   abbrev IsNext : Type 0
-  IsNext = Next (λ m. storeAt st m Checkpoint) (λ m. storeValue st m Checkpoint) i (imageLength z) img p
+  IsNext = Next (λ m. storeAt st Checkpoint) (λ m. storeValue st m Checkpoint) i (imageLength z) img p
 
   pub slot-piece : (a b : ℕ) → Legal z → imageLength z ≤ length img → s < z .slots
       → a ≡ recordWord z (getD (st .table .last) s noPosition) + 1 → b ≡ slotWord z s → p ≡ slotPiece b img a (i % 3) → IsNext

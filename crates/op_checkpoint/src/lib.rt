@@ -13,9 +13,10 @@ ghost use Rattle.state_words.specs.Decoded.{decoded, placesOf, withTable};
 use layout::Sizes;
 use op_pieces::Piece;
 use state::Places;
+use state_words::Words;
 
 // The j-th slot that has a live record, rising, or S where there are fewer: so nobody has to count them.
-fn recorded_slot(z: Sizes, words: &[u64; 256], j: usize) -> usize
+fn recorded_slot(z: Sizes, words: &Words, j: usize) -> usize
     requires { ⌜ Legal z ⌝ }
     ensures { λ r. ⌜ r ≡ getD (recordedSlots z (decoded (now (words .entry)) .table .last)) j (z .slots) ⌝ }
 {
@@ -35,7 +36,7 @@ fn recorded_slot(z: Sizes, words: &[u64; 256], j: usize) -> usize
 }
 
 // The first of the three slot words of the last live record of slot s.
-fn last_words(z: Sizes, words: &[u64; 256], s: usize) -> usize
+fn last_words(z: Sizes, words: &Words, s: usize) -> usize
     requires { ⌜ Legal z × (s < 16) ⌝ }
     ensures { λ r. ⌜ r ≡ recordWord z (getD (decoded (now (words .entry)) .table .last) s noPosition) + 1 ⌝ }
 {
@@ -44,9 +45,9 @@ fn last_words(z: Sizes, words: &[u64; 256], s: usize) -> usize
 }
 
 // The piece of a checkpoint that store i lies in: a slot's three words, read from the image, or tail.
-pub fn checkpoint_piece(image: &[u8], z: Sizes, at: Places, words: &[u64; 256], i: usize) -> Piece
+pub fn checkpoint_piece(image: &[u8], z: Sizes, at: Places, words: &Words, i: usize) -> Piece
     requires { ⌜ (z ≡ decoded (now words) .sizes) × (at ≡ placesOf (decoded (now words))) × Legal z × (imageLength z ≤ length (now image)) ⌝ }
-    ensures { λ r. ⌜ Next (λ m. storeAt (decoded (now (words .entry))) m Checkpoint) (λ m. storeValue (decoded (now (words .entry))) m Checkpoint)
+    ensures { λ r. ⌜ Next (λ m. storeAt (decoded (now (words .entry))) Checkpoint) (λ m. storeValue (decoded (now (words .entry))) m Checkpoint)
         i (imageLength z) (now (image .entry)) r ⌝ }
 {
     let s = recorded_slot(z, words, i / 3);
@@ -58,7 +59,7 @@ pub fn checkpoint_piece(image: &[u8], z: Sizes, at: Places, words: &[u64; 256], 
 }
 
 // No slot has a live record any more.
-fn put_no_lasts(z: Sizes, words: &mut [u64; 256])
+fn put_no_lasts(z: Sizes, words: &mut Words)
     requires { ⌜ Legal z ⌝ }
     ensures { λ _. ⌜ decoded (now (words .exit)) ≡ withTable (decoded (now (words .entry))) (withoutLasts z (decoded (now (words .entry)) .table)) ⌝ }
 {
@@ -70,7 +71,7 @@ fn put_no_lasts(z: Sizes, words: &mut [u64; 256])
 }
 
 // What a checkpoint leaves when it is complete.
-pub fn complete_checkpoint(z: Sizes, at: Places, words: &mut [u64; 256])
+pub fn complete_checkpoint(z: Sizes, at: Places, words: &mut Words)
     requires { ⌜ (z ≡ decoded (now words) .sizes) × (at ≡ placesOf (decoded (now words))) × Legal z ⌝ }
     ensures { λ _. ⌜ decoded (now (words .exit)) ≡ completed (decoded (now (words .entry))) Checkpoint ⌝ }
 {

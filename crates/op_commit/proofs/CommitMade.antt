@@ -54,7 +54,7 @@ module _ (st : State) (w : ℕ) where
   pub commit-done : (n q : ℕ) (bitmap last held : List ℕ) (opened : List Bool) (i : Pending) → n ≡ length (commitSlots st w) → q ≡ position (st .sizes) (st .head) n
       → bitmap ≡ bitmapsAfter (st .sizes) (st .table .bitmap) (st .writers .held) w n → last ≡ lastsAfter (st .sizes) (st .head) (st .table .last) (st .writers .held) w n
       → held ≡ upTo (st .sizes .slots) (λ s h. set h (16 * w + s) 0) (st .writers .held) → opened ≡ set (st .writers .opened) w false → i ≡ noPending
-      → _≡_ {A = State} (record { sizes = st .sizes; head = q; tail = st .tail; next = st .next; table = tableWith bitmap last; writers = record { opened = opened; held = held; prepared = noWriter }; wide = st .wide; pending = i })
+      → _≡_ {A = State} (record { sizes = st .sizes; head = q; tail = st .tail; next = st .next; table = tableWith bitmap last; map = st .map; writers = record { opened = opened; held = held; prepared = noWriter }; wide = st .wide; pending = i })
       (commitDone st w)
   unfolding replay closedWriter
   commit-done n q bitmap last held opened i a b c d e f g =

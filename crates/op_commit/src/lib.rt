@@ -11,10 +11,11 @@ ghost use Rattle.refinement.specs.Commit.{bitmapsAfter, lastsAfter, commitDone,
 ghost use Rattle.state_words.specs.Decoded.{decoded, withTable, withWriters, withHeld};
 ghost use Rattle.op_commit.specs.After.{withBitmaps, withLasts};
 use layout::Sizes;
+use state_words::Words;
 use state_words::held_at;
 
 // The j-th slot that writer w holds lines of, rising, or 0 where there is none.
-fn held_slot(z: Sizes, words: &[u64; 256], w: usize, j: usize) -> usize
+fn held_slot(z: Sizes, words: &Words, w: usize, j: usize) -> usize
     requires { ⌜ Legal z × (w < 4) ⌝ }
     ensures { λ r. ⌜ r ≡ getD (heldSlots z (decoded (now (words .entry)) .writers .held) w) j 0 ⌝ }
 {
@@ -34,7 +35,7 @@ fn held_slot(z: Sizes, words: &[u64; 256], w: usize, j: usize) -> usize
 }
 
 // Puts the bitmaps of a commit of n slots.
-fn put_bitmaps(z: Sizes, words: &mut [u64; 256], w: usize, n: usize)
+fn put_bitmaps(z: Sizes, words: &mut Words, w: usize, n: usize)
     requires { ⌜ Legal z × (w < 4) ⌝ }
     ensures { λ _. ⌜ decoded (now (words .exit)) ≡ withBitmaps (decoded (now (words .entry)))
         (bitmapsAfter z (decoded (now (words .entry)) .table .bitmap) (decoded (now (words .entry)) .writers .held) w n) ⌝ }
@@ -50,7 +51,7 @@ fn put_bitmaps(z: Sizes, words: &mut [u64; 256], w: usize, n: usize)
 }
 
 // The same of the positions of last records.
-fn put_lasts(z: Sizes, head: usize, words: &mut [u64; 256], w: usize, n: usize)
+fn put_lasts(z: Sizes, head: usize, words: &mut Words, w: usize, n: usize)
     requires { ⌜ Legal z × (head < 2 * z .places) × (w < 4) × (n ≤ z .places) ⌝ }
     ensures { λ _. ⌜ decoded (now (words .exit)) ≡ withLasts (decoded (now (words .entry)))
         (lastsAfter z head (decoded (now (words .entry)) .table .last) (decoded (now (words .entry)) .writers .held) w n) ⌝ }
@@ -64,7 +65,7 @@ fn put_lasts(z: Sizes, head: usize, words: &mut [u64; 256], w: usize, n: usize)
 }
 
 // Empties the held lines of writer w.
-pub fn let_go(z: Sizes, words: &mut [u64; 256], w: usize)
+pub fn let_go(z: Sizes, words: &mut Words, w: usize)
     requires { ⌜ Legal z × (w < 4) ⌝ }
     ensures { λ _. ⌜ decoded (now (words .exit)) ≡ withWriters (decoded (now (words .entry)))
         (withHeld (decoded (now (words .entry)) .writers) (letGo z (decoded (now (words .entry)) .writers .held) w)) ⌝ }
@@ -77,7 +78,7 @@ pub fn let_go(z: Sizes, words: &mut [u64; 256], w: usize)
 }
 
 // What a commit leaves when it is complete.
-pub fn complete_commit(z: Sizes, words: &mut [u64; 256], w: usize)
+pub fn complete_commit(z: Sizes, words: &mut Words, w: usize)
     requires { ⌜ (z ≡ decoded (now words) .sizes) × Legal z × (decoded (now words) .head < 2 * z .places) × (w < 4) ⌝ }
     ensures { λ _. ⌜ decoded (now (words .exit)) ≡ commitDone (decoded (now (words .entry))) w ⌝ }
 {
@@ -93,7 +94,7 @@ pub fn complete_commit(z: Sizes, words: &mut [u64; 256], w: usize)
 }
 
 // What a prepare leaves when its records are stored: the writer is prepared.
-pub fn complete_prepare(words: &mut [u64; 256], w: usize)
+pub fn complete_prepare(words: &mut Words, w: usize)
     ensures { λ _. ⌜ decoded (now (words .exit)) ≡ prepareDone (decoded (now (words .entry))) w ⌝ }
 {
     state_words::put_prepared(words, w);

@@ -15,9 +15,10 @@ use journal::Record;
 use journal::Slot;
 use layout::Sizes;
 use op_pieces::Piece;
+use state_words::Words;
 
 // The j-th record of a commit: its slot with the held lines of the writer committed.
-fn commit_record(z: Sizes, head: usize, words: &[u64; 256], w: usize, j: usize) -> Record
+fn commit_record(z: Sizes, head: usize, words: &Words, w: usize, j: usize) -> Record
     requires { ⌜ Legal z × (w < 4) ⌝ }
     ensures { λ r. ⌜ r ≡ commitRecordOf z head (decoded (now (words .entry)) .table) (decoded (now (words .entry)) .writers .held) w j ⌝ }
 {
@@ -47,14 +48,7 @@ fn record_place(z: Sizes, head: usize, j: usize) -> usize
 }
 
 // The piece of a commit of c slots that store i lies in: a record, or head.
-pub fn commit_piece(
-    z: Sizes,
-    head: usize,
-    words: &[u64; 256],
-    w: usize,
-    c: usize,
-    i: usize,
-) -> Piece
+pub fn commit_piece(z: Sizes, head: usize, words: &Words, w: usize, c: usize, i: usize) -> Piece
     requires { ⌜ Legal z × (head < 2 * z .places) × (slotsShaped z (decoded (now words) .table) ≡ true) × (w < 4)
         × (c ≡ length (heldSlots z (decoded (now words) .writers .held) w)) ⌝ }
     ensures { λ r. ⌜ ((img : List ℕ) → Next (λ m. commitAtOf z head (decoded (now (words .entry)) .writers .held) w)

@@ -5,7 +5,7 @@ use mathlib.Core.List.{List}
 use mathlib.Core.Path.{_≡_, refl, sym, ap, _∙_}
 use native.Mathlib.Omega.{arith}
 use lib.Dec.{ltb, leb, eqb}
-use lib.ListN.{length, getD}
+use lib.ListN.{length, getD, set}
 use borrow.Author.Tests.{lt-ltb, le-ltb, eq-eqb, ne-eqb}
 use Rattle.bounded.proofs.Tests.{caseOn}
 use Rattle.masks.specs.Lines.{countLines}
@@ -24,14 +24,14 @@ use Rattle.replay.specs.Table.{slotIn, withSlot, withLast}
 use Rattle.state.specs.State.{State}
 use Rattle.state.specs.declared.Op.the-variants.{Consolidate}
 use Rattle.operations.specs.Operations.{Ranged, slotFor, copyCount}
-use Rattle.refinement.specs.Consolidate.{copyTo, copyFrom, copyLines, copyStoreCount, freeingRecord, consolidationAt, consolidationValue, consolidateAt, consolidateValue, consolidateTable}
+use Rattle.refinement.specs.Consolidate.{copyTo, copyFrom, copyLines, copyStoreCount, freeingRecord, consolidationAt, consolidationValue, consolidateAt, consolidateValue, consolidateMap}
 use Rattle.refinement.specs.Stores.{storeAt, storeValue, completed}
-use Rattle.refinement.specs.Settled.{settled}
+use Rattle.refinement.specs.Settled.{settled, withMap as putMap}
 use Rattle.refinement.proofs.ConsolidatePlaces.{copy-line, consolidate-table}
 use Rattle.op_pieces.specs.declared.Piece.{Piece}
 use Rattle.op_pieces.specs.Pieces.{Next, onePiece, recordPiece, linePiece, copyPiece}
 use Rattle.op_pieces.proofs.PieceLaws.{one-next, record-next, copy-next}
-use Rattle.state_words.specs.Decoded.{withTable, withHead, withNothing}
+use Rattle.state_words.specs.Decoded.{withTable, withHead, withNothing, withMap}
 
 -- the lines go to another frame than they come from
 pub copy-apart : (z : Sizes) (t : Slot) → Owning z t → copyTo t ≡ copyFrom t → ⊥
@@ -101,16 +101,20 @@ module _ (z : Sizes) (head : ℕ) (st : State) (p s : ℕ) (u : Slot) (e : Recor
   freeing-made = rw (b, a, at) at c
 
   pub slot-made : (i bound : ℕ) (img : List ℕ) (r : Piece) → Next (λ m. consolidationAt z head u p) (λ m. consolidationValue z head u e m) i bound img r
-      → Next (λ m. storeAt st m (Consolidate p)) (λ m. storeValue st m (Consolidate p)) i bound img r
+      → Next (λ m. storeAt st (Consolidate p)) (λ m. storeValue st m (Consolidate p)) i bound img r
   unfolding consolidateAt consolidateValue
   slot-made i bound img r q = rw (freeing-made, b, a, sizes, at) at q
 
--- ---- the state after the last store: four changes one after the other
+-- ---- the state after the last store: five changes one after the other
 
-pub consolidated : (st s1 s2 s3 s4 : State) (z : Sizes) (head p s f q : ℕ) (t v : Slot) → Ranged st → z ≡ st .sizes → head ≡ st .head → s ≡ slotFor st p → t ≡ slotIn (st .table) s
-    → f ≡ copyFrom t → v ≡ freeSlot f → s1 ≡ withTable st (withSlot (st .table) s v) → s2 ≡ withTable s1 (withLast (s1 .table) s head)
+-- the state with another head, map and table, and nothing pending
+abbrev doneWith : State → ℕ → List ℕ → Table → State
+doneWith st head m u = putMap (settled st head (st .tail) (st .next) u (st .writers)) m
+
+pub consolidated : (st s0 s1 s2 s3 s4 : State) (z : Sizes) (head p s g f q : ℕ) (t v : Slot) → Ranged st → z ≡ st .sizes → head ≡ st .head → s ≡ slotFor st p → t ≡ slotIn (st .table) s
+    → g ≡ copyTo t → s0 ≡ withMap st (set (st .map) p g) → f ≡ copyFrom t → v ≡ freeSlot f → s1 ≡ withTable s0 (withSlot (s0 .table) s v) → s2 ≡ withTable s1 (withLast (s1 .table) s head)
     → q ≡ position z head 1 → s3 ≡ withHead s2 q → s4 ≡ withNothing s3 → s4 ≡ completed st (Consolidate p)
 unfolding freeingRecord
-consolidated st s1 s2 s3 s4 z head p s f q t v h ez eh es et ef ev e1 e2 eq e3 e4 =
-    e4 ∙ ap withNothing (e3 ∙ ap (λ (u : State). withHead u q) (e2 ∙ ap (λ (u : State). withTable u (withLast (u .table) s head)) e1))
-    ∙ rw (eq, ev, ef, et, es, eh, ez) (ap (λ (u : Table). settled st (position (st .sizes) (st .head) 1) (st .tail) (st .next) u (st .writers)) (consolidate-table st p h))
+consolidated st s0 s1 s2 s3 s4 z head p s g f q t v h ez eh es et eg e0 ef ev e1 e2 eq e3 e4 =
+    e4 ∙ ap withNothing (e3 ∙ ap (λ (u : State). withHead u q) (e2 ∙ ap (λ (u : State). withTable u (withLast (u .table) s head)) (e1 ∙ ap (λ (u : State). withTable u (withSlot (u .table) s v)) e0)))
+    ∙ rw (eq, ev, ef, eg, et, es, eh, ez) (ap (λ (u : Table). doneWith st (position (st .sizes) (st .head) 1) (consolidateMap st p) u) (consolidate-table st p h))

@@ -16,6 +16,7 @@ use journal::Slot;
 use layout::Sizes;
 use op_pieces::Piece;
 use state::Places;
+use state_words::Words;
 
 // The frame that lines go to: the original where at most 32 are in the spare, else the spare.
 fn copy_to(t: Slot) -> usize
@@ -86,13 +87,13 @@ pub fn consolidate_piece(
     image: &[u8],
     z: Sizes,
     at: Places,
-    words: &[u64; 256],
+    words: &Words,
     p: usize,
     i: usize,
 ) -> Piece
     requires { ⌜ (z ≡ decoded (now words) .sizes) × (at ≡ placesOf (decoded (now words))) × Consolidates z (at .head) (decoded (now words) .table) p
         × (imageLength z ≤ length (now image)) ⌝ }
-    ensures { λ r. ⌜ Next (λ m. storeAt (decoded (now (words .entry))) m (Consolidate p))
+    ensures { λ r. ⌜ Next (λ m. storeAt (decoded (now (words .entry))) (Consolidate p))
         (λ m. storeValue (decoded (now (words .entry))) m (Consolidate p)) i (imageLength z) (now (image .entry)) r ⌝ }
 {
     let s = state_held::slots::slot_of(z, words, p);
@@ -101,14 +102,15 @@ pub fn consolidate_piece(
     slot_piece(image, z, at.head, t, e, p, i)
 }
 
-// What the consolidation of page p leaves when it is complete: the page's slot is free.
-pub fn complete_consolidate(z: Sizes, at: Places, words: &mut [u64; 256], p: usize)
+// What the consolidation of page p leaves when it is complete: the page's slot is free, and its frame is the one that the lines went to.
+pub fn complete_consolidate(z: Sizes, at: Places, words: &mut Words, p: usize)
     requires { ⌜ (z ≡ decoded (now words) .sizes) × (at ≡ placesOf (decoded (now words))) × Ranged (decoded (now words))
-        × (slotted (decoded (now words)) p ≡ true) ⌝ }
+        × (slotted (decoded (now words)) p ≡ true) × (p < 1024) ⌝ }
     ensures { λ _. ⌜ decoded (now (words .exit)) ≡ completed (decoded (now (words .entry))) (Consolidate p) ⌝ }
 {
     let s = state_held::slots::slot_of(z, words, p);
     let t = state_words::slot_at(words, s);
+    state_words::put_entry(words, p, copy_to(t));
     state_words::put_slot(words, s, journal::slots::free_slot(copy_from(t)));
     state_words::put_last(words, s, at.head);
     state_words::put_head(words, journal::records::position(z, at.head, 1));

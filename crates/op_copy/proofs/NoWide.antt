@@ -30,13 +30,13 @@ no-keys : tab {A = ℕ} 64 (λ i. 0) ≡ noKeys
 unfolding tab
 no-keys = refl
 
-keys-long : (c : List ℕ) → length c ≡ 256 → length (decoded c .wide .keys) ≡ 64
+keys-long : (c : List ℕ) → length c ≡ 1280 → length (decoded c .wide .keys) ≡ 64
 unfolding decoded part start size
 keys-long c n =
     let more : 64 ≤ length (drop 184 c) = omega (arith, length-drop 184 c) in
     length-take-le 64 (drop 184 c) more
 
-pub all-none : (c : List ℕ) → length c ≡ 256 → filled 64 (λ i. 0) (decoded c .wide .keys) ≡ noKeys
+pub all-none : (c : List ℕ) → length c ≡ 1280 → filled 64 (λ i. 0) (decoded c .wide .keys) ≡ noKeys
 all-none c n = filled-all 64 (decoded c .wide .keys) (keys-long c n) ∙ no-keys
 
 module _ (c : List ℕ) where
@@ -47,8 +47,8 @@ module _ (c : List ℕ) where
   unfolding decoded start size
   key-put e v l = put-part c 17 e v (omega arith) l
 
-  module _ (n : length c ≡ 256) where
-    one-word : (k v : ℕ) → start k < 256 → size k ≡ 1 → getD (set (part c k) 0 v) 0 0 ≡ v
+  module _ (n : length c ≡ 1280) where
+    one-word : (k v : ℕ) → start k < 1280 → size k ≡ 1 → getD (set (part c k) 0 v) 0 0 ≡ v
     unfolding part
     one-word k v l e =
         let long : size k ≤ length (drop (start k) c) = omega (arith, length-drop (start k) c) in
@@ -63,8 +63,8 @@ module _ (c : List ℕ) where
     count-put v = put-part c 6 0 v (omega arith) (omega arith) ∙ rw (one-word 6 v (omega arith) refl)
 
 -- the words with the keys emptied, then the two others: c is as at entry, d after the loop
-pub none-put : (c d : List ℕ) → length c ≡ 256 → length d ≡ 256 → decoded d ≡ withWide (decoded c) (wideOf (decoded c .wide .writer) (decoded c .wide .count) (filled 64 (λ i. 0) (decoded c .wide .keys)))
-    → length (set d 8 4) ≡ 256 → decoded (set (set d 8 4) 9 0) ≡ withWide (decoded c) noWide
+pub none-put : (c d : List ℕ) → length c ≡ 1280 → length d ≡ 1280 → decoded d ≡ withWide (decoded c) (wideOf (decoded c .wide .writer) (decoded c .wide .count) (filled 64 (λ i. 0) (decoded c .wide .keys)))
+    → length (set d 8 4) ≡ 1280 → decoded (set (set d 8 4) 9 0) ≡ withWide (decoded c) noWide
 none-put c d n m e l =
     count-put (set d 8 4) l 0
     ∙ ap (λ (u : State). withWide u (wideOf (u .wide .writer) 0 (u .wide .keys))) (wide-put d m 4 ∙ ap (λ (u : State). withWide u (wideOf 4 (u .wide .count) (u .wide .keys))) e)
@@ -83,7 +83,7 @@ unfolding flags
 length-flags [] = refl
 length-flags (x ∷ l) = ap suc (length-flags l)
 
-pub closed-none : (c : List ℕ) (z : Sizes) (w : ℕ) → length c ≡ 256 → 3 < w → decoded c ≡ withWriters (decoded c) (closedWriter z (decoded c .writers) w)
+pub closed-none : (c : List ℕ) (z : Sizes) (w : ℕ) → length c ≡ 1280 → 3 < w → decoded c ≡ withWriters (decoded c) (closedWriter z (decoded c .writers) w)
 unfolding closedWriter decoded part start size
 closed-none c z w n l =
     let four : length (take 4 (drop 10 c)) ≡ 4 = length-take-le 4 (drop 10 c) (omega (arith, length-drop 10 c)) in

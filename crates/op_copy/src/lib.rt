@@ -2,8 +2,9 @@
 ghost use mathlib.Core.Path.{_≡_};
 ghost use Prim.Native.Nat.{ℕ, _<_, _≤_};
 ghost use lib.ListN.{length, getD};
-ghost use Rattle.layout.specs.Layout.{Legal, imageLength};
+ghost use Rattle.layout.specs.Layout.{Legal, frames as framesOf, imageLength};
 ghost use Rattle.entries.specs.Entries.{keyPage};
+ghost use Rattle.state.specs.State.{ownFrame};
 ghost use Rattle.state.specs.Wide.{noWide};
 ghost use Rattle.op_pieces.specs.Pieces.{Next};
 ghost use Rattle.refinement.specs.Settled.{withWide, withWriters};
@@ -16,9 +17,10 @@ use state_words::COUNT;
 use state_words::KEYS;
 use state_words::NO_WRITER;
 use state_words::WIDE;
+use state_words::Words;
 
 // There is no wide transaction, and no entry is used.
-pub fn put_no_wide(words: &mut [u64; 256])
+pub fn put_no_wide(words: &mut Words)
     ensures { λ _. ⌜ decoded (now (words .exit)) ≡ withWide (decoded (now (words .entry))) noWide ⌝ }
 {
     let _ = state_words::all_words(*words);
@@ -32,7 +34,7 @@ pub fn put_no_wide(words: &mut [u64; 256])
 }
 
 // Closes writer w, if there is such a one, and empties its held lines.
-fn close(z: Sizes, words: &mut [u64; 256], w: usize)
+fn close(z: Sizes, words: &mut Words, w: usize)
     requires { ⌜ Legal z ⌝ }
     ensures { λ _. ⌜ decoded (now (words .exit)) ≡ withWriters (decoded (now (words .entry))) (closedWriter z (decoded (now (words .entry)) .writers) w) ⌝ }
 {
@@ -45,7 +47,7 @@ fn close(z: Sizes, words: &mut [u64; 256], w: usize)
 }
 
 // What a wide commit leaves: its writer w is closed, and no entry is used. A copying that a mount found has no writer.
-pub fn complete_copy(z: Sizes, words: &mut [u64; 256], w: usize)
+pub fn complete_copy(z: Sizes, words: &mut Words, w: usize)
     requires { ⌜ (z ≡ decoded (now words) .sizes) × Legal z × (w ≡ decoded (now words) .wide .writer) ⌝ }
     ensures { λ _. ⌜ decoded (now (words .exit)) ≡ copyDone (decoded (now (words .entry))) ⌝ }
 {
@@ -55,27 +57,27 @@ pub fn complete_copy(z: Sizes, words: &mut [u64; 256], w: usize)
 }
 
 // The frame that the line with this key is copied to.
-fn copied_frame(image: &[u8], z: Sizes, words: &[u64; 256], key: u64) -> usize
-    requires { ⌜ Legal z × (keyPage key < z .pages) × (imageLength z ≤ length (now image)) ⌝ }
-    ensures { λ r. ⌜ r ≡ copiedFrame z (decoded (now (words .entry)) .table) (now (image .entry)) key ⌝ }
+fn copied_frame(z: Sizes, words: &Words, key: u64) -> usize
+    requires { ⌜ Legal z × (keyPage key < z .pages) ⌝ }
+    ensures { λ r. ⌜ r ≡ copiedFrame (ownFrame (decoded (now (words .entry)))) z (decoded (now (words .entry)) .table) key ⌝ }
 {
     let p = (key / 64) as usize;
     let l = (key % 64) as usize;
     let s = state_held::slots::slot_of(z, words, p);
     if s < z.slots {
         let t = state_words::slot_at(words, s);
-        return frames::committed_frame(t, l) % (z.pages + z.slots);
+        return frames::committed_frame(t, l);
     }
-    let f = image_words::read_word(image, layout::page_word(p)) as usize;
-    f % (z.pages + z.slots)
+    state_words::entry_at(words, p)
 }
 
 // The piece of a wide commit that store i lies in: the count of entries, a line, or 0 for the count.
-pub fn copy_piece(image: &[u8], z: Sizes, words: &[u64; 256], count: usize, i: usize) -> Piece
-    requires { ⌜ Legal z × (count ≤ z .entries) × ((e : ℕ) → e < count → keyPage (getD (decoded (now words) .wide .keys) e 0) < z .pages)
+pub fn copy_piece(image: &[u8], z: Sizes, words: &Words, count: usize, i: usize) -> Piece
+    requires { ⌜ Legal z × (count ≤ z .entries) × ((e : ℕ) → e < count → (keyPage (getD (decoded (now words) .wide .keys) e 0) < z .pages)
+        × (copiedFrame (ownFrame (decoded (now words))) z (decoded (now words) .table) (getD (decoded (now words) .wide .keys) e 0) < framesOf z))
         × (imageLength z ≤ length (now image)) ⌝ }
-    ensures { λ r. ⌜ Next (copyAtOf z (decoded (now (words .entry)) .table) count (decoded (now (words .entry)) .wide .keys))
-        (copyValueOf z count) i (imageLength z) (now (image .entry)) r ⌝ }
+    ensures { λ r. ⌜ Next (λ m. copyAtOf (ownFrame (decoded (now (words .entry)))) z (decoded (now (words .entry)) .table) count
+        (decoded (now (words .entry)) .wide .keys)) (copyValueOf z count) i (imageLength z) (now (image .entry)) r ⌝ }
 {
     if i == 0 {
         return op_pieces::one(layout::COUNT_WORD, count as u64);
@@ -85,7 +87,7 @@ pub fn copy_piece(image: &[u8], z: Sizes, words: &[u64; 256], count: usize, i: u
     }
     let e = (i - 1) / 8;
     let key = state_words::key_at(words, e);
-    let f = copied_frame(image, z, words, key);
+    let f = copied_frame(z, words, key);
     let l = (key % 64) as usize;
     let to = layout::line_word(z, f, l);
     let from = layout::entry_word(z, e) + 1;

@@ -31,9 +31,9 @@ use Rattle.refinement.proofs.Going.{shapes-of}
 use Rattle.state_words.specs.Decoded.{withNothing}
 use Rattle.refinement.proofs.EventStores.{at-first, value-first, at-second, value-second, at-commit, value-commit}
 
-module _ (st : State) (k m : ℕ) (valid : stateOk st ≡ true) (row : refusal (opRows st (Event k m 0) (st .pending .frame)) ≡ 0) where
-  pub taken : EventTaken st k m (st .pending .frame)
-  taken = event-taken st k m 0 (st .pending .frame) row
+module _ (st : State) (k m : ℕ) (valid : stateOk st ≡ true) (row : refusal (opRows st (Event k m 0)) ≡ 0) where
+  pub taken : EventTaken st k m
+  taken = event-taken st k m 0 row
 
   module _ (full : Sixteen (st .table)) (sixty-four : length (st .writers .held) ≡ 64) (four : length (st .writers .opened) ≡ 4) where
     second-at : (j : ℕ) → writeAt (secondAsked st k m) 0 (ownMeter k m) j ≡ lineWord (st .sizes) (frameToWrite (st .sizes) (st .table) (st .next) 0 (ownMeter k m)) (ownMeter k m) + j
@@ -73,14 +73,14 @@ module _ (st : State) (k m : ℕ) (valid : stateOk st ≡ true) (row : refusal (
           next-as _ _ _ _ _ i (imageLength z) img r q (λ d x. ap (eventAt st k m) (g d) ∙ at-commit st k m (i - n + d)) (λ d x. ap (eventValue st k m) (g d) ∙ value-commit st k m (i - n + d))
 
     -- the state with the lines written: its slots have shapes, and writer 1 holds lines of one
-    wrote : Wrote (linesDone st k m) k m (st .pending .frame)
+    wrote : Wrote (linesDone st k m) k m
     wrote = lines-wrote st k m 0 valid full sixty-four four taken
 
     lines-shapes : slotsShaped (linesDone st k m .sizes) (linesDone st k m .table) ≡ true
     lines-shapes = shapes-of (linesDone st k m) (wrote .ready .ok)
 
     lines-slot : length (heldSlots (linesDone st k m .sizes) (linesDone st k m .writers .held) 1) ≡ 1
-    lines-slot = one-slot (linesDone st k m) k m (st .pending .frame) wrote
+    lines-slot = one-slot (linesDone st k m) k m wrote
 
     -- the state s that the code has is that one but for what is pending, which a commit does not read; z and head are what it read
     module _ (s : State) (es : withNothing s ≡ linesDone st k m) (z : Sizes) (ez : z ≡ s .sizes) where

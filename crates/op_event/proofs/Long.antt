@@ -1,4 +1,4 @@
--- The lengths of the parts of a state in 256 words.
+-- The lengths of the parts of a state in words.
 use Prim.Native.Nat.{ℕ, suc, _+_, _≤_}
 use mathlib.Core.List.{List, [], _∷_}
 use mathlib.Core.Path.{_≡_, refl, ap, _∙_}
@@ -16,7 +16,7 @@ unfolding flags
 length-flags [] = refl
 length-flags (n ∷ l) = ap suc (length-flags l)
 
-module _ (c : List ℕ) (n : length c ≡ 256) where
+module _ (c : List ℕ) (n : length c ≡ 1280) where
   pub table-long : Sixteen (decoded c .table)
   unfolding decoded part start size
   table-long = record {

@@ -11,7 +11,7 @@ use Rattle.op_write.specs.LineHeld.{lineHeld}
 abbrev pub begun : State → State
 begun st = withWriters st (withOpened (st .writers) (set (st .writers .opened) 1 true))
 
--- the lines of page 0, one or two, f being the page's frame
-abbrev pub linesHeld : State → ℕ → ℕ → ℕ → State
-linesHeld st f k m =
-    cond (movesCredit k) (lineHeld (lineHeld (begun st) f 1 0 (firstMeter k m)) f 1 0 (ownMeter k m)) (lineHeld (begun st) f 1 0 (firstMeter k m))
+-- the lines of page 0, one or two
+abbrev pub linesHeld : State → ℕ → ℕ → State
+linesHeld st k m =
+    cond (movesCredit k) (lineHeld (lineHeld (begun st) 1 0 (firstMeter k m)) 1 0 (ownMeter k m)) (lineHeld (begun st) 1 0 (firstMeter k m))

@@ -17,6 +17,7 @@ ghost use Rattle.op_event.specs.LinesHeld.{linesHeld};
 use layout::Sizes;
 use op_pieces::Piece;
 use state::Places;
+use state_words::Words;
 
 // The stores of an event's lines.
 fn line_stores(kind: usize) -> usize
@@ -25,38 +26,29 @@ fn line_stores(kind: usize) -> usize
     if meters::moves_credit(kind) { 16 } else { 8 }
 }
 
-// Writer 1 begins and holds the lines of an event, frame being that of page 0.
-fn hold_lines(z: Sizes, words: &mut [u64; 256], frame: usize, kind: usize, meter: usize)
+// Writer 1 begins and holds the lines of an event.
+fn hold_lines(z: Sizes, words: &mut Words, kind: usize, meter: usize)
     requires { ⌜ (z ≡ decoded (now words) .sizes) × Legal z × (decoded (now words) .next < z .slots) × (eventKnown kind meter ≡ true) ⌝ }
-    ensures { λ _. ⌜ decoded (now (words .exit)) ≡ linesHeld (decoded (now (words .entry))) frame kind meter ⌝ }
+    ensures { λ _. ⌜ decoded (now (words .exit)) ≡ linesHeld (decoded (now (words .entry))) kind meter ⌝ }
 {
     state_words::put_open(words, 1, true);
-    op_write::hold_line(z, words, frame, 1, 0, meters::first_meter(kind, meter));
+    op_write::hold_line(z, words, 1, 0, meters::first_meter(kind, meter));
     if !meters::moves_credit(kind) {
         return;
     }
-    op_write::hold_line(z, words, frame, 1, 0, meters::own_meter(kind, meter));
+    op_write::hold_line(z, words, 1, 0, meters::own_meter(kind, meter));
 }
 
 // The piece that store i of an event's commit lies in: its lines are held in a copy of the words.
-fn commit_piece(
-    z: Sizes,
-    at: Places,
-    words: &[u64; 256],
-    kind: usize,
-    meter: usize,
-    i: usize,
-) -> Piece
+fn commit_piece(z: Sizes, at: Places, words: &Words, kind: usize, meter: usize, i: usize) -> Piece
     requires { ⌜ (z ≡ decoded (now words) .sizes) × (at ≡ placesOf (decoded (now words))) × (stateOk (decoded (now words)) ≡ true)
-        × (isIdle (decoded (now words) .pending .op) ≡ false) × (refusal
-        (opRows (decoded (now words)) (Event kind meter 0) (decoded (now words) .pending .frame)) ≡ 0) ⌝ }
+        × (refusal (opRows (decoded (now words)) (Event kind meter 0)) ≡ 0) ⌝ }
     ensures { λ r. ⌜ ((img : List ℕ) → Next (λ m. commitAt (linesDone (decoded (now (words .entry))) kind meter) 1)
         (λ m. commitValue (linesDone (decoded (now (words .entry))) kind meter) 1) i (imageLength z) img r) ⌝ }
 {
     let _ = state_words::all_words(*words);
-    let frame = state_words::parts::frame_in(words);
     let mut after = *words;
-    hold_lines(z, &mut after, frame, kind, meter);
+    hold_lines(z, &mut after, kind, meter);
     op_commit::piece::commit_piece(z, at.head, &after, 1, 1, i)
 }
 
@@ -64,14 +56,13 @@ fn commit_piece(
 pub fn event_piece(
     z: Sizes,
     at: Places,
-    words: &[u64; 256],
+    words: &Words,
     kind: usize,
     meter: usize,
     i: usize,
 ) -> Piece
     requires { ⌜ (z ≡ decoded (now words) .sizes) × (at ≡ placesOf (decoded (now words))) × (stateOk (decoded (now words)) ≡ true)
-        × (isIdle (decoded (now words) .pending .op) ≡ false) × (refusal
-        (opRows (decoded (now words)) (Event kind meter 0) (decoded (now words) .pending .frame)) ≡ 0) ⌝ }
+        × (isIdle (decoded (now words) .pending .op) ≡ false) × (refusal (opRows (decoded (now words)) (Event kind meter 0)) ≡ 0) ⌝ }
     ensures { λ r. ⌜ ((img : List ℕ) → Next (λ m. eventAt (decoded (now (words .entry))) kind meter)
         (λ m. eventValue (decoded (now (words .entry))) kind meter) i (imageLength z) img r) ⌝ }
 {
@@ -91,12 +82,11 @@ pub fn event_piece(
 }
 
 // What an event leaves when it is complete.
-pub fn complete_event(z: Sizes, words: &mut [u64; 256], kind: usize, meter: usize)
+pub fn complete_event(z: Sizes, words: &mut Words, kind: usize, meter: usize)
     requires { ⌜ (z ≡ decoded (now words) .sizes) × Legal z × (decoded (now words) .head < 2 * z .places)
-        × (decoded (now words) .next < z .slots) × (isIdle (decoded (now words) .pending .op) ≡ false) × (eventKnown kind meter ≡ true) ⌝ }
+        × (decoded (now words) .next < z .slots) × (eventKnown kind meter ≡ true) ⌝ }
     ensures { λ _. ⌜ decoded (now (words .exit)) ≡ eventDone (decoded (now (words .entry))) kind meter ⌝ }
 {
-    let frame = state_words::parts::frame_in(words);
-    hold_lines(z, words, frame, kind, meter);
+    hold_lines(z, words, kind, meter);
     op_commit::complete_commit(z, words, 1);
 }

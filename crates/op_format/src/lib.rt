@@ -13,6 +13,7 @@ ghost use Rattle.state_words.specs.Decoded.{decoded};
 use fresh::fresh_word;
 use layout::Sizes;
 use op_pieces::Piece;
+use state_words::Words;
 
 // Eight words of a fresh image, from word a on.
 fn fresh_words(z: Sizes, a: usize) -> [u64; 8]
@@ -63,7 +64,7 @@ pub fn format_piece(z: Sizes, i: usize) -> Piece
 }
 
 // What a format leaves when it is complete: the state is fresh all along.
-pub fn complete_format(words: &mut [u64; 256])
+pub fn complete_format(words: &mut Words)
     ensures { λ _. ⌜ decoded (now (words .exit)) ≡ completed (decoded (now (words .entry))) Format ⌝ }
 {
     state_words::put_nothing(words);

@@ -12,9 +12,10 @@ ghost use Rattle.state_words.specs.Decoded.{decoded};
 use layout::Sizes;
 use op_pieces::Piece;
 use state_held::held::find_entry;
+use state_words::Words;
 
 // The piece of a wide write of line l of page p that store i lies in: the key, or the line, which stands in the words. So many entries are used.
-pub fn log_piece(z: Sizes, words: &[u64; 256], count: usize, p: usize, l: usize, i: usize) -> Piece
+pub fn log_piece(z: Sizes, words: &Words, count: usize, p: usize, l: usize, i: usize) -> Piece
     requires { ⌜ (z ≡ decoded (now words) .sizes) × (count ≡ decoded (now words) .wide .count) × Legal z × (count ≤ z .entries)
         × (entryFor (decoded (now words) .wide) p l < z .entries) × (p < z .pages) × (l < 64) × (i < 9)
         × (isIdle (decoded (now words) .pending .op) ≡ false) ⌝ }
@@ -32,7 +33,7 @@ pub fn log_piece(z: Sizes, words: &[u64; 256], count: usize, p: usize, l: usize,
 }
 
 // What a wide write leaves: the line of page p has its entry, the one that it had or one more. The wide writer uses so many.
-pub fn complete_log(words: &mut [u64; 256], wide: usize, count: usize, p: usize, l: usize)
+pub fn complete_log(words: &mut Words, wide: usize, count: usize, p: usize, l: usize)
     requires { ⌜ (wide ≡ decoded (now words) .wide .writer) × (count ≡ decoded (now words) .wide .count) × (count ≤ 64)
         × (entryFor (decoded (now words) .wide) p l < 64) × (p < 1024) × (l < 64) ⌝ }
     ensures { λ _. ⌜ decoded (now (words .exit)) ≡ logDone (decoded (now (words .entry))) p l ⌝ }

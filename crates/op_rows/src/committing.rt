@@ -11,9 +11,10 @@ ghost use Rattle.op_rows.specs.Seen.{Low, seen};
 use crate::no_room;
 use layout::Sizes;
 use state::Places;
+use state_words::Words;
 
 // The first row from 11 on that turns a commit back.
-pub fn commit_row(z: Sizes, at: Places, words: &[u64; 256], writer: usize) -> usize
+pub fn commit_row(z: Sizes, at: Places, words: &Words, writer: usize) -> usize
     requires { ⌜ Low z at ⌝ }
     ensures { λ r. ⌜ r ≡ refusal (commitRows (seen z at (decoded (now (words .entry)))) writer) ⌝ }
 {
@@ -34,7 +35,7 @@ pub fn commit_row(z: Sizes, at: Places, words: &[u64; 256], writer: usize) -> us
 }
 
 // The first row from 11 on that turns a prepare back.
-pub(crate) fn prepare_row(z: Sizes, at: Places, words: &[u64; 256], writer: usize) -> usize
+pub(crate) fn prepare_row(z: Sizes, at: Places, words: &Words, writer: usize) -> usize
     requires { ⌜ Low z at ⌝ }
     ensures { λ r. ⌜ r ≡ refusal (prepareRows (seen z at (decoded (now (words .entry)))) writer) ⌝ }
 {
@@ -65,7 +66,7 @@ pub(crate) fn confirm_row(prepared: usize, writer: usize) -> usize
 }
 
 // The first row from 11 on that turns a consolidation of page p back.
-pub fn consolidate_row(z: Sizes, at: Places, words: &[u64; 256], p: usize) -> usize
+pub fn consolidate_row(z: Sizes, at: Places, words: &Words, p: usize) -> usize
     requires { ⌜ Low z at ⌝ }
     ensures { λ r. ⌜ r ≡ refusal (consolidateRows (seen z at (decoded (now (words .entry)))) p) ⌝ }
 {

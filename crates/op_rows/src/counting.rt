@@ -10,9 +10,10 @@ use layout::Sizes;
 use state::Op;
 use state::Places;
 use state_held::held::held_count;
+use state_words::Words;
 
 // How many slots have a live record.
-pub fn recorded_count(z: Sizes, words: &[u64; 256]) -> usize
+pub fn recorded_count(z: Sizes, words: &Words) -> usize
     requires { ⌜ Legal z ⌝ }
     ensures { λ r. ⌜ r ≡ length (recordedSlots z (decoded (now (words .entry)) .table .last)) ⌝ }
 {
@@ -27,7 +28,7 @@ pub fn recorded_count(z: Sizes, words: &[u64; 256]) -> usize
 }
 
 // The stores that a checkpoint needs.
-pub fn checkpoint_needs(z: Sizes, at: Places, words: &[u64; 256]) -> usize
+pub fn checkpoint_needs(z: Sizes, at: Places, words: &Words) -> usize
     requires { ⌜ Legal z ⌝ }
     ensures { λ r. ⌜ r ≡ checkpointNeeds (at .head) (at .tail) (length (recordedSlots z (decoded (now (words .entry)) .table .last))) ⌝ }
 {
@@ -38,7 +39,7 @@ pub fn checkpoint_needs(z: Sizes, at: Places, words: &[u64; 256]) -> usize
 }
 
 // The stores that an operation needs, which no row turns back.
-pub fn op_needs(z: Sizes, at: Places, words: &[u64; 256], op: Op) -> usize
+pub fn op_needs(z: Sizes, at: Places, words: &Words, op: Op) -> usize
     requires { ⌜ Legal z × (at .count ≤ 64) × Asked z (decoded (now words) .table .page) op ⌝ }
     ensures { λ r. ⌜ r ≡ needs (seen z at (decoded (now (words .entry)))) op ⌝ }
 {

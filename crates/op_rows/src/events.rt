@@ -1,4 +1,4 @@
-// The rows of an event.
+// The rows of an event from 29 on, in the order of document 02, L2.
 ghost use mathlib.Core.Path.{_≡_};
 ghost use mathlib.Core.Bool.{true};
 ghost use Prim.Native.Nat.{_<_};
@@ -13,19 +13,19 @@ use crate::no_room;
 use crate::writing;
 use layout::Sizes;
 use state::Places;
+use state_words::Words;
 
-// The first row from 12 to 16 that turns a known event back, with the slot s of page 0, S where it has none, and its frame.
+// The first row from 12 to 15 that turns a known event back, with the slot s of page 0, S where it has none.
 pub fn event_next_row(
     z: Sizes,
     at: Places,
-    words: &[u64; 256],
+    words: &Words,
     kind: usize,
     meter: usize,
     s: usize,
-    frame: usize,
 ) -> usize
     requires { ⌜ Legal z × (at .next < z .slots) × (eventKnown kind meter ≡ true) ⌝ }
-    ensures { λ r. ⌜ r ≡ refusal (eventNextRowsIn z at (decoded (now (words .entry))) kind meter s frame) ⌝ }
+    ensures { λ r. ⌜ r ≡ refusal (eventNextRowsIn z at (decoded (now (words .entry))) kind meter s) ⌝ }
 {
     if state_words::open_at(words, 1) {
         return 12;
@@ -40,23 +40,13 @@ pub fn event_next_row(
     if writing::none_free(z, at.next, words, s) {
         return 15;
     }
-    if writing::frame_bad(z, words, s, frame) {
-        return 16;
-    }
     0
 }
 
 // The first row that turns a pending event back.
-pub(crate) fn event_row(
-    z: Sizes,
-    at: Places,
-    words: &[u64; 256],
-    kind: usize,
-    meter: usize,
-    frame: usize,
-) -> usize
+pub(crate) fn event_row(z: Sizes, at: Places, words: &Words, kind: usize, meter: usize) -> usize
     requires { ⌜ Low z at ⌝ }
-    ensures { λ r. ⌜ r ≡ refusal (opRows (seen z at (decoded (now (words .entry)))) (Event kind meter 0) frame) ⌝ }
+    ensures { λ r. ⌜ r ≡ refusal (opRows (seen z at (decoded (now (words .entry)))) (Event kind meter 0)) ⌝ }
 {
     if at.wide < 4 {
         return 29;
@@ -65,7 +55,7 @@ pub(crate) fn event_row(
         return 20;
     }
     let s = state_held::slots::slot_of(z, words, 0);
-    let row = event_next_row(z, at, words, kind, meter, s, frame);
+    let row = event_next_row(z, at, words, kind, meter, s);
     if row != 0 {
         return row;
     }

@@ -24,7 +24,7 @@ pub use room::no_room;
 use state::Op;
 use state::Places;
 use state_held::slots::slot_of;
-pub use writing::frame_bad;
+use state_words::Words;
 pub use writing::log_row;
 pub use writing::write_row;
 
@@ -47,10 +47,10 @@ fn span_of(page: usize, line: usize, offset: usize, length: usize) -> Span
     }
 }
 
-// The first row from 11 on that turns an operation back, of a write or an event with the page's frame.
-pub fn op_row(z: Sizes, at: Places, words: &[u64; 256], op: Op, frame: usize) -> usize
+// The first row from 11 on that turns an operation back.
+pub fn op_row(z: Sizes, at: Places, words: &Words, op: Op) -> usize
     requires { ⌜ Low z at × (at .count ≤ 64) ⌝ }
-    ensures { λ r. ⌜ r ≡ refusal (opRows (seen z at (decoded (now (words .entry)))) op frame) ⌝ }
+    ensures { λ r. ⌜ r ≡ refusal (opRows (seen z at (decoded (now (words .entry)))) op) ⌝ }
 {
     match op {
         Op::Idle => 0,
@@ -63,7 +63,7 @@ pub fn op_row(z: Sizes, at: Places, words: &[u64; 256], op: Op, frame: usize) ->
         } => {
             let s = slot_of(z, words, p);
             let a = span_of(p, line, offset, length);
-            write_row(z, at, words, writer, a, s, frame)
+            write_row(z, at, words, writer, a, s)
         }
         Op::Commit { writer } => commit_row(z, at, words, writer),
         Op::Consolidate { page: p } => consolidate_row(z, at, words, p),
@@ -72,7 +72,7 @@ pub fn op_row(z: Sizes, at: Places, words: &[u64; 256], op: Op, frame: usize) ->
             kind,
             meter,
             amount: _,
-        } => event_row(z, at, words, kind, meter, frame),
+        } => event_row(z, at, words, kind, meter),
         Op::Prepare { writer } => prepare_row(z, at, words, writer),
         Op::Confirm { writer } => confirm_row(at.prepared, writer),
         Op::Log {
@@ -81,9 +81,8 @@ pub fn op_row(z: Sizes, at: Places, words: &[u64; 256], op: Op, frame: usize) ->
             offset,
             length,
         } => {
-            let s = slot_of(z, words, p);
             let a = span_of(p, line, offset, length);
-            log_row(z, at, words, a, s, frame)
+            log_row(z, at, words, a)
         }
         Op::Copy => copy_row(at.prepared),
         Op::Format => 0,

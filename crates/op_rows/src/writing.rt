@@ -6,10 +6,11 @@ ghost use Rattle.layout.specs.Layout.{Legal};
 ghost use Rattle.state.specs.Wide.{wideOf, noEntryLeft};
 ghost use Rattle.operations.specs.Operations.{writeArgsBad, lineTaken, noneFree};
 ghost use Rattle.state_words.specs.Decoded.{decoded};
-ghost use Rattle.op_rows.specs.Seen.{frameBadIn, writeRowsIn, logRowsIn};
+ghost use Rattle.op_rows.specs.Seen.{writeRowsIn, logRowsIn};
 use crate::Span;
 use layout::Sizes;
 use state::Places;
+use state_words::Words;
 
 // Row 11 of a write, without the data. No sum wraps.
 fn write_args_bad(z: Sizes, writer: usize, span: Span) -> bool
@@ -29,7 +30,7 @@ fn write_args_bad(z: Sizes, writer: usize, span: Span) -> bool
 }
 
 // Row 14: the page has slot s, and a writer other than w holds line l.
-pub(crate) fn line_taken(z: Sizes, words: &[u64; 256], w: usize, s: usize, l: usize) -> bool
+pub(crate) fn line_taken(z: Sizes, words: &Words, w: usize, s: usize, l: usize) -> bool
     requires { ⌜ Legal z × (l < 64) ⌝ }
     ensures { λ r. ⌜ r ≡ lineTaken z (decoded (now (words .entry)) .writers .held) w s l ⌝ }
 {
@@ -40,7 +41,7 @@ pub(crate) fn line_taken(z: Sizes, words: &[u64; 256], w: usize, s: usize, l: us
 }
 
 // Row 15: the page has no slot and none is free.
-pub(crate) fn none_free(z: Sizes, next: usize, words: &[u64; 256], s: usize) -> bool
+pub(crate) fn none_free(z: Sizes, next: usize, words: &Words, s: usize) -> bool
     requires { ⌜ Legal z × (next < z .slots) ⌝ }
     ensures { λ r. ⌜ r ≡ noneFree z (decoded (now (words .entry)) .table .page) next s ⌝ }
 {
@@ -50,33 +51,10 @@ pub(crate) fn none_free(z: Sizes, next: usize, words: &[u64; 256], s: usize) -> 
     z.slots <= state_held::slots::free_after(z, words, next)
 }
 
-// Row 16, of the frame f of a page that has slot s, or none.
-pub fn frame_bad(z: Sizes, words: &[u64; 256], s: usize, f: usize) -> bool
-    requires { ⌜ Legal z ⌝ }
-    ensures { λ r. ⌜ r ≡ frameBadIn z (decoded (now (words .entry))) s f ⌝ }
-{
-    if s < z.slots {
-        let a = state_words::slot_at(words, s);
-        return a.original != f;
-    }
-    if z.pages + z.slots <= f {
-        return true;
-    }
-    state_held::slots::frame_of_slot(z, words, f)
-}
-
-// The first row from 11 on that turns a write back, with the page's slot s, S where it has none, and its frame.
-pub fn write_row(
-    z: Sizes,
-    at: Places,
-    words: &[u64; 256],
-    writer: usize,
-    span: Span,
-    s: usize,
-    frame: usize,
-) -> usize
+// The first row from 11 on that turns a write back, with the page's slot s, S where it has none.
+pub fn write_row(z: Sizes, at: Places, words: &Words, writer: usize, span: Span, s: usize) -> usize
     requires { ⌜ Legal z × (at .next < z .slots) ⌝ }
-    ensures { λ r. ⌜ r ≡ refusal (writeRowsIn z at (decoded (now (words .entry))) writer span s frame) ⌝ }
+    ensures { λ r. ⌜ r ≡ refusal (writeRowsIn z at (decoded (now (words .entry))) writer span s) ⌝ }
 {
     if write_args_bad(z, writer, span) {
         return 11;
@@ -93,14 +71,11 @@ pub fn write_row(
     if none_free(z, at.next, words, s) {
         return 15;
     }
-    if frame_bad(z, words, s, frame) {
-        return 16;
-    }
     0
 }
 
 // Row 30: line l of page p has no entry, and all are used.
-fn no_entry_left(z: Sizes, count: usize, words: &[u64; 256], p: usize, l: usize) -> bool
+fn no_entry_left(z: Sizes, count: usize, words: &Words, p: usize, l: usize) -> bool
     requires { ⌜ (count ≤ 64) × (p < 1024) × (l < 64) ⌝ }
     ensures { λ r. ⌜ r ≡ noEntryLeft z (wideOf 0 count (decoded (now (words .entry)) .wide .keys)) p l ⌝ }
 {
@@ -108,17 +83,10 @@ fn no_entry_left(z: Sizes, count: usize, words: &[u64; 256], p: usize, l: usize)
     !(e < count) & (z.entries <= count)
 }
 
-// The first row from 11 on that turns a wide write back, with the page's slot s, S where it has none, and its frame.
-pub fn log_row(
-    z: Sizes,
-    at: Places,
-    words: &[u64; 256],
-    span: Span,
-    s: usize,
-    frame: usize,
-) -> usize
+// The first row from 11 on that turns a wide write back.
+pub fn log_row(z: Sizes, at: Places, words: &Words, span: Span) -> usize
     requires { ⌜ Legal z × (at .count ≤ 64) ⌝ }
-    ensures { λ r. ⌜ r ≡ refusal (logRowsIn z at (decoded (now (words .entry))) span s frame) ⌝ }
+    ensures { λ r. ⌜ r ≡ refusal (logRowsIn z at (decoded (now (words .entry))) span) ⌝ }
 {
     if write_args_bad(z, at.wide, span) {
         return 11;
@@ -128,9 +96,6 @@ pub fn log_row(
     }
     if no_entry_left(z, at.count, words, span.page, span.line) {
         return 30;
-    }
-    if frame_bad(z, words, s, frame) {
-        return 16;
     }
     0
 }

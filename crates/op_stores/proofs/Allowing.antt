@@ -18,7 +18,7 @@ use Rattle.refinement.proofs.Going.{ranges-of, entries-of}
 use Rattle.op_rows.specs.Seen.{seen}
 use Rattle.op_stores.specs.Asks.{Asks, Allowed}
 
-module _ (st : State) {op : Op} (r : refusal (opRows st op 0) ≡ 0) where
+module _ (st : State) {op : Op} (r : refusal (opRows st op) ≡ 0) where
   pub now-commit : {w : ℕ} → op ≡ Commit w → w < 4
   now-commit {w} q = commit-taken st w (rw q at r) .writer-low
 
@@ -30,13 +30,13 @@ module _ (z : Sizes) (at : Places) (st : State) (op : Op) (h : Allowed z at st o
   pub allowed-leans : Legal z × (at .count ≤ 64) × Asked z (st .table .page) op
   allowed-leans =
       let r = ranges-of st (h .ok) .legal in
-      rw (h .sizes, h .places) (r, omega (arith, entries-of st (h .ok) .few, r .entries-high), op-asked st op 0 (h .rows))
+      rw (h .sizes, h .places) (r, omega (arith, entries-of st (h .ok) .few, r .entries-high), op-asked st op (h .rows))
 
   pub allowed-needs : (n : ℕ) → n ≡ needs (seen z at st) op → n ≡ needs st op
   allowed-needs n e = e ∙ rw (h .sizes, h .places)
 
   abbrev pub withoutLines : Pending
-  withoutLines = record { op = op; made = 0; line = replicate 8 0; second = replicate 8 0; frame = 0 }
+  withoutLines = record { op = op; made = 0; line = replicate 8 0; second = replicate 8 0 }
 
   pub allowed-asks : (img : List ℕ) → imageLength z ≤ length img → (n : ℕ) → n ≡ needs st op → (n ≡ 0 → ⊥) → Asks z at st img withoutLines
   allowed-asks img long n e some =

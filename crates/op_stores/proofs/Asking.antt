@@ -42,7 +42,7 @@ module _ (st : State) (rs : List Row) (row : ℕ) where
 
   -- z and at are the sizes and places as they were read; p is the operation, whose rows do not apply where the call's do not
   pub may-ask : (img : List ℕ) → row ≡ refusal (quietRows st (length img) ++ rs) → row ≡ 0 → (z : Sizes) (at : Places) → z ≡ st .sizes → at ≡ placesOf st → (p : Pending) → isIdle (p .op) ≡ false → p .made ≡ 0
-      → (refusal rs ≡ 0 → refusal (opRows st (p .op) (p .frame)) ≡ 0) → opFits (st .wide .writer) (isFresh st) (p .op) ≡ true → 0 < needs st (p .op) → Asks z at st img p
+      → (refusal rs ≡ 0 → refusal (opRows st (p .op)) ≡ 0) → opFits (st .wide .writer) (isFresh st) (p .op) ≡ true → 0 < needs st (p .op) → Asks z at st img p
   may-ask img e none z at ez ea p i m r f some =
       let q = quieted (length img) e none in
       record { sizes = ez; places = ea; ok = q .ok; long = rw ez (q .long); idle = q .idle; busy = i; none-made = m; rows = r (q .rows); fits = f; some = some }

@@ -30,7 +30,7 @@ use Rattle.refinement.proofs.LinesAsked.{needs-lines, lines-valid}
 use Rattle.refinement.proofs.Steps.{run-none, run-image, run-after}
 use Rattle.answers.specs.declared.Answer.{Answer}
 use Rattle.answers.specs.declared.Answer.the-variants.{Taken}
-use Rattle.answers.specs.Answers.{asAnswer}
+use Rattle.answers.specs.Answers.{asAnswer, isAnswer}
 use Rattle.answers.proofs.Answered.{refused-known}
 use Rattle.state_words.specs.Decoded.{placesOf}
 use Rattle.state_pending.specs.Put.{withPending as put}
@@ -67,17 +67,17 @@ budget-few u st = budget-in-few u (st .pending .op) (st .pending .made) (left st
 -- ---- the operation pending
 
 module _ (z : Sizes) (at : Places) (st : State) (img : List ℕ) (p : Pending) (h : Asks z at st img p) where
-  as-lines : put st p ≡ withLines st (p .op) (p .line) (p .second) (p .frame)
-  as-lines = ap (λ (m : ℕ). put st (record { op = p .op; made = m; line = p .line; second = p .second; frame = p .frame })) (h .none-made)
+  as-lines : put st p ≡ withLines st (p .op) (p .line) (p .second)
+  as-lines = ap (λ (m : ℕ). put st (record { op = p .op; made = m; line = p .line; second = p .second })) (h .none-made)
 
   pub put-valid : stateOk (put st p) ≡ true
-  put-valid = rw as-lines (lines-valid st (p .line) (p .second) (p .frame) (p .op) (h .ok) (h .fits) (h .rows) (h .some))
+  put-valid = rw as-lines (lines-valid st (p .line) (p .second) (p .op) (h .ok) (h .fits) (h .rows) (h .some))
 
   pub put-served : Served z at (put st p)
   put-served = record { sizes = h .sizes; places = h .places; ok = put-valid; busy = h .busy }
 
   pub put-needs : needs (put st p) (p .op) ≡ needs st (p .op)
-  put-needs = ap (λ (s : State). needs s (p .op)) as-lines ∙ needs-lines st (p .line) (p .second) (p .frame) (p .op) (p .op)
+  put-needs = ap (λ (s : State). needs s (p .op)) as-lines ∙ needs-lines st (p .line) (p .second) (p .op) (p .op)
 
   -- none of its stores is made
   pub put-left : left (put st p) ≡ needs st (p .op)
@@ -87,7 +87,7 @@ module _ (z : Sizes) (at : Places) (st : State) (img : List ℕ) (p : Pending) (
   pub asks-leans : Legal z × (at .count ≤ 64) × AskedOf z (st .table .page) (p .op)
   asks-leans =
       let r = ranges-of st (h .ok) .legal in
-      rw (h .sizes, h .places) (r, omega (arith, entries-of st (h .ok) .few, r .entries-high), op-asked st (p .op) (p .frame) (h .rows))
+      rw (h .sizes, h .places) (r, omega (arith, entries-of st (h .ok) .few, r .entries-high), op-asked st (p .op) (h .rows))
 
   pub asks-needs : (k : ℕ) → k ≡ needs (seen z at st) (p .op) → k ≡ needs st (p .op)
   asks-needs k e = e ∙ rw (h .sizes, h .places)
@@ -130,12 +130,12 @@ module _ (z : Sizes) (at : Places) (st : State) (img : List ℕ) (p : Pending) (
     -- of a call that no row turns back, row being what the code found
     module _ (rs : List Row) (row : ℕ) (e : row ≡ refusal rs) (none : row ≡ 0) where
       -- its outcome is that of asking for the operation, which keeps one finished line at most
-      pub started-asked : p .second ≡ replicate 8 0 → Started a after bs (asked (refusal rs) st (p .op) (p .line) (p .frame)) img u
+      pub started-asked : p .second ≡ replicate 8 0 → Started a after bs (asked (refusal rs) st (p .op) (p .line)) img u
       started-asked q =
           let some : eqb (needs st (p .op)) 0 ≡ false = ne-eqb (needs st (p .op)) 0 (λ x. omega (arith, x, h .some)) in
           let zero : refusal rs ≡ 0 = sym e ∙ none in
-          let same : put st p ≡ withPending st (p .op) (p .line) (p .frame) = as-lines ∙ ap (λ (l : List ℕ). withLines st (p .op) (p .line) l (p .frame)) q in
-          started (asked (refusal rs) st (p .op) (p .line) (p .frame)) (rw (zero, some) (ap (λ (s : State). record { number = 0; stores = needs st (p .op); state = s }) (sym same)))
+          let same : put st p ≡ withPending st (p .op) (p .line) = as-lines ∙ ap (λ (l : List ℕ). withLines st (p .op) (p .line) l) q in
+          started (asked (refusal rs) st (p .op) (p .line)) (rw (zero, some) (ap (λ (s : State). record { number = 0; stores = needs st (p .op); state = s }) (sym same)))
 
       -- its outcome is the operation pending, with so many stores
       pub started-pending : (n : ℕ) (after-asking : State) → n ≡ needs st (p .op) → after-asking ≡ put st p → Started a after bs (answered (refusal rs) st n after-asking) img u
@@ -146,7 +146,7 @@ module _ (z : Sizes) (at : Places) (st : State) (img : List ℕ) (p : Pending) (
 -- ---- the other ways that a call comes to its end: turned back by a row, or complete with no store
 
 module _ (st : State) (img : List ℕ) (u : Until) (rs : List Row) (row : ℕ) (e : row ≡ refusal rs) where
-  pub started-refused : (row ≡ 0 → ⊥) → row ≤ 30 → (a : Answer) → a ≡ asAnswer row 0 → (n : ℕ) (after : State) → Started a st img (answered (refusal rs) st n after) img u
+  pub started-refused : (row ≡ 0 → ⊥) → isAnswer row ≡ true → (a : Answer) → a ≡ asAnswer row 0 → (n : ℕ) (after : State) → Started a st img (answered (refusal rs) st n after) img u
   started-refused z l a ha n after =
       let f : eqb (refusal rs) 0 ≡ false = ne-eqb (refusal rs) 0 (λ q. z (e ∙ q)) in
       let k = refused-known a row st l ha in
@@ -158,8 +158,8 @@ module _ (st : State) (img : List ℕ) (u : Until) (rs : List Row) (row : ℕ) (
         let zero : refusal rs ≡ 0 = sym e ∙ none in
         (rw (zero, ha), rw zero)
 
-    pub started-done : (op : Op) (line : List ℕ) (frame : ℕ) → needs st op ≡ 0 → (a : Answer) (after : State) → a ≡ Taken 0 → after ≡ completed st op
-        → Started a after img (asked (refusal rs) st op line frame) img u
-    started-done op line frame n a after ha hs =
+    pub started-done : (op : Op) (line : List ℕ) → needs st op ≡ 0 → (a : Answer) (after : State) → a ≡ Taken 0 → after ≡ completed st op
+        → Started a after img (asked (refusal rs) st op line) img u
+    started-done op line n a after ha hs =
         let zero : refusal rs ≡ 0 = sym e ∙ none in
         (rw (zero, n, ha, hs), rw (zero, n))

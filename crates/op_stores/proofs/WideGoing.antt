@@ -27,8 +27,8 @@ entry-room z d p l few room =
     let full : leb (z .entries) (d .count) ≡ false = rw t at room in
     omega (arith, entry-le (d .keys) (d .count) (keyOf p l), leb-false (z .entries) (d .count) full))
 
-pub log-of : (st : State) → refusal (opRows st (st .pending .op) (st .pending .frame)) ≡ 0 → {p l o n : ℕ} → st .pending .op ≡ Log p l o n → LogTaken st p l o n (st .pending .frame)
-log-of st taken {p} {l} {o} {n} e = log-taken st p l o n (st .pending .frame) (rw e at taken)
+pub log-of : (st : State) → refusal (opRows st (st .pending .op)) ≡ 0 → {p l o n : ℕ} → st .pending .op ≡ Log p l o n → LogTaken st p l o n
+log-of st taken {p} {l} {o} {n} e = log-taken st p l o n (rw e at taken)
 
 -- of n stores that are left, the last is the operation's at most
 module _ (st : State) (g : Going st) (n : ℕ) (h : n ≤ left st) where

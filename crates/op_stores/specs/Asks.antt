@@ -24,16 +24,16 @@ pub record Asks (z : Sizes) (at : Places) (st : State) (img : List ℕ) (p : Pen
   pub idle : isIdle (st .pending .op) ≡ true
   pub busy : isIdle (p .op) ≡ false
   pub none-made : p .made ≡ 0
-  pub rows : refusal (opRows st (p .op) (p .frame)) ≡ 0
+  pub rows : refusal (opRows st (p .op)) ≡ 0
   pub fits : opFits (st .wide .writer) (isFresh st) (p .op) ≡ true
   pub some : 0 < needs st (p .op)
 
--- the same of an operation that keeps no lines and reads no page's frame; it may need no store
+-- the same of an operation that keeps no lines; it may need no store
 pub record Allowed (z : Sizes) (at : Places) (st : State) (op : Op) : Type 0 where
   pub sizes : z ≡ st .sizes
   pub places : at ≡ placesOf st
   pub ok : stateOk st ≡ true
   pub idle : isIdle (st .pending .op) ≡ true
   pub busy : isIdle op ≡ false
-  pub rows : refusal (opRows st op 0) ≡ 0
+  pub rows : refusal (opRows st op) ≡ 0
   pub fits : opFits (st .wide .writer) (isFresh st) op ≡ true

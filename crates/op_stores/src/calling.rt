@@ -16,9 +16,10 @@ use layout::Sizes;
 use state::Op;
 use state::Pending;
 use state::Places;
+use state_words::Words;
 
 // What an operation leaves that needs no store.
-fn complete_now(z: Sizes, at: Places, words: &mut [u64; 256], op: Op)
+fn complete_now(z: Sizes, at: Places, words: &mut Words, op: Op)
     requires { ⌜ Allowed z at (decoded (now words)) op × (needs (decoded (now words)) op ≡ 0) ⌝ }
     ensures { λ _. ⌜ decoded (now (words .exit)) ≡ completed (decoded (now (words .entry))) op ⌝ }
 {
@@ -57,14 +58,14 @@ pub fn ask(
     image: &mut [u8],
     z: Sizes,
     at: Places,
-    words: &mut [u64; 256],
+    words: &mut Words,
     op: Op,
     until: Until,
 ) -> Answer
     requires { ⌜ Allowed z at (decoded (now words)) op × (imageLength z ≤ length (now image)) ⌝ }
     ensures answer { λ r. ⌜ r ≡ Taken (needs (decoded (now (words .entry))) op) ⌝ }
     ensures started { λ r. ⌜ Started r (decoded (now (words .exit))) (now (image .exit))
-        (asked 0 (decoded (now (words .entry))) op (replicate 8 0) 0) (now (image .entry)) until ⌝ }
+        (asked 0 (decoded (now (words .entry))) op (replicate 8 0)) (now (image .entry)) until ⌝ }
 {
     if op_rows::op_needs(z, at, words, op) == 0 {
         complete_now(z, at, words, op);
@@ -76,7 +77,6 @@ pub fn ask(
         made: 0,
         line: none,
         second: none,
-        frame: 0,
     };
     crate::start(image, z, at, words, p, until)
 }

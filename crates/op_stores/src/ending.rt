@@ -6,9 +6,10 @@ ghost use Rattle.op_writer.specs.Served.{Served};
 use layout::Sizes;
 use state::Op;
 use state::Places;
+use state_words::Words;
 
 // Ends the pending operation.
-pub(crate) fn complete(z: Sizes, at: Places, words: &mut [u64; 256], op: Op)
+pub(crate) fn complete(z: Sizes, at: Places, words: &mut Words, op: Op)
     requires { ⌜ Served z at (decoded (now words)) × (op ≡ decoded (now words) .pending .op) ⌝ }
     ensures { λ _. ⌜ decoded (now (words .exit)) ≡ completed (decoded (now (words .entry))) op ⌝ }
 {

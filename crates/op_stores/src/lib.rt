@@ -22,6 +22,7 @@ use layout::Sizes;
 use state::Op;
 use state::Pending;
 use state::Places;
+use state_words::Words;
 pub use telling::Ahead;
 pub use telling::left_in;
 pub use telling::look_ahead;
@@ -34,7 +35,7 @@ pub enum Until {
 }
 
 // Makes the next n stores of what is pending, and leaves what they leave where they are the last.
-pub fn go(image: &mut [u8], z: Sizes, at: Places, words: &mut [u64; 256], n: usize)
+pub fn go(image: &mut [u8], z: Sizes, at: Places, words: &mut Words, n: usize)
     requires { ⌜ Served z at (decoded (now words)) × (n ≤ left (decoded (now words))) × (imageLength z ≤ length (now image)) ⌝ }
     ensures image { λ _. ⌜ now (image .exit) ≡ storesMade (decoded (now (words .entry))) n (now (image .entry)) ⌝ }
     ensures words { λ _. ⌜ decoded (now (words .exit)) ≡ stateAfter (decoded (now (words .entry))) n ⌝ }
@@ -102,7 +103,7 @@ pub fn start(
     image: &mut [u8],
     z: Sizes,
     at: Places,
-    words: &mut [u64; 256],
+    words: &mut Words,
     p: Pending,
     until: Until,
 ) -> Answer

@@ -19,9 +19,10 @@ use op_pieces::Piece;
 use state::Op;
 use state::Places;
 use state_held::held::held_count;
+use state_words::Words;
 
 // The piece of a commit or a prepare by writer w that store i lies in.
-fn commit_piece(z: Sizes, at: Places, words: &[u64; 256], w: usize, i: usize) -> Piece
+fn commit_piece(z: Sizes, at: Places, words: &Words, w: usize, i: usize) -> Piece
     requires { ⌜ Legal z × (at .head < 2 * z .places) × (slotsShaped z (decoded (now words) .table) ≡ true) × (w < 4) ⌝ }
     ensures { λ r. ⌜ ((img : List ℕ) → Next (λ m. commitAtOf z (at .head) (decoded (now (words .entry)) .writers .held) w)
         (λ m. commitValueOf z (at .head) (decoded (now (words .entry)) .table) (decoded (now (words .entry)) .writers .held) w) i (imageLength z) img r) ⌝ }
@@ -31,7 +32,7 @@ fn commit_piece(z: Sizes, at: Places, words: &[u64; 256], w: usize, i: usize) ->
 }
 
 // The piece of a confirm by writer w.
-fn confirm_piece(z: Sizes, at: Places, words: &[u64; 256], w: usize) -> Piece
+fn confirm_piece(z: Sizes, at: Places, words: &Words, w: usize) -> Piece
     requires { ⌜ Legal z × (at .head < 2 * z .places) × (w < 4) ⌝ }
     ensures { λ r. ⌜ r ≡ onePiece headWord (position z (at .head) (length (heldSlots z (decoded (now (words .entry)) .writers .held) w))) ⌝ }
 {
@@ -44,13 +45,13 @@ pub(crate) fn next_piece(
     image: &[u8],
     z: Sizes,
     at: Places,
-    words: &[u64; 256],
+    words: &Words,
     op: Op,
     i: usize,
 ) -> Piece
     requires { ⌜ Served z at (decoded (now words)) × (op ≡ decoded (now words) .pending .op) × (i < needs (decoded (now words)) op)
         × (imageLength z ≤ length (now image)) ⌝ }
-    ensures { λ r. ⌜ Next (λ m. storeAt (decoded (now (words .entry))) m op) (λ m. storeValue (decoded (now (words .entry))) m op)
+    ensures { λ r. ⌜ Next (λ m. storeAt (decoded (now (words .entry))) op) (λ m. storeValue (decoded (now (words .entry))) m op)
         i (imageLength z) (now (image .entry)) r ⌝ }
 {
     match op {
@@ -88,7 +89,7 @@ pub(crate) fn make_stores(
     image: &mut [u8],
     z: Sizes,
     at: Places,
-    words: &[u64; 256],
+    words: &Words,
     op: Op,
     made: usize,
     n: usize,

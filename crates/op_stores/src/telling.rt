@@ -11,11 +11,12 @@ ghost use Rattle.op_stores.specs.Started.{beforeFence};
 use crate::making;
 use layout::Sizes;
 use state::Places;
+use state_words::Words;
 use state_words::parts::made_in;
 use state_words::parts::op_in;
 
 // How many of its stores are left.
-pub fn left_in(z: Sizes, at: Places, words: &[u64; 256]) -> usize
+pub fn left_in(z: Sizes, at: Places, words: &Words) -> usize
     requires { ⌜ Served z at (decoded (now words)) ⌝ }
     ensures { λ r. ⌜ r ≡ left (decoded (now (words .entry))) ⌝ }
 {
@@ -33,12 +34,12 @@ pub struct Ahead {
     pub left: usize,
 }
 
-// Tells what comes next.
-pub fn look_ahead(image: &[u8], z: Sizes, at: Places, words: &[u64; 256]) -> Ahead
+// Returns what comes next.
+pub fn look_ahead(image: &[u8], z: Sizes, at: Places, words: &Words) -> Ahead
     requires { ⌜ Served z at (decoded (now words)) × (imageLength z ≤ length (now image)) ⌝ }
-    ensures at { λ r. ⌜ r .at ≡ storeAt (decoded (now (words .entry))) (now (image .entry)) (decoded (now (words .entry)) .pending .op)
+    ensures at { λ r. ⌜ r .at ≡ storeAt (decoded (now (words .entry))) (decoded (now (words .entry)) .pending .op)
         (decoded (now (words .entry)) .pending .made) ⌝ }
-    ensures beside { λ r. ⌜ Beside (decoded (now (words .entry))) (now (image .entry)) (r .beside) ⌝ }
+    ensures beside { λ r. ⌜ Beside (decoded (now (words .entry))) (r .beside) ⌝ }
     ensures before { λ r. ⌜ r .before ≡ beforeFence (decoded (now (words .entry))) ⌝ }
     ensures left { λ r. ⌜ r .left ≡ left (decoded (now (words .entry))) ⌝ }
 {

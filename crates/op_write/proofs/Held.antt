@@ -11,7 +11,7 @@ use Rattle.journal.specs.declared.Slot.{Slot}
 use Rattle.replay.specs.declared.Table.{Table}
 use Rattle.replay.specs.Table.{slotIn, withSlot}
 use Rattle.masks.specs.Lines.{withLine}
-use Rattle.state.specs.State.{State}
+use Rattle.state.specs.State.{State, ownFrame}
 use Rattle.state.specs.Slots.{slotOfPage}
 use Rattle.state.specs.Held.{heldAt}
 use Rattle.refinement.specs.Frames.{otherFrame}
@@ -47,20 +47,20 @@ write-next st p l i img z next line r ez en el h q w =
 
 -- the state after each store, where the page has a slot and where it takes one; m is what the writer held of the slot
 module _ (st : State) (z : Sizes) (next w p l own s m v : ℕ) (ez : z ≡ st .sizes) (en : next ≡ st .next) (eo : own ≡ slotOfPage z (st .table .page) p)
-    (es : s ≡ slotFrom z next (st .table .page) own) (em : m ≡ heldAt (st .writers .held) w s) (ev : v ≡ withLine m l) (f : ℕ)
+    (es : s ≡ slotFrom z next (st .table .page) own) (em : m ≡ heldAt (st .writers .held) w s) (ev : v ≡ withLine m l)
     (s1 : State) (e1 : s1 ≡ withWriters st (withHeld (st .writers) (set (st .writers .held) (16 * w + s) v))) where
-  pub had-slot : own < z .slots → s1 ≡ lineHeld st f w p l
+  pub had-slot : own < z .slots → s1 ≡ lineHeld st w p l
   unfolding writeSlot
   had-slot h =
       let t = rw (eo, ez) at (lt-ltb own (z .slots) h) in
       e1 ∙ rw (ev, em, es, eo, en, ez, t)
 
-  pub took-slot : z .slots ≤ own → (t : Slot) → t ≡ slotIn (s1 .table) s → (s2 s3 : State)
-      → s2 ≡ withTable s1 (withSlot (s1 .table) s (record { page = p; original = f; spare = t .spare; bitmap = 0 })) → s3 ≡ withNext s2 ((s + 1) % z .slots) → s3 ≡ lineHeld st f w p l
+  pub took-slot : z .slots ≤ own → (f : ℕ) → f ≡ ownFrame s1 p → (t : Slot) → t ≡ slotIn (s1 .table) s → (s2 s3 : State)
+      → s2 ≡ withTable s1 (withSlot (s1 .table) s (record { page = p; original = f; spare = t .spare; bitmap = 0 })) → s3 ≡ withNext s2 ((s + 1) % z .slots) → s3 ≡ lineHeld st w p l
   unfolding writeSlot
-  took-slot h t et s2 s3 e2 e3 =
+  took-slot h f ef t et s2 s3 e2 e3 =
       let n = rw (eo, ez) at (le-ltb own (z .slots) h) in
-      rw (e3, e2, et, e1, ev, em, es, eo, en, ez, n)
+      rw (e3, e2, et, ef, e1, ev, em, es, eo, en, ez, n)
 
-pub write-done : (st s1 s2 : State) (f w p l : ℕ) → f ≡ st .pending .frame → s1 ≡ lineHeld st f w p l → s2 ≡ withNothing s1 → s2 ≡ writeDone st w p l
-write-done st s1 s2 f w p l ef e1 e2 = e2 ∙ ap withNothing e1 ∙ rw ef
+pub write-done : (st s1 s2 : State) (w p l : ℕ) → s1 ≡ lineHeld st w p l → s2 ≡ withNothing s1 → s2 ≡ writeDone st w p l
+write-done st s1 s2 w p l e1 e2 = e2 ∙ ap withNothing e1

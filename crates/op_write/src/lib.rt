@@ -13,9 +13,10 @@ ghost use Rattle.op_write.specs.LineHeld.{slotFrom, lineHeld};
 use journal::Slot;
 use layout::Sizes;
 use op_pieces::Piece;
+use state_words::Words;
 
 // The slot that page p is written by, own being the one that it has: that one, or else the first free one going round from the next slot to try.
-fn write_slot(z: Sizes, next: usize, words: &[u64; 256], own: usize) -> usize
+fn write_slot(z: Sizes, next: usize, words: &Words, own: usize) -> usize
     requires { ⌜ Legal z × (next < z .slots) ⌝ }
     ensures { λ r. ⌜ r ≡ slotFrom z next (decoded (now (words .entry)) .table .page) own ⌝ }
 {
@@ -30,7 +31,7 @@ fn write_slot(z: Sizes, next: usize, words: &[u64; 256], own: usize) -> usize
 pub fn line_piece(
     z: Sizes,
     next: usize,
-    words: &[u64; 256],
+    words: &Words,
     line: [u64; 8],
     p: usize,
     l: usize,
@@ -48,7 +49,7 @@ pub fn line_piece(
 }
 
 // The piece of a write of line l of page p that store i lies in: its finished line.
-pub fn write_piece(z: Sizes, next: usize, words: &[u64; 256], p: usize, l: usize, i: usize) -> Piece
+pub fn write_piece(z: Sizes, next: usize, words: &Words, p: usize, l: usize, i: usize) -> Piece
     requires { ⌜ (z ≡ decoded (now words) .sizes) × (next ≡ decoded (now words) .next) × Legal z × (next < z .slots)
         × (slotsShaped z (decoded (now words) .table) ≡ true) × (isIdle (decoded (now words) .pending .op) ≡ false) × (l < 64) × (i < 8) ⌝ }
     ensures { λ r. ⌜ ((img : List ℕ) → Next (λ m. writeAt (decoded (now (words .entry))) p l) (λ m. writeValue (decoded (now (words .entry))))
@@ -58,10 +59,10 @@ pub fn write_piece(z: Sizes, next: usize, words: &[u64; 256], p: usize, l: usize
     line_piece(z, next, words, line, p, l, i)
 }
 
-// Writer w holds line l of page p from now on. A page without a slot takes one, frame being its original.
-pub fn hold_line(z: Sizes, words: &mut [u64; 256], frame: usize, w: usize, p: usize, l: usize)
-    requires { ⌜ (z ≡ decoded (now words) .sizes) × Legal z × (decoded (now words) .next < z .slots) × (w < 4) × (l < 64) ⌝ }
-    ensures { λ _. ⌜ decoded (now (words .exit)) ≡ lineHeld (decoded (now (words .entry))) frame w p l ⌝ }
+// Writer w holds line l of page p from now on. A page without a slot takes one, its frame being the original.
+pub fn hold_line(z: Sizes, words: &mut Words, w: usize, p: usize, l: usize)
+    requires { ⌜ (z ≡ decoded (now words) .sizes) × Legal z × (decoded (now words) .next < z .slots) × (w < 4) × (p < 1024) × (l < 64) ⌝ }
+    ensures { λ _. ⌜ decoded (now (words .exit)) ≡ lineHeld (decoded (now (words .entry))) w p l ⌝ }
 {
     let next = state_words::places_in(words).next;
     let own = state_held::slots::slot_of(z, words, p);
@@ -71,10 +72,11 @@ pub fn hold_line(z: Sizes, words: &mut [u64; 256], frame: usize, w: usize, p: us
     if own < z.slots {
         return;
     }
+    let original = state_words::entry_at(words, p);
     let spare = state_words::slot_at(words, s).spare;
     let fresh = Slot {
         page: p,
-        original: frame,
+        original,
         spare,
         bitmap: 0,
     };
@@ -83,12 +85,11 @@ pub fn hold_line(z: Sizes, words: &mut [u64; 256], frame: usize, w: usize, p: us
 }
 
 // What a write leaves when it is complete.
-pub fn complete_write(z: Sizes, words: &mut [u64; 256], w: usize, p: usize, l: usize)
+pub fn complete_write(z: Sizes, words: &mut Words, w: usize, p: usize, l: usize)
     requires { ⌜ (z ≡ decoded (now words) .sizes) × Legal z × (decoded (now words) .next < z .slots)
-        × (isIdle (decoded (now words) .pending .op) ≡ false) × (w < 4) × (l < 64) ⌝ }
+        × (w < 4) × (p < 1024) × (l < 64) ⌝ }
     ensures { λ _. ⌜ decoded (now (words .exit)) ≡ writeDone (decoded (now (words .entry))) w p l ⌝ }
 {
-    let frame = state_words::parts::frame_in(words);
-    hold_line(z, words, frame, w, p, l);
+    hold_line(z, words, w, p, l);
     state_words::put_nothing(words);
 }

@@ -14,6 +14,6 @@ pub record Due (st : State) (img : List ℕ) (p : Piece) (n : ℕ) : Type 0 wher
   pub i : ℕ
   pub start : List ℕ
   pub landed : img ≡ storesMade st i start
-  pub next : Next (λ m. storeAt st m (st .pending .op)) (λ m. storeValue st m (st .pending .op)) (st .pending .made + i) (length img) img p
+  pub next : Next (λ m. storeAt st (st .pending .op)) (λ m. storeValue st m (st .pending .op)) (st .pending .made + i) (length img) img p
   pub inside : p .from + n ≤ p .count
   pub within : st .pending .made + (i + n) ≤ needs st (st .pending .op)

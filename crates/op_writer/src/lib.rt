@@ -8,6 +8,7 @@ ghost use Rattle.op_pieces.specs.Pieces.{pieceStores};
 ghost use Rattle.state_words.specs.Decoded.{decoded};
 ghost use Rattle.op_writer.specs.Due.{Due};
 use op_pieces::Piece;
+use state_words::Words;
 
 // The word writer: puts n words, from word k on, into the part of an image that holds a piece.
 fn put_words(part: &mut [u8], words: &[u64; 8], k: usize, n: usize)
@@ -27,7 +28,7 @@ fn put_words(part: &mut [u8], words: &[u64; 8], k: usize, n: usize)
 
 // Puts n words of a piece, rising. That they are the next stores of what is pending in the words, those before them having landed, is required. The words
 // say which operation that is, and are not read.
-pub fn put_piece(image: &mut [u8], words: &[u64; 256], p: Piece, n: usize)
+pub fn put_piece(image: &mut [u8], words: &Words, p: Piece, n: usize)
     requires { ⌜ Due (decoded (now words)) (now image) p n ⌝ }
     ensures { λ _. ⌜ now (image .exit) ≡ pieceStores p n (now (image .entry)) ⌝ }
 {

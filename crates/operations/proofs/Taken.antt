@@ -16,7 +16,7 @@ use Rattle.state.specs.declared.Op.{Op}
 use Rattle.state.specs.declared.Op.the-variants.{Idle, Write, Commit, Consolidate, Checkpoint, Event, Prepare, Confirm, Log, Copy, Format}
 use Rattle.state.specs.Held.{isOpen, somePrepared, someHold, heldSlots}
 use Rattle.state.specs.Wide.{someWide, noEntryLeft}
-use Rattle.operations.specs.Operations.{live, slotFor, slotted, writeArgsBad, lineTaken, noneFree, frameBad, writeRows, commitRows, prepareRows, logRows, confirmRows, consolidateRows, opRows, Asked}
+use Rattle.operations.specs.Operations.{live, slotFor, slotted, writeArgsBad, lineTaken, noneFree, writeRows, commitRows, prepareRows, logRows, confirmRows, consolidateRows, opRows, Asked}
 
 -- row 11 of a write
 pub record ArgsGood (z : Sizes) (w p l o n : ℕ) : Type 0 where
@@ -40,24 +40,22 @@ args-good z w p l o n e =
       fits = ltb-false 64 (o + n) (or-right (ltb 3 w || leb (z .pages) p || ltb 63 l || eqb n 0) (ltb 64 (o + n)) e);
     }
 
-pub record WriteTaken (st : State) (w p l o n f : ℕ) : Type 0 where
+pub record WriteTaken (st : State) (w p l o n : ℕ) : Type 0 where
   pub args : ArgsGood (st .sizes) w p l o n
   pub opened : isOpen (st .writers .opened) w ≡ true
   pub unprepared : st .writers .prepared ≡ w → ⊥
   pub line-free : lineTaken (st .sizes) (st .writers .held) w (slotFor st p) l ≡ false
   pub some-free : noneFree (st .sizes) (st .table .page) (st .next) (slotFor st p) ≡ false
-  pub frame-good : frameBad (st .sizes) (st .table .page) (st .table .original) (st .table .spare) (slotFor st p) f ≡ false
 
-pub write-taken : (st : State) (w p l o n f : ℕ) → refusal (writeRows st w p l o n f) ≡ 0 → WriteTaken st w p l o n f
-write-taken st w p l o n f e =
-    let h = none-apply (writeRows st w p l o n f) (omega arith) e in
+pub write-taken : (st : State) (w p l o n : ℕ) → refusal (writeRows st w p l o n) ≡ 0 → WriteTaken st w p l o n
+write-taken st w p l o n e =
+    let h = none-apply (writeRows st w p l o n) (omega arith) e in
     record {
       args = args-good (st .sizes) w p l o n (h .0);
       opened = not-false (isOpen (st .writers .opened) w) (h .1 .0);
       unprepared = eqb-false (st .writers .prepared) w (h .1 .1 .0);
       line-free = h .1 .1 .1 .0;
       some-free = h .1 .1 .1 .1 .0;
-      frame-good = h .1 .1 .1 .1 .1 .0;
     }
 
 -- what a commit and a prepared writer have in common
@@ -121,27 +119,25 @@ pub prepare-alone : (st : State) (w : ℕ) → refusal (prepareRows st w) ≡ 0 
 prepare-alone st w e = let h = none-apply (prepareRows st w) (omega arith) e in (h .1 .0, h .1 .1 .1 .0)
 
 -- a wide write
-pub record LogTaken (st : State) (p l o n f : ℕ) : Type 0 where
+pub record LogTaken (st : State) (p l o n : ℕ) : Type 0 where
   pub args : ArgsGood (st .sizes) (st .wide .writer) p l o n
   pub opened : isOpen (st .writers .opened) (st .wide .writer) ≡ true
   pub room : noEntryLeft (st .sizes) (st .wide) p l ≡ false
-  pub frame-good : frameBad (st .sizes) (st .table .page) (st .table .original) (st .table .spare) (slotFor st p) f ≡ false
 
-pub log-taken : (st : State) (p l o n f : ℕ) → refusal (logRows st p l o n f) ≡ 0 → LogTaken st p l o n f
-log-taken st p l o n f e =
-    let h = none-apply (logRows st p l o n f) (omega arith) e in
+pub log-taken : (st : State) (p l o n : ℕ) → refusal (logRows st p l o n) ≡ 0 → LogTaken st p l o n
+log-taken st p l o n e =
+    let h = none-apply (logRows st p l o n) (omega arith) e in
     record {
       args = args-good (st .sizes) (st .wide .writer) p l o n (h .0);
       opened = not-false (isOpen (st .writers .opened) (st .wide .writer)) (h .1 .0);
       room = h .1 .1 .0;
-      frame-good = h .1 .1 .1 .0;
     }
 
 -- a wide commit that is pending
-pub copy-taken : (st : State) (f : ℕ) → refusal (opRows st Copy f) ≡ 0 → somePrepared (st .writers .prepared) ≡ false
-copy-taken st f e = none-apply (opRows st Copy f) (omega arith) e .0
+pub copy-taken : (st : State) → refusal (opRows st Copy) ≡ 0 → somePrepared (st .writers .prepared) ≡ false
+copy-taken st e = none-apply (opRows st Copy) (omega arith) e .0
 
-pub record EventTaken (st : State) (k m f : ℕ) : Type 0 where
+pub record EventTaken (st : State) (k m : ℕ) : Type 0 where
   pub none-wide : someWide (st .wide .writer) ≡ false
   pub known : eventKnown k m ≡ true
   pub closed : isOpen (st .writers .opened) 1 ≡ false
@@ -149,12 +145,11 @@ pub record EventTaken (st : State) (k m f : ℕ) : Type 0 where
   pub first-free : lineTaken (st .sizes) (st .writers .held) 1 (slotFor st 0) (firstMeter k m) ≡ false
   pub own-free : lineTaken (st .sizes) (st .writers .held) 1 (slotFor st 0) (ownMeter k m) ≡ false
   pub some-free : noneFree (st .sizes) (st .table .page) (st .next) (slotFor st 0) ≡ false
-  pub frame-good : frameBad (st .sizes) (st .table .page) (st .table .original) (st .table .spare) (slotFor st 0) f ≡ false
   pub fits : live st + 1 ≤ st .sizes .places
 
-pub event-taken : (st : State) (k m a f : ℕ) → refusal (opRows st (Event k m a) f) ≡ 0 → EventTaken st k m f
-event-taken st k m a f e =
-    let h = none-apply (opRows st (Event k m a) f) (omega arith) e in
+pub event-taken : (st : State) (k m a : ℕ) → refusal (opRows st (Event k m a)) ≡ 0 → EventTaken st k m
+event-taken st k m a e =
+    let h = none-apply (opRows st (Event k m a)) (omega arith) e in
     let first = lineTaken (st .sizes) (st .writers .held) 1 (slotFor st 0) (firstMeter k m) in
     let own = lineTaken (st .sizes) (st .writers .held) 1 (slotFor st 0) (ownMeter k m) in
     record {
@@ -165,23 +160,22 @@ event-taken st k m a f e =
       first-free = or-left first own (h .1 .1 .1 .1 .0);
       own-free = or-right first own (h .1 .1 .1 .1 .0);
       some-free = h .1 .1 .1 .1 .1 .0;
-      frame-good = h .1 .1 .1 .1 .1 .1 .0;
-      fits = ltb-false (st .sizes .places) (live st + 1) (h .1 .1 .1 .1 .1 .1 .1 .0);
+      fits = ltb-false (st .sizes .places) (live st + 1) (h .1 .1 .1 .1 .1 .1 .0);
     }
 
 -- what the count of an operation's stores leans on
-pub op-asked : (st : State) (op : Op) (f : ℕ) → refusal (opRows st op f) ≡ 0 → Asked (st .sizes) (st .table .page) op
-op-asked st Idle f e = tt
-op-asked st (Write w p l o n) f e = tt
-op-asked st (Commit w) f e = commit-taken st w e .writer-low
-op-asked st (Consolidate p) f e = ltb-true (slotFor st p) (st .sizes .slots) (consolidate-taken st p e .has-slot)
-op-asked st Checkpoint f e = tt
-op-asked st (Event k m a) f e = tt
-op-asked st (Prepare w) f e = prepare-taken st w e .writer-low
-op-asked st (Confirm w) f e = confirm-taken st w e .writer-low
-op-asked st (Log p l o n) f e = tt
-op-asked st Copy f e = tt
-op-asked st Format f e = tt
+pub op-asked : (st : State) (op : Op) → refusal (opRows st op) ≡ 0 → Asked (st .sizes) (st .table .page) op
+op-asked st Idle e = tt
+op-asked st (Write w p l o n) e = tt
+op-asked st (Commit w) e = commit-taken st w e .writer-low
+op-asked st (Consolidate p) e = ltb-true (slotFor st p) (st .sizes .slots) (consolidate-taken st p e .has-slot)
+op-asked st Checkpoint e = tt
+op-asked st (Event k m a) e = tt
+op-asked st (Prepare w) e = prepare-taken st w e .writer-low
+op-asked st (Confirm w) e = confirm-taken st w e .writer-low
+op-asked st (Log p l o n) e = tt
+op-asked st Copy e = tt
+op-asked st Format e = tt
 
 -- r is the slot that the code found
 pub slot-low : (st : State) (p r : ℕ) → slotted st p ≡ true → r ≡ slotFor st p → r < st .sizes .slots

@@ -7,7 +7,7 @@ use lib.ListN.{getD, length}
 use Rattle.bounded.specs.Below.{those}
 use Rattle.bounded.specs.Rows.{Row}
 use Rattle.layout.specs.declared.Sizes.{Sizes}
-use Rattle.layout.specs.Layout.{Legal, frames, imageWords}
+use Rattle.layout.specs.Layout.{Legal, imageWords}
 use Rattle.replay.specs.declared.Table.{Table}
 use Rattle.journal.specs.Records.{liveCount}
 use Rattle.replay.specs.Table.{slotIn, slotOf, noPosition}
@@ -16,7 +16,7 @@ use Rattle.meters.specs.Meters.{eventKnown, firstMeter, ownMeter, eventNeeds}
 use Rattle.state.specs.State.{State}
 use Rattle.state.specs.declared.Op.{Op}
 use Rattle.state.specs.declared.Op.the-variants.{Idle, Write, Commit, Consolidate, Checkpoint, Event, Prepare, Confirm, Log, Copy, Format}
-use Rattle.state.specs.Slots.{slotOfPage, freeAfter, frameOfSlot}
+use Rattle.state.specs.Slots.{slotOfPage, freeAfter}
 use Rattle.state.specs.Held.{isOpen, somePrepared, othersHold, someHold, heldSlots}
 use Rattle.state.specs.Wide.{someWide, noEntryLeft}
 
@@ -52,7 +52,7 @@ pub record Ranged (st : State) : Type 0 where
   pub live-high : live st ≤ st .sizes .places
   pub next-low : st .next < st .sizes .slots
 
--- ---- the rows from 11 on; s is the slot of the page, S where it has none, and f the page's frame
+-- ---- the rows from 11 on; s is the slot of the page, S where it has none
 
 -- 11, without the data
 abbrev pub writeArgsBad : Sizes → ℕ → ℕ → ℕ → ℕ → ℕ → Bool
@@ -66,11 +66,6 @@ lineTaken z held w s l = ltb s (z .slots) && othersHold held w s l
 abbrev pub noneFree : Sizes → List ℕ → ℕ → ℕ → Bool
 noneFree z page next s = leb (z .slots) s && leb (z .slots) (freeAfter z page next)
 
--- 16, of the page's frame f: a slotted page's is its original; any other's is below F and no frame of a slot
-abbrev pub frameBad : Sizes → List ℕ → List ℕ → List ℕ → ℕ → ℕ → Bool
-frameBad z page original spare s f =
-    cond (ltb s (z .slots)) (not (eqb (getD original s 0) f)) (leb (frames z) f || frameOfSlot z page original spare f)
-
 -- 19: live records and n new ones do not fit
 abbrev pub journalFullOf : Sizes → ℕ → ℕ → ℕ → Bool
 journalFullOf z head tail n = ltb (z .places) (liveCount z head tail + n)
@@ -79,31 +74,26 @@ abbrev pub journalFull : State → ℕ → Bool
 journalFull st n = journalFullOf (st .sizes) (st .head) (st .tail) n
 
 -- of a write. 23 (document 02, L8): of a write, its writer is prepared; of a commit, a prepare, a consolidation or an event, a writer is
-abbrev pub writeRowsAt : State → ℕ → ℕ → ℕ → ℕ → ℕ → ℕ → ℕ → List Row
-writeRowsAt st s w p l o n f =
+abbrev pub writeRowsAt : State → ℕ → ℕ → ℕ → ℕ → ℕ → ℕ → List Row
+writeRowsAt st s w p l o n =
     (writeArgsBad (st .sizes) w p l o n, 11)
     ∷ (not (isOpen (st .writers .opened) w), 13)
     ∷ (eqb (st .writers .prepared) w, 23)
     ∷ (lineTaken (st .sizes) (st .writers .held) w s l, 14)
     ∷ (noneFree (st .sizes) (st .table .page) (st .next) s, 15)
-    ∷ (frameBad (st .sizes) (st .table .page) (st .table .original) (st .table .spare) s f, 16)
     ∷ []
 
-abbrev pub writeRows : State → ℕ → ℕ → ℕ → ℕ → ℕ → ℕ → List Row
-writeRows st w p l o n f = writeRowsAt st (slotFor st p) w p l o n f
+abbrev pub writeRows : State → ℕ → ℕ → ℕ → ℕ → ℕ → List Row
+writeRows st w p l o n = writeRowsAt st (slotFor st p) w p l o n
 
 -- a wide write's, by the wide writer (document 02, L14). 30: a new line with all entries used. It takes no slot, so there is no 15; by row 8 every other
 -- writer is closed and it is not prepared, so that 14 and 23 cannot apply
-abbrev pub logRowsAt : State → ℕ → ℕ → ℕ → ℕ → ℕ → ℕ → List Row
-logRowsAt st s p l o n f =
+abbrev pub logRows : State → ℕ → ℕ → ℕ → ℕ → List Row
+logRows st p l o n =
     (writeArgsBad (st .sizes) (st .wide .writer) p l o n, 11)
     ∷ (not (isOpen (st .writers .opened) (st .wide .writer)), 13)
     ∷ (noEntryLeft (st .sizes) (st .wide) p l, 30)
-    ∷ (frameBad (st .sizes) (st .table .page) (st .table .original) (st .table .spare) s f, 16)
     ∷ []
-
-abbrev pub logRows : State → ℕ → ℕ → ℕ → ℕ → ℕ → List Row
-logRows st p l o n f = logRowsAt st (slotFor st p) p l o n f
 
 -- of a commit
 abbrev pub commitRows : State → ℕ → List Row
@@ -142,36 +132,35 @@ consolidateRows st p =
     ∷ (journalFull st 1, 19)
     ∷ []
 
--- an event's, s being the slot of page 0 and f its frame, without rows 26 and 21, which row 8 leaves out (document 02, L2 and L10). 20: there is no such
+-- an event's, s being the slot of page 0, without rows 26 and 21, which row 8 leaves out (document 02, L2 and L10). 20: there is no such
 -- event; 12: writer 1 is open; 14: another writer holds one of its lines
-abbrev pub eventNextRowsAt : State → ℕ → ℕ → ℕ → ℕ → List Row
-eventNextRowsAt st s k m f =
+abbrev pub eventNextRowsAt : State → ℕ → ℕ → ℕ → List Row
+eventNextRowsAt st s k m =
     (isOpen (st .writers .opened) 1, 12)
     ∷ (somePrepared (st .writers .prepared), 23)
     ∷ (lineTaken (st .sizes) (st .writers .held) 1 s (firstMeter k m) || lineTaken (st .sizes) (st .writers .held) 1 s (ownMeter k m), 14)
     ∷ (noneFree (st .sizes) (st .table .page) (st .next) s, 15)
-    ∷ (frameBad (st .sizes) (st .table .page) (st .table .original) (st .table .spare) s f, 16)
     ∷ []
 
-abbrev pub eventNextRows : State → ℕ → ℕ → ℕ → List Row
-eventNextRows st k m f = eventNextRowsAt st (slotFor st 0) k m f
+abbrev pub eventNextRows : State → ℕ → ℕ → List Row
+eventNextRows st k m = eventNextRowsAt st (slotFor st 0) k m
 
-abbrev pub eventRows : State → ℕ → ℕ → ℕ → List Row
-eventRows st k m f = (someWide (st .wide .writer), 29) ∷ (not (eventKnown k m), 20) ∷ (eventNextRows st k m f ++ ((journalFull st 1, 19) ∷ []))
+abbrev pub eventRows : State → ℕ → ℕ → List Row
+eventRows st k m = (someWide (st .wide .writer), 29) ∷ (not (eventKnown k m), 20) ∷ (eventNextRows st k m ++ ((journalFull st 1, 19) ∷ []))
 
--- the rows of an operation, of a write or an event with the page's frame f
-abbrev pub opRows : State → Op → ℕ → List Row
-opRows st Idle f = []
-opRows st (Write w p l o n) f = writeRows st w p l o n f
-opRows st (Commit w) f = commitRows st w
-opRows st (Consolidate p) f = consolidateRows st p
-opRows st Checkpoint f = []
-opRows st (Event k m a) f = eventRows st k m f
-opRows st (Prepare w) f = prepareRows st w
-opRows st (Confirm w) f = confirmRows st w
-opRows st (Log p l o n) f = logRows st p l o n f
-opRows st Copy f = copyRows st
-opRows st Format f = []
+-- the rows of an operation
+abbrev pub opRows : State → Op → List Row
+opRows st Idle = []
+opRows st (Write w p l o n) = writeRows st w p l o n
+opRows st (Commit w) = commitRows st w
+opRows st (Consolidate p) = consolidateRows st p
+opRows st Checkpoint = []
+opRows st (Event k m a) = eventRows st k m
+opRows st (Prepare w) = prepareRows st w
+opRows st (Confirm w) = confirmRows st w
+opRows st (Log p l o n) = logRows st p l o n
+opRows st Copy = copyRows st
+opRows st Format = []
 
 -- ---- stores needed
 

@@ -1,4 +1,4 @@
-// O and Q: the pending operation, and a byte of the pending write's finished line. Unlike `state_pending::put_pending`, O puts any numbers,
+// O and Q: the pending operation, and a byte of its finished lines. Unlike `state_pending::put_pending`, O puts any numbers,
 // over any that are there.
 ghost use mathlib.Core.Path.{_≡_};
 ghost use mathlib.Core.Bool.{true, false};
@@ -9,16 +9,19 @@ ghost use Rattle.operations.specs.Operations.{isIdle};
 ghost use Rattle.state_words.specs.Decoded.{decoded};
 ghost use Rattle.state_pending.specs.Put.{eight, opIn, withPending};
 ghost use Rattle.workbench.specs.Turns.{turnAt};
-ghost use Rattle.pending_edits.specs.Edits.{pendingIn, pendingOf, pendingTurn, isWrite, withByte, withLineByte, lineByteTurn};
+ghost use Rattle.pending_edits.specs.Edits.{pendingIn, pendingOf, pendingTurn, withByte, pendingSet, lineByteTurn};
 use state_words::LINE;
 use state_words::PENDING;
 use state_words::SECOND;
+use state_words::Words;
+use state_words::parts;
 use text::Line;
 use workbench::Said;
+use workbench::finished;
 
 // Puts eight words from word i on.
-fn put_eight(words: &mut [u64; 256], i: usize, l: [u64; 8])
-    requires { ⌜ i + 8 ≤ 256 ⌝ }
+fn put_eight(words: &mut Words, i: usize, l: [u64; 8])
+    requires { ⌜ i + 8 ≤ 1280 ⌝ }
     ensures words { λ _. ⌜ now (words .exit) ≡ eight (now (words .entry)) i l ⌝ }
     ensures long { λ _. ⌜ length l ≡ 8 ⌝ }
 {
@@ -33,7 +36,7 @@ fn put_eight(words: &mut [u64; 256], i: usize, l: [u64; 8])
 }
 
 // Puts an operation by its eight numbers, its finished lines zeros.
-fn put_numbers(words: &mut [u64; 256], n: [u64; 8])
+fn put_numbers(words: &mut Words, n: [u64; 8])
     requires { ⌜ isIdle (opIn n) ≡ false ⌝ }
     ensures { λ _. ⌜ decoded (now (words .exit)) ≡ withPending (decoded (now (words .entry))) (pendingIn n) ⌝ }
 {
@@ -44,9 +47,9 @@ fn put_numbers(words: &mut [u64; 256], n: [u64; 8])
     put_eight(words, SECOND, none);
 }
 
-// Puts the operation that a line describes. A write alone has a frame.
-fn put_described(words: &mut [u64; 256], line: Line)
-    requires { ⌜ getD (line .numbers) 0 0 ≤ 4 ⌝ }
+// Puts the operation that a line describes.
+fn put_described(words: &mut Words, line: Line)
+    requires { ⌜ getD (line .numbers) 0 0 ≤ 10 ⌝ }
     ensures { λ _. ⌜ decoded (now (words .exit)) ≡ withPending (decoded (now (words .entry))) (pendingOf line) ⌝ }
 {
     let n = line.numbers;
@@ -55,29 +58,18 @@ fn put_described(words: &mut [u64; 256], line: Line)
         state_words::put_nothing(words);
         return;
     }
-    if k == 1 {
-        put_numbers(words, [k, n[1], n[2], n[3], n[4], n[5], n[6], n[7]]);
-        return;
-    }
     put_numbers(words, [k, n[1], n[2], n[3], n[4], n[5], n[6], 0]);
 }
 
-pub fn set_pending(words: &mut [u64; 256], line: Line) -> Said
+pub fn set_pending(words: &mut Words, line: Line) -> Said
     ensures { λ r. ⌜ turnAt r (now (words .exit)) ≡ pendingTurn (decoded (now (words .entry))) line ⌝ }
 {
     let k = line.numbers[0];
-    if (line.count == 8) & (k <= 4) {
+    if (line.count == 7) & (k <= 10) {
         put_described(words, line);
         return workbench::edited();
     }
     Said::OtherForm
-}
-
-// Whether a write is pending.
-fn is_write(words: &[u64; 256]) -> bool
-    ensures { λ r. ⌜ r ≡ isWrite (decoded (now (words .entry)) .pending .op) ⌝ }
-{
-    words[PENDING] == 1
 }
 
 // A word with its byte j set to v.
@@ -91,21 +83,23 @@ fn with_byte(word: u64, j: usize, v: u8) -> u64
     words::word_at(&b, 0)
 }
 
-// Sets byte i of the pending write's finished line.
-fn put_line_byte(words: &mut [u64; 256], i: usize, v: u8)
-    requires { ⌜ (i < 64) × (isWrite (decoded (now words) .pending .op) ≡ true) ⌝ }
-    ensures { λ _. ⌜ decoded (now (words .exit)) ≡ withLineByte (decoded (now (words .entry))) i v ⌝ }
+// Sets byte i of the finished lines, which stand one behind the other.
+fn put_line_byte(words: &mut Words, i: usize, v: u8)
+    requires { ⌜ (i < 128) × (isIdle (decoded (now words) .pending .op) ≡ false) ⌝ }
+    ensures { λ _. ⌜ decoded (now (words .exit))
+        ≡ withPending (decoded (now (words .entry))) (pendingSet (decoded (now (words .entry)) .pending) i v) ⌝ }
 {
     let k = LINE + i / 8;
     words[k] = with_byte(words[k], i % 8, v);
 }
 
-pub fn set_line_byte(words: &mut [u64; 256], line: Line) -> Said
+pub fn set_line_byte(words: &mut Words, line: Line) -> Said
     ensures { λ r. ⌜ turnAt r (now (words .exit)) ≡ lineByteTurn (decoded (now (words .entry))) line ⌝ }
 {
     let i = line.numbers[0] as usize;
     let v = line.numbers[1];
-    if (line.count == 2) & (i <= 63) & (v <= 255) & is_write(words) {
+    let bytes = 64 * finished::finished_lines(parts::op_in(words));
+    if (line.count == 2) & (i < bytes) & (v <= 255) {
         put_line_byte(words, i, v as u8);
         return workbench::edited();
     }

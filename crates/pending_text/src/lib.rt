@@ -8,65 +8,49 @@ ghost use Rattle.number_text.specs.Text.{Put, blanked};
 ghost use Rattle.state_words.specs.Decoded.{decoded};
 ghost use Rattle.pending_text.specs.Numbers.{opNumbers, lineNumbers, finishedNumbers, pendingNumbers};
 use state::Op;
+use state_words::Words;
 use state_words::parts;
+use workbench::finished;
 
 // The numbers of a write, and of a wide one.
-fn written(
-    code: u64,
-    a: usize,
-    b: usize,
-    c: usize,
-    d: usize,
-    e: usize,
-    made: u64,
-    frame: u64,
-) -> [u64; 8]
-    ensures { λ r. ⌜ r ≡ code ∷ a ∷ b ∷ c ∷ d ∷ e ∷ made ∷ frame ∷ [] ⌝ }
+fn written(code: u64, a: usize, b: usize, c: usize, d: usize, e: usize, made: u64) -> [u64; 7]
+    ensures { λ r. ⌜ r ≡ code ∷ a ∷ b ∷ c ∷ d ∷ e ∷ made ∷ [] ⌝ }
 {
-    [
-        code,
-        a as u64,
-        b as u64,
-        c as u64,
-        d as u64,
-        e as u64,
-        made,
-        frame,
-    ]
+    [code, a as u64, b as u64, c as u64, d as u64, e as u64, made]
 }
 
-fn op_numbers(op: Op, made: usize, frame: usize) -> [u64; 8]
-    ensures { λ r. ⌜ r ≡ opNumbers op made frame ⌝ }
+// The numbers of an operation, and how many of its stores are made.
+fn op_numbers(op: Op, made: usize) -> [u64; 7]
+    ensures { λ r. ⌜ r ≡ opNumbers op made ⌝ }
 {
     let m = made as u64;
-    let f = frame as u64;
     match op {
-        Op::Idle => [0; 8],
+        Op::Idle => [0; 7],
         Op::Write {
             writer,
             page,
             line,
             offset,
             length,
-        } => written(1, writer, page, line, offset, length, m, f),
-        Op::Commit { writer } => [2, writer as u64, 0, 0, 0, 0, m, 0],
-        Op::Consolidate { page } => [3, page as u64, 0, 0, 0, 0, m, 0],
-        Op::Checkpoint => [4, 0, 0, 0, 0, 0, m, 0],
+        } => written(1, writer, page, line, offset, length, m),
+        Op::Commit { writer } => [2, writer as u64, 0, 0, 0, 0, m],
+        Op::Consolidate { page } => [3, page as u64, 0, 0, 0, 0, m],
+        Op::Checkpoint => [4, 0, 0, 0, 0, 0, m],
         Op::Event {
             kind,
             meter,
             amount,
-        } => [5, kind as u64, meter as u64, amount, 0, 0, m, f],
-        Op::Prepare { writer } => [6, writer as u64, 0, 0, 0, 0, m, 0],
-        Op::Confirm { writer } => [7, writer as u64, 0, 0, 0, 0, m, 0],
+        } => [5, kind as u64, meter as u64, amount, 0, 0, m],
+        Op::Prepare { writer } => [6, writer as u64, 0, 0, 0, 0, m],
+        Op::Confirm { writer } => [7, writer as u64, 0, 0, 0, 0, m],
         Op::Log {
             page,
             line,
             offset,
             length,
-        } => written(8, page, line, offset, length, 0, m, f),
-        Op::Copy => [9, 0, 0, 0, 0, 0, m, 0],
-        Op::Format => [10, 0, 0, 0, 0, 0, m, 0],
+        } => written(8, page, line, offset, length, 0, m),
+        Op::Copy => [9, 0, 0, 0, 0, 0, m],
+        Op::Format => [10, 0, 0, 0, 0, 0, m],
     }
 }
 
@@ -108,52 +92,33 @@ fn put_line(out: &mut [u8], at: usize, line: [u64; 8]) -> usize
     next
 }
 
-// For a write its finished line.
-fn put_finished(out: &mut [u8], at: usize, op: Op, line: [u64; 8]) -> usize
-    requires { ⌜ at + 1344 ≤ length (now out) ⌝ }
-    ensures { λ r. ⌜ Put (now (out .entry)) at (blanked (finishedNumbers op line)) (now (out .exit)) r ⌝ }
+// The bytes of n finished lines.
+fn put_finished(out: &mut [u8], at: usize, n: usize, line: [u64; 8], second: [u64; 8]) -> usize
+    requires { ⌜ at + 2688 ≤ length (now out) ⌝ }
+    ensures { λ r. ⌜ Put (now (out .entry)) at (blanked (finishedNumbers n line second)) (now (out .exit)) r ⌝ }
 {
-    match op {
-        Op::Idle => at,
-        Op::Write {
-            writer: _,
-            page: _,
-            line: _,
-            offset: _,
-            length: _,
-        } => put_line(out, at, line),
-        Op::Commit { writer: _ } => at,
-        Op::Consolidate { page: _ } => at,
-        Op::Checkpoint => at,
-        Op::Event {
-            kind: _,
-            meter: _,
-            amount: _,
-        } => at,
-        Op::Prepare { writer: _ } => at,
-        Op::Confirm { writer: _ } => at,
-        Op::Log {
-            page: _,
-            line: _,
-            offset: _,
-            length: _,
-        } => at,
-        Op::Copy => at,
-        Op::Format => at,
+    if n == 0 {
+        return at;
     }
+    let next = put_line(out, at, line);
+    if n == 1 {
+        return next;
+    }
+    put_line(out, next, second)
 }
 
-// The pending operation of a state in words: eight zeros where there is none.
-pub fn put_pending(out: &mut [u8], at: usize, words: &[u64; 256]) -> usize
-    requires { ⌜ at + 1512 ≤ length (now out) ⌝ }
+// The pending operation of a state in words, at most 135 numbers: seven zeros where there is none.
+pub fn put_pending(out: &mut [u8], at: usize, words: &Words) -> usize
+    requires { ⌜ at + 2835 ≤ length (now out) ⌝ }
     ensures { λ r. ⌜ Put (now (out .entry)) at (blanked (pendingNumbers (decoded (now (words .entry)) .pending))) (now (out .exit)) r ⌝ }
 {
     if parts::idle_in(words) {
-        return number_text::put_numbers(out, at, &[0; 8]);
+        return number_text::put_numbers(out, at, &[0; 7]);
     }
     let op = parts::op_in(words);
-    let eight = op_numbers(op, parts::made_in(words), parts::frame_in(words));
-    let next = number_text::put_numbers(out, at, &eight);
+    let numbers = op_numbers(op, parts::made_in(words));
+    let next = number_text::put_numbers(out, at, &numbers);
     let line = parts::line_in(words);
-    put_finished(out, next, op, line)
+    let second = parts::second_in(words);
+    put_finished(out, next, finished::finished_lines(op), line, second)
 }

@@ -46,46 +46,46 @@ module _ (st : State) (img : List ℕ) (legal : Legal (st .sizes)) where
   abbrev z : Sizes
   z = st .sizes
 
-  records : (w i : ℕ) → i < 4 * recordsOf st w → InJournal z (storeAt st img (Commit w) i)
+  records : (w i : ℕ) → i < 4 * recordsOf st w → InJournal z (storeAt st (Commit w) i)
   unfolding commitAtOf
   records w i h = rw (lt-ltb i (4 * recordsOf st w) h) (in-journal z legal (position z (st .head) (i / 4)) (i % 4) (omega arith))
 
-  head : (w i : ℕ) → 4 * recordsOf st w ≤ i → storeAt st img (Commit w) i ≡ headWord
+  head : (w i : ℕ) → 4 * recordsOf st w ≤ i → storeAt st (Commit w) i ≡ headWord
   unfolding commitAtOf
   head w i h = rw (le-ltb i (4 * recordsOf st w) h)
 
-  copies : (p i : ℕ) → i < 8 * copiesOf st p → storeAt st img (Consolidate p) i ≡ lineWord z (copyTo (pageSlot st p)) (getD (copyLines (pageSlot st p)) (i / 8) 64) + i % 8
+  copies : (p i : ℕ) → i < 8 * copiesOf st p → storeAt st (Consolidate p) i ≡ lineWord z (copyTo (pageSlot st p)) (getD (copyLines (pageSlot st p)) (i / 8) 64) + i % 8
   unfolding consolidateAt
   copies p i h = rw (lt-ltb i (8 * copiesOf st p) h)
 
-  page : (p i : ℕ) → i ≡ 8 * copiesOf st p → storeAt st img (Consolidate p) i ≡ pageWord p
+  page : (p i : ℕ) → i ≡ 8 * copiesOf st p → storeAt st (Consolidate p) i ≡ pageWord p
   unfolding consolidateAt
   page p i e =
       let c = 8 * copiesOf st p in
       rw (le-ltb i c (omega arith), eq-eqb i c e)
 
-  freeing : (p i : ℕ) → 8 * copiesOf st p < i → i < 8 * copiesOf st p + 5 → InJournal z (storeAt st img (Consolidate p) i)
+  freeing : (p i : ℕ) → 8 * copiesOf st p < i → i < 8 * copiesOf st p + 5 → InJournal z (storeAt st (Consolidate p) i)
   unfolding consolidateAt
   freeing p i h l =
       let c = 8 * copiesOf st p in
       let u : eqb i c ≡ false = ne-eqb i c (λ e. omega (arith, e)) in
       rw (le-ltb i c (omega arith), u, lt-ltb i (c + 5) l) (in-journal z legal (st .head) (i - (c + 1)) (omega arith))
 
-  freed : (p i : ℕ) → 8 * copiesOf st p + 5 ≤ i → storeAt st img (Consolidate p) i ≡ headWord
+  freed : (p i : ℕ) → 8 * copiesOf st p + 5 ≤ i → storeAt st (Consolidate p) i ≡ headWord
   unfolding consolidateAt
   freed p i h =
       let c = 8 * copiesOf st p in
       let u : eqb i c ≡ false = ne-eqb i c (λ e. omega (arith, e)) in
       rw (le-ltb i c (omega arith), u, le-ltb i (c + 5) h)
 
-  slots : (i : ℕ) → i < 3 * recordedIn st → InSlots z (storeAt st img Checkpoint i)
+  slots : (i : ℕ) → i < 3 * recordedIn st → InSlots z (storeAt st Checkpoint i)
   unfolding checkpointAtOf
   slots i h =
       let s = checkpointSlotOf z (st .table .last) i in
       let low : s < z .slots = recorded-slot-low z (st .table .last) (i / 3) s legal refl in
       rw (lt-ltb i (3 * recordedIn st) h) (record { from = omega arith; below = omega (arith, low) })
 
-  tail : (i : ℕ) → 3 * recordedIn st ≤ i → storeAt st img Checkpoint i ≡ tailWord
+  tail : (i : ℕ) → 3 * recordedIn st ≤ i → storeAt st Checkpoint i ≡ tailWord
   unfolding checkpointAtOf
   tail i h = rw (le-ltb i (3 * recordedIn st) h)
 
@@ -93,7 +93,7 @@ module _ (st : State) (img : List ℕ) (legal : Legal (st .sizes)) where
   some-words : 8 < imageWords z
   some-words = omega (arith, legal .pages-low)
 
-  first : (i : ℕ) → i < 8 → storeAt st img Format i < 8
+  first : (i : ℕ) → i < 8 → storeAt st Format i < 8
   unfolding formatAt
   first i h =
       let u : eqb i (imageWords z) ≡ false = ne-eqb i (imageWords z) (λ e. omega (arith, e, some-words)) in
@@ -101,14 +101,14 @@ module _ (st : State) (img : List ℕ) (legal : Legal (st .sizes)) where
       (λ t. rw t (omega arith))
       (λ t. rw (t, u) (caseOn (leb i 3) (λ l. rw l (omega arith)) (λ l. rw l h)))
 
-  rising : (i : ℕ) → 8 ≤ i → i < imageWords z → storeAt st img Format i ≡ i
+  rising : (i : ℕ) → 8 ≤ i → i < imageWords z → storeAt st Format i ≡ i
   unfolding formatAt
   rising i h l =
       let t : eqb i 0 ≡ false = ne-eqb i 0 (λ e. omega (arith, e)) in
       let u : eqb i (imageWords z) ≡ false = ne-eqb i (imageWords z) (λ e. omega (arith, e)) in
       rw (t, u, lt-leb i 3 (omega arith))
 
-  last : storeAt st img Format (imageWords z) ≡ layoutWord
+  last : storeAt st Format (imageWords z) ≡ layoutWord
   unfolding formatAt
   last =
       let t : eqb (imageWords z) 0 ≡ false = ne-eqb (imageWords z) 0 (λ e. omega (arith, e, some-words)) in

@@ -36,25 +36,25 @@ copiesOf st p = copyCount (pageSlot st p .bitmap)
 
 pub record Placed (st : State) (img : List ℕ) : Type 0 where
   -- a write's to one line, rising
-  pub write : (w p l o n i : ℕ) → storeAt st img (Write w p l o n) i ≡ lineWord (st .sizes) (otherFrame (slotIn (st .table) (writeSlot st p)) l) l + i
+  pub write : (w p l o n i : ℕ) → storeAt st (Write w p l o n) i ≡ lineWord (st .sizes) (otherFrame (slotIn (st .table) (writeSlot st p)) l) l + i
   -- a commit's: four for each record, then head
-  pub records : (w i : ℕ) → i < 4 * recordsOf st w → InJournal (st .sizes) (storeAt st img (Commit w) i)
-  pub head : (w i : ℕ) → 4 * recordsOf st w ≤ i → storeAt st img (Commit w) i ≡ headWord
+  pub records : (w i : ℕ) → i < 4 * recordsOf st w → InJournal (st .sizes) (storeAt st (Commit w) i)
+  pub head : (w i : ℕ) → 4 * recordsOf st w ≤ i → storeAt st (Commit w) i ≡ headWord
   -- a consolidation's: eight for each line, rising, all in one frame; then the page's word, the freeing record, head
   pub copies : (p i : ℕ) → i < 8 * copiesOf st p
-      → storeAt st img (Consolidate p) i ≡ lineWord (st .sizes) (copyTo (pageSlot st p)) (getD (copyLines (pageSlot st p)) (i / 8) 64) + i % 8
+      → storeAt st (Consolidate p) i ≡ lineWord (st .sizes) (copyTo (pageSlot st p)) (getD (copyLines (pageSlot st p)) (i / 8) 64) + i % 8
   pub lines : (p j : ℕ) → j < copiesOf st p → getD (copyLines (pageSlot st p)) j 64 < 64
   pub few : (p : ℕ) → copiesOf st p ≤ 32
-  pub page : (p i : ℕ) → i ≡ 8 * copiesOf st p → storeAt st img (Consolidate p) i ≡ pageWord p
-  pub freeing : (p i : ℕ) → 8 * copiesOf st p < i → i < 8 * copiesOf st p + 5 → InJournal (st .sizes) (storeAt st img (Consolidate p) i)
-  pub freed : (p i : ℕ) → 8 * copiesOf st p + 5 ≤ i → storeAt st img (Consolidate p) i ≡ headWord
+  pub page : (p i : ℕ) → i ≡ 8 * copiesOf st p → storeAt st (Consolidate p) i ≡ pageWord p
+  pub freeing : (p i : ℕ) → 8 * copiesOf st p < i → i < 8 * copiesOf st p + 5 → InJournal (st .sizes) (storeAt st (Consolidate p) i)
+  pub freed : (p i : ℕ) → 8 * copiesOf st p + 5 ≤ i → storeAt st (Consolidate p) i ≡ headWord
   -- a checkpoint's: three for each slot, then tail
-  pub slots : (i : ℕ) → i < 3 * recordedIn st → InSlots (st .sizes) (storeAt st img Checkpoint i)
-  pub tail : (i : ℕ) → 3 * recordedIn st ≤ i → storeAt st img Checkpoint i ≡ tailWord
+  pub slots : (i : ℕ) → i < 3 * recordedIn st → InSlots (st .sizes) (storeAt st Checkpoint i)
+  pub tail : (i : ℕ) → 3 * recordedIn st ≤ i → storeAt st Checkpoint i ≡ tailWord
   -- a format's: the layout word, the other words rising, the layout word. From store 8 on a store's number is its word's
-  pub first : (i : ℕ) → i < 8 → storeAt st img Format i < 8
-  pub rising : (i : ℕ) → 8 ≤ i → i < imageWords (st .sizes) → storeAt st img Format i ≡ i
-  pub last : storeAt st img Format (imageWords (st .sizes)) ≡ layoutWord
+  pub first : (i : ℕ) → i < 8 → storeAt st Format i < 8
+  pub rising : (i : ℕ) → 8 ≤ i → i < imageWords (st .sizes) → storeAt st Format i ≡ i
+  pub last : storeAt st Format (imageWords (st .sizes)) ≡ layoutWord
 
 -- in every state with legal sizes, whatever the image
 abbrev pub EachPlaced : Type 0

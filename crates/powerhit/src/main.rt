@@ -10,6 +10,8 @@ use executing::Mode;
 use libc::STDIN_FILENO;
 use libc::STDOUT_FILENO;
 use script::performing;
+use state_words::WORD_COUNT;
+use state_words::Words;
 
 // The program between two pieces of the input.
 struct Session {
@@ -28,7 +30,7 @@ struct Session {
 }
 
 // No byte is read yet.
-fn started(words: &mut [u64; 256]) -> Session
+fn started(words: &mut Words) -> Session
     ensures { λ r. ⌜ ((image line out : List ℕ) → Shows r (now (words .exit)) image line out (first image)) ⌝ }
 {
     let mode = performing::start(words);
@@ -69,7 +71,7 @@ fn left(at: usize) -> usize
 // Performs the lines of a piece that a newline ends, from one on that goes from byte `from` to byte `to`.
 fn perform_lines(
     image: &mut [u8],
-    words: &mut [u64; 256],
+    words: &mut Words,
     s: Session,
     piece: &[u8],
     from: usize,
@@ -111,7 +113,7 @@ fn perform_lines(
 // Performs the line that was kept, its newline put behind it. One that fills the buffer is too long to be of any right form.
 fn perform_kept(
     image: &mut [u8],
-    words: &mut [u64; 256],
+    words: &mut Words,
     s: Session,
     line: &mut [u8],
     out: &mut [u8; 65536],
@@ -128,7 +130,7 @@ fn perform_kept(
 // Performs the lines of a piece. The first may have begun in an earlier piece; what stands after the last is kept.
 fn perform_piece(
     image: &mut [u8],
-    words: &mut [u64; 256],
+    words: &mut Words,
     s: Session,
     line: &mut [u8; 2048],
     piece: &[u8],
@@ -161,7 +163,7 @@ fn perform_piece(
 // Reads a piece of the input and performs its lines.
 fn read_piece(
     image: &mut [u8],
-    words: &mut [u64; 256],
+    words: &mut Words,
     s: Session,
     line: &mut [u8; 2048],
     input: &mut [u8],
@@ -181,7 +183,7 @@ fn read_piece(
 // up.
 fn read_all(
     image: &mut [u8],
-    words: &mut [u64; 256],
+    words: &mut Words,
     s: Session,
     line: &mut [u8; 2048],
     input: &mut [u8],
@@ -202,7 +204,7 @@ fn read_all(
 // Performs a last line that no newline ends.
 fn perform_last(
     image: &mut [u8],
-    words: &mut [u64; 256],
+    words: &mut Words,
     s: Session,
     line: &mut [u8; 2048],
     out: &mut [u8; 65536],
@@ -220,7 +222,7 @@ fn perform_last(
 // Performs the lines of the whole input. What of the output is not written yet is left to the caller.
 fn perform_input(
     image: &mut [u8],
-    words: &mut [u64; 256],
+    words: &mut Words,
     line: &mut [u8; 2048],
     input: &mut [u8],
     out: &mut [u8; 65536],
@@ -234,7 +236,7 @@ fn perform_input(
 
 fn main() {
     let mut image = io::large_buffer();
-    let mut words = [0u64; 256];
+    let mut words = [0u64; WORD_COUNT];
     let mut line = [0u8; 2048];
     let mut input = io::large_buffer();
     let mut out = io::large_buffer();

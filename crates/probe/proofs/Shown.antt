@@ -41,7 +41,7 @@ pub record Performed (p q : Stand) : Type 0 where
 
 -- what waits, once there is room
 ends-roomed : {out : List ℕ} {at : ℕ} {printed : List ℕ} → Ends out at printed → Ends out (roomed at) printed
-ends-roomed {out} {at} {printed} h = caseOn (leb at 60000) (λ t. rw t h) (λ t. rw t (ends-none out printed))
+ends-roomed {out} {at} {printed} h = caseOn (leb at 36000) (λ t. rw t h) (λ t. rw t (ends-none out printed))
 
 pub shows-performed : (p q : Stand) → 1450 < length (p .line) → roomed (p .session .at) ≤ length (p .out) → Performed p q
     → Takes p (10 ∷ []) q
@@ -81,12 +81,12 @@ unfolding part
 part-rest l a = take-all (length l - a) (drop a l) (omega (arith, length-drop a l))
 
 -- of a line that goes on at `from` and ends at `end`, as much as fits is put behind what is kept
-pub record More (p : Stand) (piece : List ℕ) (s : Session) (buffer words line out : List ℕ) (from end : ℕ) (line′ : List ℕ) (k : ℕ) : Type 0 where
+pub record More (p : Stand) (piece : List ℕ) (s : Session) (buffer words table line out : List ℕ) (from end : ℕ) (line′ : List ℕ) (k : ℕ) : Type 0 where
   pub inside : from < length piece
   pub found : end ≡ lineEnd piece from
   pub laid : line′ ≡ over line (s .kept) (fitting line (s .kept) piece from end)
   pub count : k ≡ s .kept + length (fitting line (s .kept) piece from end)
-  pub before : Before p piece (stand s buffer words line out) (drop from piece)
+  pub before : Before p piece (stand s buffer words table line out) (drop from piece)
 
 abbrev withKept : Session → ℕ → Session
 withKept s k = record { lent = s .lent; lines = s .lines; kept = k; at = s .at; more = s .more }
@@ -95,13 +95,13 @@ module _
     {p : Stand}
     {piece : List ℕ}
     {s : Session}
-    {buffer words line out : List ℕ}
+    {buffer words table line out : List ℕ}
     {from end : ℕ}
     {line′ : List ℕ}
     {k : ℕ}
-    (m : More p piece s buffer words line out from end line′ k) where
-  shows-kept : (g : Fed Work) → Shows (stand s buffer words line out) g
-      → Shows (stand (withKept s k) buffer words line′ out) (record { done = g .done; begun = g .begun ++ part piece from (end - from) })
+    (m : More p piece s buffer words table line out from end line′ k) where
+  shows-kept : (g : Fed Work) → Shows (stand s buffer words table line out) g
+      → Shows (stand (withKept s k) buffer words table line′ out) (record { done = g .done; begun = g .begun ++ part piece from (end - from) })
   shows-kept g h =
       record {
         bench = h .bench;
@@ -113,7 +113,7 @@ module _
       }
 
   -- the line ends here and is performed
-  pub before-line : {q : Stand} → end < length piece → Takes (stand (withKept s k) buffer words line′ out) (10 ∷ []) q
+  pub before-line : {q : Stand} → end < length piece → Takes (stand (withKept s k) buffer words table line′ out) (10 ∷ []) q
       → Before p piece q (drop (end + 1) piece)
   unfolding Before fed fedByte
   before-line {q} more t f h =
@@ -125,13 +125,13 @@ module _
   less-left more = omega (arith, m .inside, m .found, end-ge piece from (omega (arith, m .inside)))
 
   -- it goes on past the piece
-  pub before-rest : length piece ≤ end → Takes p piece (stand (withKept s k) buffer words line′ out)
+  pub before-rest : length piece ≤ end → Takes p piece (stand (withKept s k) buffer words table line′ out)
   unfolding Before
   before-rest none f h =
       let (g, d, e) = m .before f h in
       let whole : end ≡ length piece = omega (arith, m .found, end-le piece from) in
       let rest : part piece from (end - from) ≡ drop from piece = rw whole (part-rest piece from) in
-      subst (Shows (stand (withKept s k) buffer words line′ out))
+      subst (Shows (stand (withKept s k) buffer words table line′ out))
       (ap (λ (l : List ℕ). record { done = g .done; begun = g .begun ++ l }) rest
       ∙ sym (fed-rest act g piece from (omega (arith, m .inside)) (sym (m .found) ∙ whole))
       ∙ e)

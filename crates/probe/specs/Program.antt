@@ -11,31 +11,37 @@ use Rattle.text.specs.Fields.{parsed}
 use Rattle.state.specs.State.{State}
 use Rattle.state_words.specs.Decoded.{decoded}
 use Rattle.workbench.specs.Turns.{firstState}
-use Rattle.probing.specs.Lines.{turnOf, bufferAfter, lentAfter}
+use Rattle.workbench.specs.Moduli.{firstModuli}
+use Rattle.probing.specs.Lines.{turnOf, bufferAfter, tableAfter, lentAfter}
 use Rattle.reporting.specs.Text.{printedOf}
 use Rattle.probe.specs.declared.Session.{Session}
 
--- what the calls work on beside the buffer: the state, and how many of the buffer's first bytes they are lent
+-- what the calls work on beside the buffer: the state, the table of moduli, and how many of the buffer's first bytes they are lent
 pub record Bench : Type 0 where
   pub st : State
+  pub table : List ℕ
   pub lent : ℕ
 
 -- at first they are lent the whole buffer
 abbrev pub firstBench : Bench
-firstBench = record { st = firstState; lent = 65536 }
+firstBench = record { st = firstState; table = firstModuli; lent = 65536 }
 
 -- the bench and the buffer after a line
 abbrev pub benchAfter : Bench → List ℕ → List ℕ → Bench
 benchAfter b buffer line =
     let l = parsed 20 line in
-    record { st = turnOf (b .st) (b .lent) buffer l .st; lent = lentAfter (b .lent) (length buffer) l }
+    record {
+      st = turnOf (b .st) (b .lent) buffer (b .table) l .st;
+      table = tableAfter (b .st) (b .lent) buffer (b .table) l;
+      lent = lentAfter (b .lent) (length buffer) l;
+    }
 
 abbrev pub bytesAfter : Bench → List ℕ → List ℕ → List ℕ
 bytesAfter b buffer line = bufferAfter (b .st) (b .lent) buffer (parsed 20 line)
 
 -- what input line n prints
 abbrev pub lineText : Bench → List ℕ → List ℕ → ℕ → List ℕ
-lineText b buffer line n = let l = parsed 20 line in printedOf n (l .letter) (turnOf (b .st) (b .lent) buffer l)
+lineText b buffer line n = let l = parsed 20 line in printedOf n (l .letter) (turnOf (b .st) (b .lent) buffer (b .table) l)
 
 -- what the lines so far came to: the bench, the buffer, how many lines, all that they print, and how many of its last bytes
 -- are not yet handed to a write
@@ -52,7 +58,7 @@ first buffer = record { done = record { bench = firstBench; buffer = buffer; lin
 
 -- before a line all that waits is written, unless there is room for the line's text behind it
 abbrev pub roomed : ℕ → ℕ
-roomed waiting = cond (leb waiting 60000) waiting 0
+roomed waiting = cond (leb waiting 36000) waiting 0
 
 -- one line more; the count of lines is a machine word
 unfoldable pub act : Work → List ℕ → Work
@@ -67,22 +73,23 @@ act w line =
       waiting = roomed (w .waiting) + length text;
     }
 
--- the program with the state's words and its three buffers
+-- the program with the state's words, the moduli and its three buffers
 pub record Stand : Type 0 where
   pub session : Session
   pub buffer : List ℕ
   pub words : List ℕ
+  pub table : List ℕ
   pub line : List ℕ
   pub out : List ℕ
 
-abbrev pub stand : Session → List ℕ → List ℕ → List ℕ → List ℕ → Stand
-stand s buffer words line out = record { session = s; buffer = buffer; words = words; line = line; out = out }
+abbrev pub stand : Session → List ℕ → List ℕ → List ℕ → List ℕ → List ℕ → Stand
+stand s buffer words table line out = record { session = s; buffer = buffer; words = words; table = table; line = line; out = out }
 
-abbrev pub benchAt : List ℕ → ℕ → Bench
-benchAt words lent = record { st = decoded words; lent = lent }
+abbrev pub benchAt : List ℕ → List ℕ → ℕ → Bench
+benchAt words table lent = record { st = decoded words; table = table; lent = lent }
 
 abbrev pub benchIn : Stand → Bench
-benchIn p = benchAt (p .words) (p .session .lent)
+benchIn p = benchAt (p .words) (p .table) (p .session .lent)
 
 -- that it stands where the input's bytes so far have brought it: of the next line it keeps what fits, and what waits to be
 -- written stands in `out`. (What a write does with it no contract says.)

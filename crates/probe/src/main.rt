@@ -8,7 +8,9 @@ ghost use mathlib.Core.Path.{_≡_};
 ghost use mathlib.Core.List.{List};
 ghost use Rattle.state_words.specs.Decoded.{decoded};
 ghost use Rattle.workbench.specs.Turns.{firstState};
+ghost use Rattle.workbench.specs.Moduli.{firstModuli};
 ghost use Rattle.probe.specs.Program.{stand, Shows, first};
+use state_words::WORD_COUNT;
 
 // What a printed line leaves beside the state: what later calls are lent, and where the next line is printed.
 struct Printed {
@@ -27,7 +29,8 @@ struct Session {
 }
 
 fn started() -> Session
-    ensures { λ r. ⌜ ((buffer words line out : List ℕ) → decoded words ≡ firstState → Shows (stand r buffer words line out) (first buffer)) ⌝ }
+    ensures { λ r. ⌜ ((buffer words table line out : List ℕ) → decoded words ≡ firstState → table ≡ firstModuli
+        → Shows (stand r buffer words table line out) (first buffer)) ⌝ }
 {
     Session {
         lent: 65536,
@@ -40,9 +43,17 @@ fn started() -> Session
 
 fn main() {
     let mut buffer = [0u8; 65536];
-    let mut words = [0u64; 256];
+    let mut words = [0u64; WORD_COUNT];
+    let mut table = [0u64; 25];
     let mut line = [0u8; 2048];
     let mut input = [0u8; 65536];
     let mut out = [0u8; 65536];
-    reading::run(&mut buffer, &mut words, &mut line, &mut input, &mut out);
+    reading::run(
+        &mut buffer,
+        &mut words,
+        &mut table,
+        &mut line,
+        &mut input,
+        &mut out,
+    );
 }

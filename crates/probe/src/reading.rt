@@ -8,6 +8,8 @@ use crate::Session;
 use crate::lines;
 use libc::STDIN_FILENO;
 use libc::STDOUT_FILENO;
+use state_words::Words;
+use workbench::moduli::Moduli;
 
 // Writes the first n bytes out.
 fn write_out(out: &[u8], n: usize) -> bool {
@@ -19,10 +21,10 @@ fn write_out(out: &[u8], n: usize) -> bool {
 
 // Room for a line of output: where little is left, all that waits is written.
 fn make_room(s: Session, out: &[u8]) -> Session
-    ensures room { λ r. ⌜ r .at ≤ 60000 ⌝ }
+    ensures room { λ r. ⌜ r .at ≤ 36000 ⌝ }
     ensures same { λ r. ⌜ r ≡ record { lent = s .lent; lines = s .lines; kept = s .kept; at = roomed (s .at); more = r .more } ⌝ }
 {
-    if s.at <= 60000 {
+    if s.at <= 36000 {
         return s;
     }
     let mut next = s;
@@ -36,13 +38,14 @@ fn make_room(s: Session, out: &[u8]) -> Session
 fn perform_kept(
     s: Session,
     buffer: &mut [u8; 65536],
-    words: &mut [u64; 256],
+    words: &mut Words,
+    table: &mut Moduli,
     line: &[u8],
     out: &mut [u8; 65536],
 ) -> Session
     requires { ⌜ 1450 < length (now line) ⌝ }
-    ensures { λ r. ⌜ Takes (stand s (now (buffer .entry)) (now (words .entry)) (now (line .entry)) (now (out .entry))) (10 ∷ [])
-        (stand r (now (buffer .exit)) (now (words .exit)) (now (line .entry)) (now (out .exit))) ⌝ }
+    ensures { λ r. ⌜ Takes (stand s (now (buffer .entry)) (now (words .entry)) (now (table .entry)) (now (line .entry)) (now (out .entry))) (10 ∷ [])
+        (stand r (now (buffer .exit)) (now (words .exit)) (now (table .exit)) (now (line .entry)) (now (out .exit))) ⌝ }
 {
     let mut next = make_room(s, out);
     let k = bounded::smaller(next.kept, line.len());
@@ -51,6 +54,7 @@ fn perform_kept(
     let p = lines::perform(
         buffer,
         words,
+        table,
         next.lent,
         &line[..k],
         next.lines,
@@ -67,13 +71,14 @@ fn perform_kept(
 fn perform_piece(
     s: Session,
     buffer: &mut [u8; 65536],
-    words: &mut [u64; 256],
+    words: &mut Words,
+    table: &mut Moduli,
     line: &mut [u8; 2048],
     piece: &[u8],
     out: &mut [u8; 65536],
 ) -> Session
-    ensures { λ r. ⌜ Takes (stand s (now (buffer .entry)) (now (words .entry)) (now (line .entry)) (now (out .entry))) (now (piece .entry))
-        (stand r (now (buffer .exit)) (now (words .exit)) (now (line .exit)) (now (out .exit))) ⌝ }
+    ensures { λ r. ⌜ Takes (stand s (now (buffer .entry)) (now (words .entry)) (now (table .entry)) (now (line .entry)) (now (out .entry))) (now (piece .entry))
+        (stand r (now (buffer .exit)) (now (words .exit)) (now (table .exit)) (now (line .exit)) (now (out .exit))) ⌝ }
 {
     let mut s = s;
     let mut from = 0;
@@ -84,7 +89,7 @@ fn perform_piece(
         if end >= piece.len() {
             return s;
         }
-        s = perform_kept(s, buffer, words, line, out);
+        s = perform_kept(s, buffer, words, table, line, out);
         from = end + 1;
     }
     s
@@ -94,13 +99,14 @@ fn perform_piece(
 fn read_piece(
     s: Session,
     buffer: &mut [u8; 65536],
-    words: &mut [u64; 256],
+    words: &mut Words,
+    table: &mut Moduli,
     line: &mut [u8; 2048],
     input: &mut [u8],
     out: &mut [u8; 65536],
 ) -> Session
-    ensures { λ r. ⌜ Reads (stand s (now (buffer .entry)) (now (words .entry)) (now (line .entry)) (now (out .entry))) (now (input .exit))
-        (stand r (now (buffer .exit)) (now (words .exit)) (now (line .exit)) (now (out .exit))) ⌝ }
+    ensures { λ r. ⌜ Reads (stand s (now (buffer .entry)) (now (words .entry)) (now (table .entry)) (now (line .entry)) (now (out .entry))) (now (input .exit))
+        (stand r (now (buffer .exit)) (now (words .exit)) (now (table .exit)) (now (line .exit)) (now (out .exit))) ⌝ }
 {
     let got = libc::read(STDIN_FILENO, input);
     let n = io::count(got, input);
@@ -109,7 +115,7 @@ fn read_piece(
         ended.more = false;
         return ended;
     }
-    perform_piece(s, buffer, words, line, &input[..n], out)
+    perform_piece(s, buffer, words, table, line, &input[..n], out)
 }
 
 // Reads to the end of the input. A proved loop has to end, so this one counts its turns down from a number that no run
@@ -117,18 +123,19 @@ fn read_piece(
 fn read_all(
     s: Session,
     buffer: &mut [u8; 65536],
-    words: &mut [u64; 256],
+    words: &mut Words,
+    table: &mut Moduli,
     line: &mut [u8; 2048],
     input: &mut [u8; 65536],
     out: &mut [u8; 65536],
 ) -> Session
-    ensures { λ r. ⌜ TakesSome (stand s (now (buffer .entry)) (now (words .entry)) (now (line .entry)) (now (out .entry)))
-        (stand r (now (buffer .exit)) (now (words .exit)) (now (line .exit)) (now (out .exit))) ⌝ }
+    ensures { λ r. ⌜ TakesSome (stand s (now (buffer .entry)) (now (words .entry)) (now (table .entry)) (now (line .entry)) (now (out .entry)))
+        (stand r (now (buffer .exit)) (now (words .exit)) (now (table .exit)) (now (line .exit)) (now (out .exit))) ⌝ }
 {
     let mut s = s;
     let mut turns = u64::MAX;
     while (turns > 0) & s.more {
-        s = read_piece(s, buffer, words, line, input, out);
+        s = read_piece(s, buffer, words, table, line, input, out);
         turns -= 1;
     }
     s
@@ -138,43 +145,47 @@ fn read_all(
 fn perform_last(
     s: Session,
     buffer: &mut [u8; 65536],
-    words: &mut [u64; 256],
+    words: &mut Words,
+    table: &mut Moduli,
     line: &[u8],
     out: &mut [u8; 65536],
 ) -> Session
     requires { ⌜ 1450 < length (now line) ⌝ }
-    ensures { λ r. ⌜ Closes (stand s (now (buffer .entry)) (now (words .entry)) (now (line .entry)) (now (out .entry)))
-        (stand r (now (buffer .exit)) (now (words .exit)) (now (line .entry)) (now (out .exit))) ⌝ }
+    ensures { λ r. ⌜ Closes (stand s (now (buffer .entry)) (now (words .entry)) (now (table .entry)) (now (line .entry)) (now (out .entry)))
+        (stand r (now (buffer .exit)) (now (words .exit)) (now (table .exit)) (now (line .entry)) (now (out .exit))) ⌝ }
 {
     if s.kept == 0 {
         return s;
     }
-    perform_kept(s, buffer, words, line, out)
+    perform_kept(s, buffer, words, table, line, out)
 }
 
 // Performs all lines of the input; the end of what they print is left in `out`.
 fn perform_all(
     buffer: &mut [u8; 65536],
-    words: &mut [u64; 256],
+    words: &mut Words,
+    table: &mut Moduli,
     line: &mut [u8; 2048],
     input: &mut [u8; 65536],
     out: &mut [u8; 65536],
 ) -> Session
-    ensures { λ r. ⌜ Ran (now (buffer .entry)) (stand r (now (buffer .exit)) (now (words .exit)) (now (line .exit)) (now (out .exit))) ⌝ }
+    ensures { λ r. ⌜ Ran (now (buffer .entry)) (stand r (now (buffer .exit)) (now (words .exit)) (now (table .exit)) (now (line .exit)) (now (out .exit))) ⌝ }
 {
     workbench::starting::put_first(words);
-    let s = read_all(crate::started(), buffer, words, line, input, out);
-    perform_last(s, buffer, words, line, out)
+    workbench::moduli::put_first(table);
+    let s = read_all(crate::started(), buffer, words, table, line, input, out);
+    perform_last(s, buffer, words, table, line, out)
 }
 
 // Performs all lines of the input, and writes all that they print.
 pub fn run(
     buffer: &mut [u8; 65536],
-    words: &mut [u64; 256],
+    words: &mut Words,
+    table: &mut Moduli,
     line: &mut [u8; 2048],
     input: &mut [u8; 65536],
     out: &mut [u8; 65536],
 ) {
-    let s = perform_all(buffer, words, line, input, out);
+    let s = perform_all(buffer, words, table, line, input, out);
     write_out(out, s.at);
 }

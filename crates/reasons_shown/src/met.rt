@@ -5,6 +5,8 @@ use call_write::Span;
 use layout::Sizes;
 use op_stores::Until;
 use reasons::Reason;
+use state_words::WORD_COUNT;
+use state_words::Words;
 
 // A call with its writer, page and line; an event with its kind, meter and amount.
 struct Row {
@@ -91,7 +93,7 @@ fn row_at(k: usize) -> Row
 }
 
 // Writes a byte to the start of the row's line.
-fn write(image: &mut [u8], words: &mut [u64; 256], row: Row) -> Answer {
+fn write(image: &mut [u8], words: &mut Words, row: Row) -> Answer {
     let span = Span {
         page: row.page,
         line: row.line,
@@ -101,7 +103,7 @@ fn write(image: &mut [u8], words: &mut [u64; 256], row: Row) -> Answer {
     call_write::write(image, words, row.writer, span, b"x", Until::End)
 }
 
-fn event(image: &mut [u8], words: &mut [u64; 256], row: Row) -> Answer {
+fn event(image: &mut [u8], words: &mut Words, row: Row) -> Answer {
     let moduli = meters::fixed_moduli();
     call_event::event(
         image,
@@ -115,7 +117,7 @@ fn event(image: &mut [u8], words: &mut [u64; 256], row: Row) -> Answer {
 }
 
 // Makes a call, and all its stores.
-fn make(image: &mut [u8], words: &mut [u64; 256], row: Row) -> Answer {
+fn make(image: &mut [u8], words: &mut Words, row: Row) -> Answer {
     let end = Until::End;
     let call = row.call;
     match call {
@@ -133,7 +135,7 @@ fn make(image: &mut [u8], words: &mut [u64; 256], row: Row) -> Answer {
 }
 
 // What a call met that was turned back with a number.
-fn met(words: &[u64; 256], number: usize, row: Row) -> Reason {
+fn met(words: &Words, number: usize, row: Row) -> Reason {
     refusals::reason_met(
         words,
         row.call,
@@ -147,7 +149,7 @@ fn met(words: &[u64; 256], number: usize, row: Row) -> Reason {
 }
 
 // Writes the sentence of a call that was refused.
-fn tell(words: &[u64; 256], answer: Answer, row: Row) {
+fn tell(words: &Words, answer: Answer, row: Row) {
     let mut target = [0; 200];
     let number = answers::number_of(answer);
     let reason = met(words, number, row);
@@ -159,7 +161,7 @@ fn tell(words: &[u64; 256], answer: Answer, row: Row) {
     crate::samples::write_both(&target[..n], b"\n");
 }
 
-fn fresh(image: &mut [u8], words: &mut [u64; 256], entries: usize) {
+fn fresh(image: &mut [u8], words: &mut Words, entries: usize) {
     let z = Sizes {
         pages: 2,
         slots: 1,
@@ -170,7 +172,7 @@ fn fresh(image: &mut [u8], words: &mut [u64; 256], entries: usize) {
 }
 
 // Makes a call with all its stores, and tells why it was refused. A format starts anew with so many entries.
-fn turn(image: &mut [u8; 12552], words: &mut [u64; 256], row: Row) {
+fn turn(image: &mut [u8; 12552], words: &mut Words, row: Row) {
     if row.call == wording::FORMAT {
         fresh(image, words, row.writer);
         return;
@@ -182,7 +184,7 @@ fn turn(image: &mut [u8; 12552], words: &mut [u64; 256], row: Row) {
 // The calls one after the other.
 pub fn show_met() {
     let mut image = [0u8; 12552];
-    let mut words = [0u64; 256];
+    let mut words = [0u64; WORD_COUNT];
     fresh(&mut image, &mut words, 0);
     for k in 0..55 {
         turn(&mut image, &mut words, row_at(k));

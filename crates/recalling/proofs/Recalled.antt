@@ -16,12 +16,13 @@ use Rattle.layout.specs.declared.Sizes.{Sizes}
 use Rattle.layout.specs.Layout.{Legal, frames, imageLength}
 use Rattle.image.specs.Lines.{lineBytes}
 use Rattle.words.specs.Words.{word, over}
-use Rattle.mount.specs.declared.Mounted.{Mounted}
+use Rattle.mount.specs.declared.Judged.{Judged}
 use Rattle.replay.specs.declared.Table.{Table}
 use Rattle.entries.specs.Entries.{keyOf, entryOf}
 use Rattle.entries.proofs.EntryLaws.{entries-right}
-use Rattle.mount.specs.Mount.{mountOf, mountRead, mountRows, sizesFrom, countFrom, keysAfter, found}
+use Rattle.mount.specs.Mount.{Mounted, mountOf, judged, mountRead, mountRows, sizesFrom, countFrom, keysAfter, found}
 use Rattle.replay.specs.Table.{slotIn, slotOf, frameNames}
+use Rattle.replay.specs.Map.{pageFrames}
 use Rattle.mount.proofs.Verdict.{mount-taken, taken-mount}
 use Rattle.mount.proofs.View.{viewOf}
 use Rattle.masks.specs.Lines.{inMask}
@@ -60,10 +61,10 @@ module _ (img : List ℕ) (p l : ℕ) (target : List ℕ) where
   rest = (argsBad (sizesFrom (word img) .pages), 11) ∷ []
 
   -- mount turns it back
-  pub recall-unmounted : (m : Mounted) → m ≡ mountOf img → (m .row ≡ 0 → ⊥) → m .row ≡ recallRow img p l target
+  pub recall-unmounted : (m : Judged) → m ≡ judged (mountOf img) → (m .row ≡ 0 → ⊥) → m .row ≡ recallRow img p l target
   unfolding recallRow
   recall-unmounted m e n =
-      rows-first (mountRows (length img) (word img)) rest (m .row) (ap (λ (x : Mounted). x .row) e ∙ mount-row img) n
+      rows-first (mountRows (length img) (word img)) rest (m .row) (ap (λ (x : Judged). x .row) e ∙ mount-row img) n
 
   -- past mount's rows, row 11 decides
   number : (b : Bool) → argsBad (sizesFrom (word img) .pages) ≡ b → mountOf img .row ≡ 0 → cond b 11 0 ≡ recallRow img p l target
@@ -73,30 +74,30 @@ module _ (img : List ℕ) (p l : ℕ) (target : List ℕ) where
       rows-then rows rest (cond b 11 0) (none-apply rows (omega arith) (sym (mount-row img) ∙ z)) (rw e)
 
   -- what mount found, where it takes the image
-  takes : (m : Mounted) → m ≡ mountOf img → m .row ≡ 0 → m ≡ found (word img)
+  takes : (m : Judged) → m ≡ judged (mountOf img) → m .row ≡ 0 → m ≡ judged (found (word img))
   takes m e z =
       let v = viewOf (word img) in
-      e ∙ taken-mount img v refl (mount-taken img v refl (sym (ap (λ (x : Mounted). x .row) e) ∙ z))
+      e ∙ ap judged (taken-mount img v refl (mount-taken img v refl (sym (ap (λ (x : Judged). x .row) e) ∙ z)))
 
-  pub recall-bad : (m : Mounted) → m ≡ mountOf img → m .row ≡ 0 → argsBad (m .sizes .pages) ≡ true → 11 ≡ recallRow img p l target
+  pub recall-bad : (m : Judged) → m ≡ judged (mountOf img) → m .row ≡ 0 → argsBad (m .sizes .pages) ≡ true → 11 ≡ recallRow img p l target
   recall-bad m e z b =
-      number true (subst (λ (x : Mounted). argsBad (x .sizes .pages) ≡ true) (takes m e z) b) (sym (ap (λ (x : Mounted). x .row) e) ∙ z)
+      number true (subst (λ (x : Judged). argsBad (x .sizes .pages) ≡ true) (takes m e z) b) (sym (ap (λ (x : Judged). x .row) e) ∙ z)
 
   -- and where it takes the arguments too
-  pub record Recalled (m : Mounted) : Type 0 where
+  pub record Recalled (m : Judged) : Type 0 where
     pub legal : Legal (m .sizes)
     pub fits : imageLength (m .sizes) ≤ length img
     pub page-low : p < m .sizes .pages
     pub line-low : l < 64
     pub target-long : 64 ≤ length target
     pub few : m .count ≤ m .sizes .entries
-    pub low : (f : ℕ) → f ≡ frameOf (word img) (m .sizes) (m .table) p l → f < frames (m .sizes)
+    pub low : (f : ℕ) → f ≡ frameOf (pageFrames (word img)) (m .sizes) (m .table) p l → f < frames (m .sizes)
     pub answer : 0 ≡ recallRow img p l target
     pub entry : (e : ℕ) → e ≡ entryOf (m .keys) (m .count) (keyOf p l) → e < m .count → over target 0 (entryBytes img (m .sizes) e) ≡ recallBytes img p l target
-    pub line : (e f : ℕ) → e ≡ entryOf (m .keys) (m .count) (keyOf p l) → m .count ≤ e → f ≡ frameOf (word img) (m .sizes) (m .table) p l
+    pub line : (e f : ℕ) → e ≡ entryOf (m .keys) (m .count) (keyOf p l) → m .count ≤ e → f ≡ frameOf (pageFrames (word img)) (m .sizes) (m .table) p l
         → over target 0 (lineBytes img (m .sizes) f l) ≡ recallBytes img p l target
 
-  found-recalled : mountOf img .row ≡ 0 → argsBad (sizesFrom (word img) .pages) ≡ false → Recalled (found (word img))
+  found-recalled : mountOf img .row ≡ 0 → argsBad (sizesFrom (word img) .pages) ≡ false → Recalled (judged (found (word img)))
   unfolding frameNames recallBytes
   found-recalled z b =
       let r = word img in
@@ -111,7 +112,7 @@ module _ (img : List ℕ) (p l : ℕ) (target : List ℕ) where
         page-low = q;
         line-low = omega (arith, ltb-false 63 l (or-right (leb pages p) (ltb 63 l) a));
         target-long = ltb-false (length target) 64 (or-right (leb pages p || ltb 63 l) (ltb (length target) 64) b);
-        low = λ f e. rw e (frame-low r (sizesFrom r) (viewOf r .table) (h .names) p l q);
+        low = λ f e. rw e (frame-low (pageFrames r) (sizesFrom r) (viewOf r .table) (h .names) p l q);
         answer = number false b z;
         few = entries-right (sizesFrom r) (viewOf r .keys) (viewOf r .count) (h .entries) .few;
         entry = λ e q c.
@@ -122,8 +123,8 @@ module _ (img : List ℕ) (p l : ℕ) (target : List ℕ) where
             rw (g, taken, t);
       }
 
-  pub recalled : (m : Mounted) → m ≡ mountOf img → m .row ≡ 0 → argsBad (m .sizes .pages) ≡ false → Recalled m
+  pub recalled : (m : Judged) → m ≡ judged (mountOf img) → m .row ≡ 0 → argsBad (m .sizes .pages) ≡ false → Recalled m
   recalled m e z b =
       let f = takes m e z in
       subst Recalled (sym f)
-      (found-recalled (sym (ap (λ (x : Mounted). x .row) e) ∙ z) (subst (λ (x : Mounted). argsBad (x .sizes .pages) ≡ false) f b))
+      (found-recalled (sym (ap (λ (x : Judged). x .row) e) ∙ z) (subst (λ (x : Judged). argsBad (x .sizes .pages) ≡ false) f b))

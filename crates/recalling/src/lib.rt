@@ -4,6 +4,7 @@ ghost use Prim.Native.Nat.{_<_, _≤_};
 ghost use lib.ListN.{length};
 ghost use Rattle.layout.specs.Layout.{Legal, imageLength};
 ghost use Rattle.words.specs.Words.{word};
+ghost use Rattle.replay.specs.Map.{pageFrames};
 ghost use Rattle.state.specs.Slots.{slotOfPage};
 ghost use Rattle.refinement.specs.Recall.{frameOf, recallRow, recallBytes};
 use layout::Sizes;
@@ -27,7 +28,7 @@ fn slot_of(z: Sizes, page: &[usize; 16], p: usize) -> usize
 // The frame with the committed copy of a page's line.
 fn recall_frame(image: &[u8], z: Sizes, t: Table, page: usize, line: usize) -> usize
     requires { ⌜ Legal z × (page < z .pages) × (line < 64) × (imageLength z ≤ length (now image)) ⌝ }
-    ensures { λ r. ⌜ r ≡ frameOf (word (now (image .entry))) z t page line ⌝ }
+    ensures { λ r. ⌜ r ≡ frameOf (pageFrames (word (now (image .entry)))) z t page line ⌝ }
 {
     let s = slot_of(z, &t.page, page);
     if s < z.slots {

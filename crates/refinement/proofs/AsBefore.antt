@@ -18,7 +18,6 @@ use Rattle.state.specs.declared.Op.the-variants.{Write, Log}
 use Rattle.state.specs.Wide.{isWide}
 use Rattle.operations.specs.Operations.{isIdle, slotFor, opRows, needs}
 use Rattle.operations.proofs.Taken.{write-taken}
-use Rattle.refinement.specs.Frames.{pageFrame}
 use Rattle.refinement.specs.Outcome.{Outcome}
 use Rattle.refinement.specs.Stores.{World, storeMade, completed, steppedBy, left}
 use Rattle.refinement.specs.Calls.{withPending, worldOf, finishedLine, writeOp, writeCallRows, changesNothing, writeOf, stepRows, stepRow, runOf, runBytes}
@@ -62,11 +61,8 @@ module _ {past : List ℕ} (v : World) (b : Reference) (h : Standing past v b) (
   abbrev line : List ℕ
   line = finishedLine st img w p l o n bytes
 
-  abbrev frame : ℕ
-  frame = pageFrame st img p
-
   abbrev asks : State
-  asks = withPending st op line frame
+  asks = withPending st op line
 
   -- eight stores, a wide writer's nine
   stores : needs st op ≡ cond (isWide (st .wide) w) 9 8
@@ -103,19 +99,19 @@ module _ {past : List ℕ} (v : World) (b : Reference) (h : Standing past v b) (
 
     -- each store of it would put back the word that is there, and the state at their end would be the one before them
     abbrev Back : Op → Type 0
-    Back x = ((i : ℕ) → i < needs st x → storeMade (withPending st x line frame) img x i ≡ img) × (completed (withPending st x line frame) x ≡ st)
+    Back x = ((i : ℕ) → i < needs st x → storeMade (withPending st x line) img x i ≡ img) × (completed (withPending st x line) x ≡ st)
 
     narrow-back : isWide (st .wide) w ≡ false → Back (Write w p l o n)
     narrow-back other =
         let own = op-row st img w p l o n bytes other r in
-        let T = write-taken st w p l o n frame own in
+        let T = write-taken st w p l o n own in
         let Q : Quiet past st img b = h .quiet quiet (λ m. narrow st w (valid st (h .valid)) (T .args .writer-low) (T .opened) other m) in
         let low = Q .writers .held-low w (slotFor st p) (T .args .writer-low) (ltb-true (slotFor st p) (st .sizes .slots) (has-slot st img w p l o n bytes (h .valid) fits (h .viewed .bytes) own given other idle)) in
         (back st img w p l o n bytes (h .valid) fits (h .viewed .bytes) own given other idle, completed-back st img w p l o n bytes (h .valid) fits (h .viewed .bytes) own given other idle (h .none-pending quiet) low)
 
     wide-back : isWide (st .wide) w ≡ true → Back (Log p l o n)
     wide-back mine =
-        let own = subst (λ (x : Op). refusal (opRows st x frame) ≡ 0) (ap (λ (x : Bool). cond x (Log p l o n) (Write w p l o n)) mine) (write-op-row st img w p l o n bytes r) in
+        let own = subst (λ (x : Op). refusal (opRows st x) ≡ 0) (ap (λ (x : Bool). cond x (Log p l o n) (Write w p l o n)) mine) (write-op-row st img w p l o n bytes r) in
         let stored = h .key-stored quiet in
         (entry-back st img w p l o n bytes (h .valid) fits (h .viewed .bytes) own given mine idle stored, logged-back st img w p l o n bytes (h .valid) fits (h .viewed .bytes) own given mine idle stored (h .none-pending quiet))
 
@@ -144,7 +140,7 @@ module _ {past : List ℕ} (v : World) (b : Reference) (h : Standing past v b) (
     zero-row : stepRow asks img ≡ 0
     zero-row =
         sym (row-none (stepRows asks img)
-        (ap not (pending-valid st line frame op (h .valid) (write-fits st w p l o n) (write-op-row st img w p l o n bytes r) some), (le-ltb (length img) (imageLength (st .sizes)) fits, (writes, tt))))
+        (ap not (pending-valid st line op (h .valid) (write-fits st w p l o n) (write-op-row st img w p l o n bytes r) some), (le-ltb (length img) (imageLength (st .sizes)) fits, (writes, tt))))
 
     ran : (k : ℕ) → exec (run k) (worldOf asks img) .world ≡ steppedBy (min k (left asks)) (worldOf asks img)
     unfolding exec runOf runBytes
@@ -152,11 +148,11 @@ module _ {past : List ℕ} (v : World) (b : Reference) (h : Standing past v b) (
 
     ran-all : exec (run (needs st op)) (worldOf asks img) .world ≡ v
     ran-all =
-        let n : min (needs st op) (left asks) ≡ left asks = omega (arith, needs-asked st line frame op op) in
-        ran (needs st op) ∙ ap (λ (k : ℕ). steppedBy k (worldOf asks img)) n ∙ all-back st img op line frame (puts-back .0) writes some (puts-back .1)
+        let n : min (needs st op) (left asks) ≡ left asks = omega (arith, needs-asked st line op op) in
+        ran (needs st op) ∙ ap (λ (k : ℕ). steppedBy k (worldOf asks img)) n ∙ all-back st img op line (puts-back .0) writes some (puts-back .1)
 
     ran-image : (k : ℕ) → exec (run k) (worldOf asks img) .world .image ≡ img
-    ran-image k = ap (λ (u : World). u .image) (ran k) ∙ image-back st img op line frame (puts-back .0) (min k (left asks)) (omega arith)
+    ran-image k = ap (λ (u : World). u .image) (ran k) ∙ image-back st img op line (puts-back .0) (min k (left asks)) (omega arith)
 
     -- a mount that is taken leaves what the image shows
     mounted : (u : World) → u .image ≡ img → exec mount u .world ≡ exec mount v .world

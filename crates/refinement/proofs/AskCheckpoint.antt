@@ -68,6 +68,7 @@ module _ {past : List ℕ} (st : State) (img : List ℕ) (b : Reference) (q : Qu
         tail = e₁ i;
         next = st .next;
         table = record { page = st .table .page; original = st .table .original; spare = st .table .spare; bitmap = st .table .bitmap; last = e₂ i };
+        map = st .map;
         writers = st .writers;
         wide = st .wide;
         pending = sym e₃ i;
@@ -83,9 +84,9 @@ checkpoint-sound v b h =
     let img = v .image in
     let rows = none-apply (checkpointCallRows st img) (omega arith) in
     let a =
-    asked-next (Related _) checkpoint v b Checkpoint (replicate 8 0) 0 nothing (refusal (checkpointCallRows st img)) (λ e k. refl) h
+    asked-next (Related _) checkpoint v b Checkpoint (replicate 8 0) nothing (refusal (checkpointCallRows st img)) (λ e k. refl) h
     (λ e z. record { sizes = refl; related = inl (empty-checkpoint st img b (is-quiet st img b h (rows e .1 .1 .0)) (none-needed st z)) })
     (λ e z.
     let q = is-quiet st img b h (rows e .1 .1 .0) in
-    record { sizes = refl; related = inr (asked-busy st img b Checkpoint (replicate 8 0) 0 nothing q refl z refl (all-left st Checkpoint (replicate 8 0) 0 nothing)) }) in
+    record { sizes = refl; related = inr (asked-busy st img b Checkpoint (replicate 8 0) nothing q refl z refl (all-left st Checkpoint (replicate 8 0) nothing)) }) in
     record { right = tt; sizes = a .sizes; related = a .related }

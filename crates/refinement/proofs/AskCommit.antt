@@ -92,7 +92,7 @@ module _ {past : List ℕ} (st : State) (img : List ℕ) (b : Reference) (w : �
       let e₁ = same-head in
       let e₂ = same-table in
       let e₃ = q .pending in
-      sym (λ i. record { sizes = st .sizes; head = e₁ i; tail = st .tail; next = st .next; table = e₂ i; writers = withPrepared (closedWriter (st .sizes) (st .writers) w) noWriter; wide = st .wide; pending = sym e₃ i })
+      sym (λ i. record { sizes = st .sizes; head = e₁ i; tail = st .tail; next = st .next; table = e₂ i; map = st .map; writers = withPrepared (closedWriter (st .sizes) (st .writers) w) noWriter; wide = st .wide; pending = sym e₃ i })
 
   -- and so are the pages
   pub empty-commit : Quiet past (completed st (Commit w)) img (emptied w (laid w b))
@@ -122,11 +122,11 @@ commit-sound {past = past} w v b h =
     let q : row ≡ 0 → Quiet past st img b = λ e. is-quiet st img b h (rows e .1 .1 .0) in
     let op : row ≡ 0 → Commit w ≡ commitOp st w = λ e. sym (commit-narrow st img w (not-wide st b w (q e .narrow) (can e .writer-low))) in
     let a =
-    asked-next (Related _) (commit w) v b (commitOp st w) (replicate 8 0) 0 (committing w) row (λ e n. book-narrow b w n (q e .narrow .book) (can e .writer-low)) h
+    asked-next (Related _) (commit w) v b (commitOp st w) (replicate 8 0) (committing w) row (λ e n. book-narrow b w n (q e .narrow .book) (can e .writer-low)) h
     (λ e z.
     subst (λ (o : Op). After past v (worldOf (completed st o) img) (emptied w (laid w b))) (op e)
     (record { sizes = refl; related = inl (empty-commit st img b w (can e) (q e) (none-needed st w (ap (needs st) (op e) ∙ z))) }))
     (λ e z.
-    subst (λ (o : Op). After past v (worldOf (withPending st o (replicate 8 0) 0) img) (withWork (under (committing w) (needs st o)) b)) (op e)
-    (record { sizes = refl; related = inr (asked-busy st img b (Commit w) (replicate 8 0) 0 (committing w) (q e) (ap not (not-wide st b w (q e .narrow) (can e .writer-low))) (subst (λ (o : Op). 0 < needs st o) (sym (op e)) z) (op-row st img w e) (all-left st (Commit w) (replicate 8 0) 0 (committing w))) })) in
+    subst (λ (o : Op). After past v (worldOf (withPending st o (replicate 8 0)) img) (withWork (under (committing w) (needs st o)) b)) (op e)
+    (record { sizes = refl; related = inr (asked-busy st img b (Commit w) (replicate 8 0) (committing w) (q e) (ap not (not-wide st b w (q e .narrow) (can e .writer-low))) (subst (λ (o : Op). 0 < needs st o) (sym (op e)) z) (op-row st img w e) (all-left st (Commit w) (replicate 8 0) (committing w))) })) in
     record { right = tt; sizes = a .sizes; related = a .related }

@@ -28,15 +28,15 @@ some-needed st p = omega arith
 pub consolidation-after : {past : List ℕ} (c : Call) (v : World) (b : Reference) (row p : ℕ)
     → (row ≡ 0 → (n : ℕ) → taken c n b ≡ starts nothing n b) → Related past v b
     → (row ≡ 0 → (not (isIdle (v .st .pending .op)) ≡ false) × (refusal (consolidateRows (v .st) p) ≡ 0))
-    → After past v (worldOf (asked row (v .st) (Consolidate p) (replicate 8 0) 0 .state) (v .image)) (turn c row (asked row (v .st) (Consolidate p) (replicate 8 0) 0 .stores) b)
+    → After past v (worldOf (asked row (v .st) (Consolidate p) (replicate 8 0) .state) (v .image)) (turn c row (asked row (v .st) (Consolidate p) (replicate 8 0) .stores) b)
 consolidation-after c v b row p t h rows =
     let st = v .st in
     let img = v .image in
-    asked-next (Related _) c v b (Consolidate p) (replicate 8 0) 0 nothing row t h
+    asked-next (Related _) c v b (Consolidate p) (replicate 8 0) nothing row t h
     (λ e z. absurd (omega (arith, z, some-needed st p)))
     (λ e z.
     let q = is-quiet st img b h (rows e .0) in
-    record { sizes = refl; related = inr (asked-busy st img b (Consolidate p) (replicate 8 0) 0 nothing q refl z (rows e .1) (all-left st (Consolidate p) (replicate 8 0) 0 nothing)) })
+    record { sizes = refl; related = inr (asked-busy st img b (Consolidate p) (replicate 8 0) nothing q refl z (rows e .1) (all-left st (Consolidate p) (replicate 8 0) nothing)) })
 
 pub consolidate-sound : {past : List ℕ} (p : ℕ) (v : World) (b : Reference) → Related past v b → Sound past (consolidate p) v b
 unfolding exec consolidateOf

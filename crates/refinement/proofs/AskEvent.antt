@@ -26,7 +26,7 @@ use Rattle.state.specs.Held.{heldAt}
 use Rattle.operations.specs.Operations.{isIdle, slotFor, slotted, needs}
 use Rattle.operations.proofs.Taken.{EventTaken, event-taken}
 use Rattle.validity.specs.Validity.{stateOk}
-use Rattle.refinement.specs.Frames.{pageFrame, seenFrame}
+use Rattle.refinement.specs.Frames.{seenFrame}
 use Rattle.refinement.specs.Settled.{withLines, withOpen}
 use Rattle.refinement.specs.Event.{firstAsked}
 use Rattle.refinement.specs.Calls.{finishedLine, meterIn, meterLine, eventLine, eventSecond, eventCallRows}
@@ -44,9 +44,6 @@ use Rattle.refinement.proofs.WriterCalls.{seen-narrow, finished-narrow}
 use Rattle.refinement.proofs.StateValid.{valid}
 
 module _ {past : List ℕ} (st : State) (img : List ℕ) (b : Reference) (ms : List ℕ) (k m a : ℕ) (Q : Quiet past st img b) (row : refusal (eventCallRows st img ms k m a) ≡ 0) where
-  abbrev f : ℕ
-  f = pageFrame st img 0
-
   abbrev line : List ℕ
   line = eventLine st img ms k m a
 
@@ -54,13 +51,13 @@ module _ {past : List ℕ} (st : State) (img : List ℕ) (b : Reference) (ms : L
   second = eventSecond st img ms k m a
 
   abbrev asked : State
-  asked = withLines st (Event k m a) line second f
+  asked = withLines st (Event k m a) line second
 
   abbrev machine : Reference
   machine = withWork (under (moving ms k m a) (eventNeeds k)) b
 
-  ok-rows : EventTaken st k m f
-  ok-rows = event-taken st k m a f (event-op-row st img ms k m a row)
+  ok-rows : EventTaken st k m
+  ok-rows = event-taken st k m a (event-op-row st img ms k m a row)
 
   first : firstMeter k m < 64
   first = omega (arith, first-low k m (ok-rows .known))
@@ -72,7 +69,7 @@ module _ {past : List ℕ} (st : State) (img : List ℕ) (b : Reference) (ms : L
   page = omega (arith, valid st (Q .valid) .legal .pages-low)
 
   -- the pending state's rows are the same
-  asked-rows : EventTaken asked k m f
+  asked-rows : EventTaken asked k m
   asked-rows =
       record {
         known = ok-rows .known;
@@ -82,14 +79,13 @@ module _ {past : List ℕ} (st : State) (img : List ℕ) (b : Reference) (ms : L
         first-free = ok-rows .first-free;
         own-free = ok-rows .own-free;
         some-free = ok-rows .some-free;
-        frame-good = ok-rows .frame-good;
         fits = ok-rows .fits;
       }
 
   asked-valid : stateOk asked ≡ true
-  asked-valid = lines-valid st line second f (Event k m a) (Q .valid) refl (event-op-row st img ms k m a row) (omega (arith, event-some k, event-needs st k m a))
+  asked-valid = lines-valid st line second (Event k m a) (Q .valid) refl (event-op-row st img ms k m a row) (omega (arith, event-some k, event-needs st k m a))
 
-  ready : Ready (withOpen asked 1) k m f
+  ready : Ready (withOpen asked 1) k m
   ready = event-begun asked k m a asked-valid (Q .durable .behind .sixteen) (Q .writers .sixty-four) (Q .writers .four) asked-rows
 
   -- writer 1 holds nothing
@@ -105,7 +101,7 @@ module _ {past : List ℕ} (st : State) (img : List ℕ) (b : Reference) (ms : L
   other : isWide (st .wide) 1 ≡ false
   other = not-wide st b 1 (Q .narrow) (omega arith)
 
-  seen : (l : ℕ) → l < 64 → lineBytes img (st .sizes) (seenFrame st 1 0 l f) l ≡ readLine b 1 0 l
+  seen : (l : ℕ) → l < 64 → lineBytes img (st .sizes) (seenFrame st 1 0 l) l ≡ readLine b 1 0 l
   seen l low = seen-line st img b Never (Q .durable) (Q .writers) 1 0 l (omega arith) page low (λ x. x)
 
   number : (l : ℕ) → l < 64 → meterIn st img l ≡ meterOn b l
@@ -149,10 +145,6 @@ module _ {past : List ℕ} (st : State) (img : List ℕ) (b : Reference) (ms : L
         narrow = record { state = Q .narrow .state; book = Q .narrow .book };
       }
 
-  same-frame : f ≡ pageFrame (firstAsked asked k m) img 0
-  unfolding pageFrame
-  same-frame = refl
-
   eight : 0 < needs (withOpen asked 1) (Write 1 0 (firstMeter k m) 0 8)
   unfolding needs
   eight = omega arith
@@ -163,9 +155,9 @@ module _ {past : List ℕ} (st : State) (img : List ℕ) (b : Reference) (ms : L
   first-busy : Busy past (firstAsked asked k m) img (withWork (under (firstTask ms k m a b) (needs (withOpen asked 1) op)) b)
   first-busy =
       let bytes = firstBytes ms k m a b in
-      asked-busy (withOpen asked 1) img b op line f (firstTask ms k m a b) begun (ap not other) eight
-      (write-row (withOpen asked 1) k m f (firstMeter k m) line ready first (ready .first-free))
-      (bytes, bytes-bytesOf 8 _, omega (arith, length-bytes 8 (firstNumber ms k m (meterOn b (firstMeter k m)) a)), all-left (withOpen asked 1) op line f (firstTask ms k m a b), facts .first-line, same-frame, line-bytes (firstMeter k m) first)
+      asked-busy (withOpen asked 1) img b op line (firstTask ms k m a b) begun (ap not other) eight
+      (write-row (withOpen asked 1) k m (firstMeter k m) line ready first (ready .first-free))
+      (bytes, bytes-bytesOf 8 _, omega (arith, length-bytes 8 (firstNumber ms k m (meterOn b (firstMeter k m)) a)), all-left (withOpen asked 1) op line (firstTask ms k m a b), facts .first-line, line-bytes (firstMeter k m) first)
 
   first-under : Under past (firstAsked asked k m) img (firstTask ms k m a b) (withWork idle b) 0
   unfolding needs

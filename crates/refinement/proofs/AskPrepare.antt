@@ -68,14 +68,14 @@ prepare-sound w v b h =
     let img = v .image in
     let rows = none-apply (prepareCallRows st img w) (omega arith) in
     let a =
-    asked-next (Related _) (prepare w) v b (Prepare w) (replicate 8 0) 0 nothing (refusal (prepareCallRows st img w)) (λ e k. refl) h
+    asked-next (Related _) (prepare w) v b (Prepare w) (replicate 8 0) nothing (refusal (prepareCallRows st img w)) (λ e k. refl) h
     (λ e z.
     let q = is-quiet st img b h (rows e .1 .1 .0) in
     let T = prepare-taken st w (prepare-row st img w e) in
     record { sizes = refl; related = inl (now-prepared st img b w (q .valid) T (q .durable) (q .writers) (λ i l. absurd (omega (arith, l, none-prepared st w z))) (q .work) (q .narrow)) })
     (λ e z.
     let q = is-quiet st img b h (rows e .1 .1 .0) in
-    record { sizes = refl; related = inr (asked-busy st img b (Prepare w) (replicate 8 0) 0 nothing q refl z (prepare-row st img w e) (all-left st (Prepare w) (replicate 8 0) 0 nothing)) }) in
+    record { sizes = refl; related = inr (asked-busy st img b (Prepare w) (replicate 8 0) nothing q refl z (prepare-row st img w e) (all-left st (Prepare w) (replicate 8 0) nothing)) }) in
     record { right = tt; sizes = a .sizes; related = a .related }
 
 confirm-row : (st : State) (img : List ℕ) (w : ℕ) → refusal (confirmCallRows st img w) ≡ 0 → refusal (confirmRows st w) ≡ 0
@@ -88,14 +88,14 @@ confirm-sound w v b h =
     let img = v .image in
     let rows = none-apply (confirmCallRows st img w) (omega arith) in
     let a =
-    asked-next (Related _) (confirm w) v b (Confirm w) (replicate 8 0) 0 (committing w) (refusal (confirmCallRows st img w)) (λ e k. refl) h
+    asked-next (Related _) (confirm w) v b (Confirm w) (replicate 8 0) (committing w) (refusal (confirmCallRows st img w)) (λ e k. refl) h
     (λ e z.
     let q = is-quiet st img b h (rows e .1 .1 .0) in
     let T = confirm-can st w (q .valid) (confirm-taken st w (confirm-row st img w e)) in
     record { sizes = refl; related = inl (empty-commit st img b w T q (none-confirmed st w z)) })
     (λ e z.
     let q = is-quiet st img b h (rows e .1 .1 .0) in
-    record { sizes = refl; related = inr (asked-busy st img b (Confirm w) (replicate 8 0) 0 (committing w) q refl z (confirm-row st img w e) (all-left st (Confirm w) (replicate 8 0) 0 (committing w))) }) in
+    record { sizes = refl; related = inr (asked-busy st img b (Confirm w) (replicate 8 0) (committing w) q refl z (confirm-row st img w e) (all-left st (Confirm w) (replicate 8 0) (committing w))) }) in
     record { right = tt; sizes = a .sizes; related = a .related }
 
 pub withdraw-sound : {past : List ℕ} (w : ℕ) (v : World) (b : Reference) → Related past v b → Sound past (withdraw w) v b

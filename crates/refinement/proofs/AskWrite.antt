@@ -23,7 +23,7 @@ use Rattle.state.specs.declared.Op.the-variants.{Write, Log}
 use Rattle.state.specs.Wide.{isWide}
 use Rattle.operations.specs.Operations.{needs, slotFor, writeRows, opRows}
 use Rattle.operations.proofs.Taken.{ArgsGood, write-taken}
-use Rattle.refinement.specs.Frames.{pageFrame, seenFrame}
+use Rattle.refinement.specs.Frames.{seenFrame}
 use Rattle.refinement.specs.Stores.{World, steppedBy}
 use Rattle.refinement.specs.Calls.{writeCallRows, changesNothing, writeOp, writeOf, finishedLine, withPending, worldOf}
 use Rattle.refinement.specs.Run.{write, exec}
@@ -63,15 +63,15 @@ merged-read b w p l o n bytes fits given =
     (λ t. keeps i m (inr (leb-false o i t)) ∙ sym (at ∙ rw (eq-eqb w w refl, eq-eqb p p refl, eq-eqb l l refl, t))))
 
 module _ {past : List ℕ} (st : State) (img : List ℕ) (b : Reference) (w p l o n : ℕ) (bytes : List ℕ) (q : Quiet past st img b) (lent : Bytes bytes) (given : n ≤ length bytes)
-    (row : refusal (writeRows st w p l o n (pageFrame st img p)) ≡ 0) where
+    (row : refusal (writeRows st w p l o n) ≡ 0) where
   args : ArgsGood (st .sizes) w p l o n
-  args = write-taken st w p l o n (pageFrame st img p) row .args
+  args = write-taken st w p l o n row .args
 
   -- a writer of a narrow transaction
   other : isWide (st .wide) w ≡ false
   other = not-wide st b w (q .narrow) (args .writer-low)
 
-  seen : lineBytes img (st .sizes) (seenFrame st w p l (pageFrame st img p)) l ≡ readLine b w p l
+  seen : lineBytes img (st .sizes) (seenFrame st w p l) l ≡ readLine b w p l
   seen = seen-line st img b Never (q .durable) (q .writers) w p l (args .writer-low) (args .page-low) (args .line-low) (λ x. x)
 
   finished : finishedLine st img w p l o n bytes ≡ lineWords (readLine (written w p l o n bytes b) w p l)
@@ -84,31 +84,27 @@ module _ {past : List ℕ} (st : State) (img : List ℕ) (b : Reference) (w p l 
   unfolding needs
   eight = omega arith
 
-  same-frame : pageFrame st img p ≡ pageFrame (withPending st (Write w p l o n) (finishedLine st img w p l o n bytes) (pageFrame st img p)) img p
-  unfolding pageFrame
-  same-frame = refl
-
-  write-busy : Busy past (withPending st (Write w p l o n) (finishedLine st img w p l o n bytes) (pageFrame st img p)) img
+  write-busy : Busy past (withPending st (Write w p l o n) (finishedLine st img w p l o n bytes)) img
       (withWork (under (writing w p l o n bytes) (needs st (Write w p l o n))) b)
   write-busy =
-      asked-busy st img b (Write w p l o n) (finishedLine st img w p l o n bytes) (pageFrame st img p) (writing w p l o n bytes) q (ap not other) eight row
-      (bytes, lent, given, all-left st (Write w p l o n) (finishedLine st img w p l o n bytes) (pageFrame st img p) (writing w p l o n bytes), finished, same-frame, line-bytes)
+      asked-busy st img b (Write w p l o n) (finishedLine st img w p l o n bytes) (writing w p l o n bytes) q (ap not other) eight row
+      (bytes, lent, given, all-left st (Write w p l o n) (finishedLine st img w p l o n bytes) (writing w p l o n bytes), finished, line-bytes)
 
   -- the same where nothing changes: what is left is what the run of its eight stores would leave
   write-idle : changesNothing st img w p l o n bytes ≡ true → Related past (worldOf st img) (written w p l o n bytes b)
   unfolding needs
   write-idle none =
       let low = q .writers .held-low w (slotFor st p) (args .writer-low) (ltb-true (slotFor st p) (st .sizes .slots) (has-slot st img w p l o n bytes (q .valid) (durable-fits past st img b (q .durable)) (q .durable .bytes) row given other none)) in
-      let asks = withPending st (Write w p l o n) (finishedLine st img w p l o n bytes) (pageFrame st img p) in
+      let asks = withPending st (Write w p l o n) (finishedLine st img w p l o n bytes) in
       let ran : Related past (steppedBy 8 (worldOf asks img)) (written w p l o n bytes (withWork idle b)) = run-related 8 (worldOf asks img) (withWork (under (writing w p l o n bytes) 8) b) write-busy in
       subst (λ (v : World). Related past v (written w p l o n bytes b)) (world-back st img w p l o n bytes (q .valid) (durable-fits past st img b (q .durable)) (q .durable .bytes) row given other none (q .pending) low)
       (subst (λ (c : Reference). Related past (steppedBy 8 (worldOf asks img)) (written w p l o n bytes c)) (work-same b idle (q .work)) ran)
 
 -- a taken one of a narrow transaction: its rows after the first four, and what it leaves
 pub op-row : (st : State) (img : List ℕ) (w p l o n : ℕ) (bytes : List ℕ) → isWide (st .wide) w ≡ false → refusal (writeCallRows st img w p l o n bytes) ≡ 0
-    → refusal (writeRows st w p l o n (pageFrame st img p)) ≡ 0
+    → refusal (writeRows st w p l o n) ≡ 0
 op-row st img w p l o n bytes other e =
-    subst (λ (op : Op). refusal (opRows st op (pageFrame st img p)) ≡ 0) (write-narrow st img w other p l o n) (write-op-row st img w p l o n bytes e)
+    subst (λ (op : Op). refusal (opRows st op) ≡ 0) (write-narrow st img w other p l o n) (write-op-row st img w p l o n bytes e)
 
 pub write-sound : {past : List ℕ} (w p l o n : ℕ) (bytes : List ℕ) → Bytes bytes → (v : World) (b : Reference) → Related past v b → Sound past (write w p l o n bytes) v b
 unfolding exec writeOf needs
@@ -116,7 +112,7 @@ write-sound {past = past} w p l o n bytes lent v b h =
     let st = v .st in
     let img = v .image in
     let nothing = changesNothing st img w p l o n bytes in
-    let asks = withPending st (writeOp st w p l o n) (finishedLine st img w p l o n bytes) (pageFrame st img p) in
+    let asks = withPending st (writeOp st w p l o n) (finishedLine st img w p l o n bytes) in
     let a =
     answered-still (Related _) (write w p l o n bytes) v b (refusal (writeCallRows st img w p l o n bytes)) (cond nothing 0 (cond (isWide (st .wide) w) 9 8)) (cond nothing st asks) h
     (λ e.
@@ -130,6 +126,6 @@ write-sound {past = past} w p l o n bytes lent v b h =
     (λ t.
     rw t
     (subst
-    (λ (x : Bool). After past v (worldOf (withPending st (cond x (Log p l o n) (Write w p l o n)) (finishedLine st img w p l o n bytes) (pageFrame st img p)) img) (starts (writing w p l o n bytes) (cond x 9 8) b))
+    (λ (x : Bool). After past v (worldOf (withPending st (cond x (Log p l o n) (Write w p l o n)) (finishedLine st img w p l o n bytes)) img) (starts (writing w p l o n bytes) (cond x 9 8) b))
     (sym other) (record { sizes = refl; related = inr (write-busy st img b w p l o n bytes q lent given row) })))) in
     record { right = tt; sizes = a .sizes; related = a .related }

@@ -17,17 +17,17 @@ use Rattle.refinement.proofs.Invariant.{Doing, Quiet, Busy}
 use Rattle.refinement.proofs.Keeps.{durable-kept}
 
 -- what the reference machine has under way, with all its stores left
-pub all-left : (st : State) (op : Op) (line : List ℕ) (frame : ℕ) (t : Task) → under t (needs st op) ≡ under t (needs (withPending st op line frame) op - 0)
-all-left st op line frame t = let e : needs st op ≡ needs (withPending st op line frame) op - 0 = omega (arith, needs-asked st line frame op op) in ap (under t) e
+pub all-left : (st : State) (op : Op) (line : List ℕ) (t : Task) → under t (needs st op) ≡ under t (needs (withPending st op line) op - 0)
+all-left st op line t = let e : needs st op ≡ needs (withPending st op line) op - 0 = omega (arith, needs-asked st line op op) in ap (under t) e
 
-pub asked-busy : {past : List ℕ} (st : State) (img : List ℕ) (b : Reference) (op : Op) (line : List ℕ) (frame : ℕ) (t : Task)
-    → Quiet past st img b → opFits (st .wide .writer) (isFresh st) op ≡ true → 0 < needs st op → refusal (opRows st op frame) ≡ 0
-    → Doing (withPending st op line frame) img (withWork (under t (needs st op)) b) op
-    → Busy past (withPending st op line frame) img (withWork (under t (needs st op)) b)
-asked-busy st img b op line frame t q fits l r doing =
+pub asked-busy : {past : List ℕ} (st : State) (img : List ℕ) (b : Reference) (op : Op) (line : List ℕ) (t : Task)
+    → Quiet past st img b → opFits (st .wide .writer) (isFresh st) op ≡ true → 0 < needs st op → refusal (opRows st op) ≡ 0
+    → Doing (withPending st op line) img (withWork (under t (needs st op)) b) op
+    → Busy past (withPending st op line) img (withWork (under t (needs st op)) b)
+asked-busy st img b op line t q fits l r doing =
     let ws = q .writers in
     record {
-      valid = pending-valid st line frame op (q .valid) fits r l;
+      valid = pending-valid st line op (q .valid) fits r l;
       durable = durable-kept st img b (withWork (under t (needs st op)) b) (st .next) (st .writers) _ (λ p l h k. refl) (q .durable);
       writers =
           record {

@@ -45,6 +45,8 @@ module _ {past : List ℕ} (st : State) (img : List ℕ) (b : Reference) (w : �
         tail-same = D .tail-same;
         count-same = uncounted st img b D (q .narrow);
         behind = D .behind;
+        map-long = D .map-long;
+        own = D .own;
         committed = D .committed;
       }
 

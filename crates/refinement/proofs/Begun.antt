@@ -186,18 +186,19 @@ unprepared-valid st e i =
 -- and the lengths and ranges of its arrays
 pub begin-sized : (st : State) (w : ℕ) → Sized st → Sized (withWriters st (opening st w))
 begin-sized st w h =
-    record { table = h .table; writers = record { four = length-set (st .writers .opened) w true ∙ h .writers .four; sixty-four = h .writers .sixty-four; held-low = h .writers .held-low }; keys = h .keys }
+    record { table = h .table; map = h .map; writers = record { four = length-set (st .writers .opened) w true ∙ h .writers .four; sixty-four = h .writers .sixty-four; held-low = h .writers .held-low }; keys = h .keys }
 
 pub begin-wide-sized : (st : State) (w : ℕ) → Sized st → Sized (beginningWide st w)
-begin-wide-sized st w h = let g = begin-sized st w h in record { table = g .table; writers = g .writers; keys = refl }
+begin-wide-sized st w h = let g = begin-sized st w h in record { table = g .table; map = g .map; writers = g .writers; keys = refl }
 
 pub unprepared-sized : (st : State) → Sized st → Sized (unprepared st)
-unprepared-sized st h = record { table = h .table; writers = record { four = h .writers .four; sixty-four = h .writers .sixty-four; held-low = h .writers .held-low }; keys = h .keys }
+unprepared-sized st h = record { table = h .table; map = h .map; writers = record { four = h .writers .four; sixty-four = h .writers .sixty-four; held-low = h .writers .held-low }; keys = h .keys }
 
 pub abort-sized : (st : State) (w : ℕ) → Sized st → Sized (aborting st w)
 abort-sized st w h =
     record {
       table = h .table;
+      map = h .map;
       writers = closed-sized (st .sizes) (st .writers) w (h .writers);
       keys = row-keeps (λ (d : Wide). length (d .keys) ≡ 64) (isWide (st .wide) w) noWide (st .wide) refl (h .keys);
     }

@@ -8,7 +8,7 @@ use Rattle.operations.specs.Operations.{needs}
 use Rattle.state.specs.Wide.{wideOf, noWide}
 use Rattle.state.specs.declared.Op.the-variants.{Copy}
 use Rattle.state.specs.declared.Pending.{Pending}
-use Rattle.state.specs.State.{Wide, State}
+use Rattle.state.specs.State.{Wide, State, ownFrame}
 use Rattle.entries.proofs.EntryLaws.{length-keys, none-right, Right, entries-right}
 use Rattle.entries.specs.Entries.{noKeys}
 use Prim.Native.Nat.{ℕ, _+_, _*_, _<_, _≤_}
@@ -29,12 +29,14 @@ use Rattle.replay.specs.declared.Table.{Table}
 use Rattle.journal.specs.Slots.{slotFrom, freeSlot}
 use Rattle.journal.specs.Records.{liveRecord}
 use Rattle.replay.specs.Table.{slotIn, lastIn, withSlot, emptyTable, tableFrom, homeOf, frameNames}
+use Rattle.replay.specs.Map.{pageFrames, mapFrom}
+use Rattle.replay.proofs.Maps.{length-map}
 use Rattle.fresh.specs.Fresh.{formatted, freshTable}
 use Rattle.mount.specs.Mount.{mountOf}
 use Rattle.replay.proofs.Tables.{Sixteen, sixteen-empty, sixteen-laid, sixteen-from, one-value}
 use Rattle.replay.proofs.Latest.{sixteen-replay}
 use Rattle.mount.proofs.View.{View, live, viewOf, Shows, shown, table-shown}
-use Rattle.mount.proofs.Verdict.{Taken, namesIn, foundIn, mount-taken, taken-mount}
+use Rattle.mount.proofs.Verdict.{Taken, namesIn, mapIn, foundIn, mount-taken, taken-mount, entry-shown, map-shown}
 use Rattle.mount.proofs.LastRecords.{last-live, lasts-apart}
 use Rattle.fresh.proofs.FreshWords.{length-formatted}
 use Rattle.fresh.proofs.FreshMounts.{freshView, fresh-shows, fresh-taken}
@@ -47,7 +49,7 @@ use Rattle.refinement.proofs.ValidLasts.{lastAt, LastsFine}
 use Rattle.refinement.proofs.StateValid.{valid-ok}
 use Rattle.refinement.proofs.Pending.{idle-ok, pends-ok}
 use Rattle.refinement.proofs.Appended.{last-at}
-use Rattle.refinement.proofs.NamesOnce.{names-fine}
+use Rattle.refinement.proofs.OwnFrames.{fine-is}
 use Rattle.refinement.proofs.Sized.{Low, set-low, replay-low, SizedWriters, Sized}
 use Rattle.refinement.specs.Mount.{allClosed, quietState, mountedState, freshState, copying, copyingState}
 
@@ -81,13 +83,16 @@ module _ (img : List ℕ) (v : View) (shows : Shows img v) where
       subst Sixteen (sym (table-shown img v shows))
       (sixteen-replay (v .sizes) (v .tail) (live v) (liveRecord (word img) (v .sizes) (v .tail)) (tableFrom (word img) (v .sizes)) (sixteen-from (word img) (v .sizes)))
 
-  pub view-names : namesIn v ≡ frameNames (word img) (v .sizes) (v .table)
+  pub view-names : namesIn v ≡ frameNames (pageFrames (word img)) (v .sizes) (v .table)
   unfolding frameNames
   view-names =
       let spares = tab (v .sizes .slots) (λ s. slotIn (v .table) s .spare) in
-      let homes : v .homes ≡ tab (v .sizes .pages) (homeOf (word img) (v .sizes) (v .table)) =
-      ap (λ (u : View). u .homes) (shown img v shows) ∙ ap (λ (t : Table). tab (v .sizes .pages) (homeOf (word img) (v .sizes) t)) (sym (table-shown img v shows)) in
+      let homes : v .homes ≡ tab (v .sizes .pages) (homeOf (pageFrames (word img)) (v .sizes) (v .table)) =
+      ap (λ (u : View). u .homes) (shown img v shows) ∙ ap (λ (t : Table). tab (v .sizes .pages) (homeOf (pageFrames (word img)) (v .sizes) t)) (sym (table-shown img v shows)) in
       ap (λ (h : List ℕ). spares ++ h) homes
+
+  pub view-map : v .sizes .pages ≤ 1024 → length (mapIn v) ≡ 1024
+  view-map h = ap length (map-shown img v shows) ∙ length-map (v .sizes .pages) _ h
 
   view-bitmaps : Bytes img → Low (v .table .bitmap)
   unfolding tableFrom liveRecord
@@ -116,18 +121,18 @@ module _ (img : List ℕ) (v : View) (shows : Shows img v) where
 
     -- a state with what is found, no writer open, and a wide transaction without a writer
     abbrev finding : Wide → Pending → State
-    finding d q = record { sizes = v .sizes; head = v .head; tail = v .tail; next = 0; table = v .table; writers = allClosed; wide = d; pending = q }
+    finding d q = record { sizes = v .sizes; head = v .head; tail = v .tail; next = 0; table = v .table; map = mapIn v; writers = allClosed; wide = d; pending = q }
 
     finding-valid : (d : Wide) (q : Pending) → Right (v .sizes) (d .keys) (d .count) → 4 ≤ d .writer → pendingOk (finding d q) ≡ true → stateOk (finding d q) ≡ true
     finding-valid d q r none p =
         let z = v .sizes in
-        let once : Once (frames z) (frameNames (word img) z (v .table)) = subst (Once (frames z)) view-names (taken .names) in
+        let once : Once (frames z) (frameNames (pageFrames (word img)) z (v .table)) = subst (Once (frames z)) view-names (taken .names) in
         let g = taken .legal in
         valid-ok (finding d q)
         (record {
           legal = g;
           positions = taken .positions;
-          slots = names-fine (word img) z (v .table) once g (taken .shapes) (taken .apart);
+          slots = fine-is (ownFrame (finding d q)) (pageFrames (word img)) z (v .table) (entry-shown img v shows) g (taken .shapes) (taken .apart) once;
           held = closed-held z (v .table);
           next-low = omega arith;
           lasts = view-lasts;
@@ -137,11 +142,11 @@ module _ (img : List ℕ) (v : View) (shows : Shows img v) where
           pending = p;
         })
 
-    pub mount-valid : stateOk (quietState (v .sizes) (v .head) (v .tail) (v .table)) ≡ true
+    pub mount-valid : stateOk (quietState (v .sizes) (v .head) (v .tail) (v .table) (mapIn v)) ≡ true
     mount-valid = finding-valid noWide noPending (none-right (v .sizes) noKeys) (omega arith) (idle-ok (finding noWide noPending) refl)
 
     -- with the copying of the entries that are counted pending
-    pub copying-valid : (v .count ≡ 0 → ⊥) → stateOk (copyingState (v .sizes) (v .head) (v .tail) (v .table) (v .count) (v .keys)) ≡ true
+    pub copying-valid : (v .count ≡ 0 → ⊥) → stateOk (copyingState (v .sizes) (v .head) (v .tail) (v .table) (mapIn v) (v .count) (v .keys)) ≡ true
     unfolding needs
     copying-valid some =
         let d = wideOf noWriter (v .count) (v .keys) in
@@ -149,10 +154,11 @@ module _ (img : List ℕ) (v : View) (shows : Shows img v) where
         finding-valid d copying (entries-right (v .sizes) (v .keys) (v .count) (taken .entries)) (omega arith)
         (pends-ok (finding d copying) Copy refl (record { fits = refl; made-low = low; taken = refl }))
 
-    pub mount-sized : Bytes img → Sized (quietState (v .sizes) (v .head) (v .tail) (v .table))
+    pub mount-sized : Bytes img → Sized (quietState (v .sizes) (v .head) (v .tail) (v .table) (mapIn v))
     mount-sized b =
         record {
           table = record { sixteen = view-sixteen; bitmap-low = view-bitmaps b };
+          map = view-map (taken .legal .pages-high);
           writers = closed-sized;
           keys = refl;
         }
@@ -177,8 +183,8 @@ module _ (img : List ℕ) (e : mountOf img .row ≡ 0) where
       let v = viewOf (word img) in
       let h = mount-sized img v refl (mount-taken img v refl e) b in
       subst Sized (sym found)
-      (row-keeps Sized (eqb (v .count) 0) (quietState (v .sizes) (v .head) (v .tail) (v .table)) (copyingState (v .sizes) (v .head) (v .tail) (v .table) (v .count) (v .keys))
-      h (record { table = h .table; writers = h .writers; keys = length-keys (word img) (v .sizes) (v .count) }))
+      (row-keeps Sized (eqb (v .count) 0) (quietState (v .sizes) (v .head) (v .tail) (v .table) (mapIn v)) (copyingState (v .sizes) (v .head) (v .tail) (v .table) (mapIn v) (v .count) (v .keys))
+      h (record { table = h .table; map = h .map; writers = h .writers; keys = length-keys (word img) (v .sizes) (v .count) }))
 
 module _ (z : Sizes) (e : sizesOk z ≡ true) where
   abbrev room : List ℕ
@@ -188,6 +194,7 @@ module _ (z : Sizes) (e : sizesOk z ≡ true) where
   fits = omega (arith, length-replicate {A = ℕ} (imageLength z) 0)
 
   pub fresh-valid : stateOk (freshState z) ≡ true
+  unfolding mapIn mapFrom
   fresh-valid =
       mount-valid (formatted z room) (freshView z) (fresh-shows z (legal z e) room fits)
       (fresh-taken z (legal z e) (length (formatted z room)) (omega (arith, length-formatted z (legal z e) room fits, fits)))
@@ -203,6 +210,7 @@ module _ (z : Sizes) (e : sizesOk z ≡ true) where
                   up-keeps (λ (t : Table). Low (t .bitmap)) (λ s t. withSlot t s (freeSlot (z .pages + s))) (z .slots) emptyTable
                   (λ s t l h. set-low (t .bitmap) s 0 h (omega arith)) empty-low;
             };
+        map = length-map (z .pages) (λ p. p) (legal z e .pages-high);
         writers = closed-sized;
         keys = refl;
       }

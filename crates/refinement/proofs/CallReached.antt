@@ -17,7 +17,7 @@ unfolding stepped
 step-image v b =
     let op = v .st .pending .op in
     let m = v .st .pending .made in
-    bytes-store (v .image) (storeAt (v .st) (v .image) op m) (storeValue (v .st) (v .image) op m) b
+    bytes-store (v .image) (storeAt (v .st) op m) (storeValue (v .st) (v .image) op m) b
 
 steps-image : (n : ℕ) (v : World) → Bytes (v .image) → Bytes (steppedBy n v .image)
 unfolding steppedBy

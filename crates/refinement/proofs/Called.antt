@@ -22,7 +22,6 @@ use Rattle.state.specs.Wide.{isWide}
 use Rattle.operations.specs.Operations.{isIdle, opRows, commitRows, prepareRows, confirmRows, consolidateRows, needs}
 use Rattle.validity.specs.Validity.{stateOk, opFits, isFresh}
 use Rattle.refinement.specs.Commit.{closedWriter}
-use Rattle.refinement.specs.Frames.{pageFrame}
 use Rattle.refinement.specs.Freeing.{freedPage}
 use Rattle.refinement.proofs.Choice.{free-rows}
 use Rattle.refinement.specs.Stores.{World, steppedBy, stepped, left}
@@ -52,14 +51,14 @@ answered-good row st n after g h =
     (λ e. subst Good (ap (λ (b : Bool). cond b after st) (sym e)) (h (eqb-true row 0 e)))
     (λ e. subst Good (ap (λ (b : Bool). cond b after st) (sym e)) g)
 
-asked-good : (st : State) (row : ℕ) (op : Op) (line : List ℕ) (frame : ℕ) → Good st → opFits (st .wide .writer) (isFresh st) op ≡ true → (row ≡ 0 → refusal (opRows st op frame) ≡ 0)
-    → Good (asked row st op line frame .state)
-asked-good st row op line frame g fits h =
-    answered-good row st (needs st op) (askedState st op line frame) g
+asked-good : (st : State) (row : ℕ) (op : Op) (line : List ℕ) → Good st → opFits (st .wide .writer) (isFresh st) op ≡ true → (row ≡ 0 → refusal (opRows st op) ≡ 0)
+    → Good (asked row st op line .state)
+asked-good st row op line g fits h =
+    answered-good row st (needs st op) (askedState st op line) g
     (λ e.
     record {
-      is-valid = asked-valid st line frame op (h e) (g .is-valid) (g .sized) fits;
-      sized = asked-sized st line frame op (h e) (g .sized);
+      is-valid = asked-valid st line op (h e) (g .is-valid) (g .sized) fits;
+      sized = asked-sized st line op (h e) (g .sized);
     })
 
 module _ (st : State) (img : List ℕ) (g : Good st) where
@@ -86,33 +85,32 @@ module _ (st : State) (img : List ℕ) (g : Good st) where
   write-good w p l o n bytes =
       let op = writeOp st w p l o n in
       let line = finishedLine st img w p l o n bytes in
-      let frame = pageFrame st img p in
       let nothing = changesNothing st img w p l o n bytes in
       let some : 0 < needs st op = row-keeps (λ (x : Op). 0 < needs st x) (isWide (st .wide) w) (Log p l o n) (Write w p l o n) (omega arith) (omega arith) in
-      answered-good (refusal (writeCallRows st img w p l o n bytes)) st (cond nothing 0 (cond (isWide (st .wide) w) 9 8)) (cond nothing st (withPending st op line frame)) g
+      answered-good (refusal (writeCallRows st img w p l o n bytes)) st (cond nothing 0 (cond (isWide (st .wide) w) 9 8)) (cond nothing st (withPending st op line)) g
       (λ e.
-      row-keeps Good nothing st (withPending st op line frame) g
+      row-keeps Good nothing st (withPending st op line) g
       (record {
-        is-valid = pending-valid st line frame op (g .is-valid) (write-fits st w p l o n) (write-op-row st img w p l o n bytes e) some;
-        sized = pending-sized st line frame op (g .sized);
+        is-valid = pending-valid st line op (g .is-valid) (write-fits st w p l o n) (write-op-row st img w p l o n bytes e) some;
+        sized = pending-sized st line op (g .sized);
       }))
 
   commit-good : (w : ℕ) → Good (commitOf st img w .state)
   unfolding commitOf
   commit-good w =
-      asked-good st (refusal (commitCallRows st img w)) (commitOp st w) (replicate 8 0) 0 g (commit-fits st w)
-      (λ e. commit-op-row st w 0 (past-rows (quietRows st (length img)) (commitRows st w) (omega arith) e))
+      asked-good st (refusal (commitCallRows st img w)) (commitOp st w) (replicate 8 0) g (commit-fits st w)
+      (λ e. commit-op-row st w (past-rows (quietRows st (length img)) (commitRows st w) (omega arith) e))
 
   prepare-good : (w : ℕ) → Good (prepareOf st img w .state)
   unfolding prepareOf
   prepare-good w =
-      asked-good st (refusal (prepareCallRows st img w)) (Prepare w) (replicate 8 0) 0 g refl
+      asked-good st (refusal (prepareCallRows st img w)) (Prepare w) (replicate 8 0) g refl
       (λ e. past-rows (quietRows st (length img)) (prepareRows st w) (omega arith) e)
 
   confirm-good : (w : ℕ) → Good (confirmOf st img w .state)
   unfolding confirmOf
   confirm-good w =
-      asked-good st (refusal (confirmCallRows st img w)) (Confirm w) (replicate 8 0) 0 g refl
+      asked-good st (refusal (confirmCallRows st img w)) (Confirm w) (replicate 8 0) g refl
       (λ e. past-rows (quietRows st (length img)) (confirmRows st w) (omega arith) e)
 
   withdraw-good : (w : ℕ) → Good (withdrawOf st img w .state)
@@ -126,28 +124,27 @@ module _ (st : State) (img : List ℕ) (g : Good st) where
   consolidate-good : (p : ℕ) → Good (consolidateOf st img p .state)
   unfolding consolidateOf
   consolidate-good p =
-      asked-good st (refusal (consolidateCallRows st img p)) (Consolidate p) (replicate 8 0) 0 g refl
+      asked-good st (refusal (consolidateCallRows st img p)) (Consolidate p) (replicate 8 0) g refl
       (λ e. past-rows (quietRows st (length img)) (consolidateRows st p) (omega arith) e)
 
   free-good : Good (freeOf st img .state)
   unfolding freeOf
-  free-good = asked-good st (refusal (freeCallRows st img)) (Consolidate (freedPage st)) (replicate 8 0) 0 g refl (free-rows st img)
+  free-good = asked-good st (refusal (freeCallRows st img)) (Consolidate (freedPage st)) (replicate 8 0) g refl (free-rows st img)
 
   checkpoint-good : Good (checkpointOf st img .state)
   unfolding checkpointOf
-  checkpoint-good = asked-good st (refusal (checkpointCallRows st img)) Checkpoint (replicate 8 0) 0 g refl (λ e. refl)
+  checkpoint-good = asked-good st (refusal (checkpointCallRows st img)) Checkpoint (replicate 8 0) g refl (λ e. refl)
 
   event-good : (ms : List ℕ) (k m a : ℕ) → Good (eventOf st img ms k m a .state)
   unfolding eventOf
   event-good ms k m a =
       let line = eventLine st img ms k m a in
       let second = eventSecond st img ms k m a in
-      let f = pageFrame st img 0 in
-      answered-good (refusal (eventCallRows st img ms k m a)) st (eventNeeds k) (withLines st (Event k m a) line second f) g
+      answered-good (refusal (eventCallRows st img ms k m a)) st (eventNeeds k) (withLines st (Event k m a) line second) g
       (λ e.
       record {
-        is-valid = lines-valid st line second f (Event k m a) (g .is-valid) refl (event-op-row st img ms k m a e) (omega (arith, event-some k, event-needs st k m a));
-        sized = record { table = g .sized .table; writers = g .sized .writers; keys = g .sized .keys };
+        is-valid = lines-valid st line second (Event k m a) (g .is-valid) refl (event-op-row st img ms k m a e) (omega (arith, event-some k, event-needs st k m a));
+        sized = record { table = g .sized .table; map = g .sized .map; writers = g .sized .writers; keys = g .sized .keys };
       })
 
   busy : stepRow st img ≡ 0 → isIdle (st .pending .op) ≡ false

@@ -23,7 +23,6 @@ use Rattle.state.specs.Held.{heldAt, heldSlots}
 use Rattle.state.specs.Wide.{isWide}
 use Rattle.operations.specs.Operations.{live, isIdle, journalFull, needs, writeRows, logRows}
 use Rattle.validity.specs.Validity.{stateOk}
-use Rattle.refinement.specs.Frames.{pageFrame}
 use Rattle.refinement.specs.Stores.{World, completed, left}
 use Rattle.refinement.proofs.Pending.{pends}
 use Rattle.refinement.proofs.Steps.{stepped-last, run-all}
@@ -76,8 +75,8 @@ module _ {past : List ℕ} (v : World) (b : Reference) (s : Standing past v b) (
   write-fits w p l o n bytes =
       let rows = quietRows st (length img) ++ ((ltb (length bytes) n, 11) ∷ []) in
       caseOn (isWide (st .wide) w)
-      (λ t. rw t (none-applies lacking (rows ++ logRows st p l o n (pageFrame st img p)) refl))
-      (λ t. rw t (none-applies lacking (rows ++ writeRows st w p l o n (pageFrame st img p)) refl))
+      (λ t. rw t (none-applies lacking (rows ++ logRows st p l o n) refl))
+      (λ t. rw t (none-applies lacking (rows ++ writeRows st w p l o n) refl))
 
   fits : (c : Call) → lacking (exec c v .number) ≡ false
   unfolding exec beginOf beginWideOf abortOf writeOf commitOf prepareOf confirmOf withdrawOf consolidateOf freeOf checkpointOf eventOf loadOf readRow stepOf runOf

@@ -16,7 +16,7 @@ use Rattle.bounded.proofs.Tests.{and-left, and-right, contradicts}
 use Rattle.journal.specs.Slots.{noPage}
 use Rattle.journal.proofs.SlotWords.{Owning, Free, shape}
 use Rattle.replay.specs.Table.{slotIn}
-use Rattle.state.specs.State.{State}
+use Rattle.state.specs.State.{State, ownFrame}
 use Rattle.state.specs.Slots.{freeAt}
 use Rattle.state.specs.Held.{heldAt, someHold}
 use Rattle.operations.specs.Operations.{slotFor, consolidateRows}
@@ -74,7 +74,7 @@ module _ (st : State) where
     -- and is the slot of that page
     pub own-slot : slotFor st (freedPage st) ≡ freedSlot st
     own-slot =
-        slot-is (st .sizes) (st .table) (valid st ok .legal) (slots-good (st .sizes) (st .head) (st .tail) (st .table) (parts st ok .slots) .pages) (freedPage st) (freedSlot st) (owns .page-low) l refl
+        slot-is (st .sizes) (st .table) (valid st ok .legal) (slots-good (st .sizes) (st .head) (st .tail) (st .table) (ownFrame st) (parts st ok .slots) .pages) (freedPage st) (freedSlot st) (owns .page-low) l refl
 
     -- rows 11, 17 and 18 of its consolidation
     pub page-fits : leb (st .sizes .pages) (freedPage st) ≡ false

@@ -23,6 +23,7 @@ use Rattle.journal.specs.declared.Slot.{Slot}
 use Rattle.journal.specs.Slots.{shaped}
 use Rattle.journal.specs.Records.{position, wordOfRecord, recordsOk}
 use Rattle.replay.specs.Table.{slotIn, lastIn, noPosition}
+use Rattle.replay.specs.Map.{pageFrames}
 use Rattle.mount.proofs.Dead.{Dead, dead-new}
 use Rattle.mount.proofs.LastRecords.{last-record, table-slot}
 use Rattle.journal.proofs.RightRecords.{one-transaction}
@@ -81,7 +82,7 @@ module _ (past : List ℕ) (st : State) (img : List ℕ) (b : Reference) (D : Du
       (word-lt img (recordWord (st .sizes) (lastIn (v .table) s) + 1 + 2) (D .bytes))) in
       ⊎-elim
       (λ q. subst (λ (u : Slot). u .bitmap < 2 ^ 64) (sym q) there)
-      (λ (q : TakenOnly (word img) (st .sizes) (D .view .table) (st .table) s). subst (λ (x : ℕ). x < 2 ^ 64) (sym (q .bitmap)) (omega arith))
+      (λ (q : TakenOnly (pageFrames (word img)) (st .sizes) (D .view .table) (st .table) s). subst (λ (x : ℕ). x < 2 ^ 64) (sym (q .bitmap)) (omega arith))
       (D .behind .slot-same s l)
 
 -- ---- the records

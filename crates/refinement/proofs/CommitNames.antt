@@ -76,7 +76,7 @@ module _ (r : ℕ → ℕ) (z : Sizes) (t u : Table) (names : (s : ℕ) → s < 
       (λ e. let l = ltb-true (slotOf z u p) (z .slots) e in slot-first z t p (slotOf z u p) l (sym (names (slotOf z u p) l .page) ∙ slot-page z u p l))
       (λ e. omega (arith, slot-none z u p e, slot-le z t p)))
 
-  same-home : (p : ℕ) → homeOf r z u p ≡ homeOf r z t p
+  pub same-home : (p : ℕ) → homeOf r z u p ≡ homeOf r z t p
   same-home p =
       caseOn (ltb (slotOf z t p) (z .slots))
       (λ e. rw (same-slot p, e) (names (slotOf z t p) (ltb-true (slotOf z t p) (z .slots) e) .original))

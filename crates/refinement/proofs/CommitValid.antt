@@ -2,16 +2,21 @@
 -- closed writer holds nothing.
 use Prim.Native.Nat.{ℕ, _<_}
 use mathlib.Core.Bool.{Bool, true, not, false}
+use mathlib.Core.List.{List, _++_}
 use mathlib.Core.Logic.{⊎-elim}
 use mathlib.Core.Path.{_≡_, refl, sym, ap, _∙_, subst}
 use native.Mathlib.Omega.{arith}
 use lib.Dec.{eqb}
 use lib.ListN.{length, getD}
 use borrow.Author.Tests.{eqb-true, eqb-false, not-true, lt-ltb}
+use Rattle.bounded.specs.Count.{Once}
 use Rattle.bounded.specs.Rows.{refusal}
+use Rattle.bounded.specs.Tab.{tab}
+use Rattle.bounded.proofs.Tab.{tab-ext}
 use Rattle.bounded.proofs.Those.{chosen, length-those}
 use Rattle.bounded.proofs.Tests.{caseOn, contradicts}
 use Rattle.layout.specs.declared.Sizes.{Sizes}
+use Rattle.layout.specs.Layout.{frames}
 use Rattle.journal.specs.declared.Slot.{Slot}
 use Rattle.journal.specs.Slots.{shaped}
 use Rattle.replay.specs.Table.{slotIn}
@@ -19,7 +24,7 @@ use Rattle.journal.proofs.Ring.{positions-more}
 use Rattle.journal.proofs.SlotWords.{Owning, Free, shape, owning-shaped}
 use Rattle.replay.proofs.Tables.{Sixteen}
 use Rattle.replay.proofs.Latest.{Latest, latest, replay-latest, replay-kept}
-use Rattle.state.specs.State.{State}
+use Rattle.state.specs.State.{State, ownFrame}
 use Rattle.state.specs.declared.Op.the-variants.{Commit, Prepare}
 use Rattle.state.specs.Held.{heldAt, heldSlots}
 use Rattle.state.specs.Wide.{someWide, isWide}
@@ -28,7 +33,6 @@ use Rattle.validity.specs.Validity.{stateOk}
 use Rattle.operations.proofs.Taken.{CommitTaken, ConfirmTaken, commit-taken}
 use Rattle.refinement.specs.Stores.{completed}
 use Rattle.refinement.specs.Commit.{commitSlots, committedSlot, commitRecord, commitTable, commitRecordOf}
-use Rattle.refinement.proofs.ValidSlots.{Apart}
 use Rattle.refinement.proofs.ValidWriters.{HeldFine}
 use Rattle.refinement.proofs.StateValid.{narrow, valid, valid-ok}
 use Rattle.refinement.proofs.Pending.{idle-ok}
@@ -41,16 +45,6 @@ pub record SameNames (a b : Slot) : Type 0 where
   pub page : b .page ≡ a .page
   pub original : b .original ≡ a .original
   pub spare : b .spare ≡ a .spare
-
-pub apart-renamed : (a b c d : Slot) → SameNames a c → SameNames b d → Apart a b → Apart c d
-apart-renamed a b c d p q h =
-    record {
-      pages = λ n e. h .pages (λ x. n (p .page ∙ x)) (sym (p .page) ∙ e ∙ q .page);
-      spares = λ e. h .spares (sym (p .spare) ∙ e ∙ q .spare);
-      forth = λ e. h .forth (sym (p .original) ∙ e ∙ q .spare);
-      back = λ e. h .back (sym (p .spare) ∙ e ∙ q .original);
-      originals = λ n m e. h .originals (λ x. n (p .page ∙ x)) (λ x. m (q .page ∙ x)) (sym (p .original) ∙ e ∙ q .original);
-    }
 
 pub owning-renamed : (z : Sizes) (a b : Slot) → SameNames a b → Owning z a → Owning z b
 owning-renamed z a b p o =
@@ -133,7 +127,11 @@ module _ (st : State) (w : ℕ) where
           slots =
               record {
                 shapes = λ s l. a s l .shape;
-                apart = λ s k l m d. apart-renamed (old s) (old k) (new s) (new k) (a s l .names) (a k m .names) (v .slots .apart s k l m d);
+                pages = λ s k l m d n q. v .slots .pages s k l m d (λ x. n (a s l .names .page ∙ x)) (sym (a s l .names .page) ∙ q ∙ a k m .names .page);
+                named =
+                    subst (λ (y : List ℕ). Once (frames z) (y ++ tab (z .pages) (ownFrame st)))
+                    (tab-ext (z .slots) (λ s. old s .spare) (λ s. new s .spare) (λ s l. sym (a s l .names .spare))) (v .slots .named);
+                kept = λ s l n. ap (ownFrame st) (a s l .names .page) ∙ v .slots .kept s l (λ x. n (a s l .names .page ∙ x)) ∙ sym (a s l .names .original);
               };
           held = closed-fine z (v .legal) (st .writers) w new kept;
           next-low = v .next-low;

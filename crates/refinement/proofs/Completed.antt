@@ -39,16 +39,16 @@ settled-valid st e =
       pending = idle-ok (completed st Format) refl;
     })
 
-pub completed-valid : (st : State) (op : Op) → stateOk st ≡ true → Sixteen (st .table) → length (st .writers .held) ≡ 64 → length (st .writers .opened) ≡ 4 → length (st .wide .keys) ≡ 64 → opFits (st .wide .writer) (isFresh st) op ≡ true → refusal (opRows st op (st .pending .frame)) ≡ 0 → stateOk (completed st op) ≡ true
-completed-valid st Idle e full lines four keys fits r = e
-completed-valid st (Write w p l o n) e full lines four keys fits r =
-    written-valid st w p l o n e full (write-taken st w p l o n (st .pending .frame) r) (not-true _ fits) lines
-completed-valid st (Commit w) e full lines four keys fits r = commit-valid st w e full (not-true _ fits) r
-completed-valid st (Consolidate p) e full lines four keys fits r = consolidate-valid st p e full r
-completed-valid st Checkpoint e full lines four keys fits r = checkpoint-valid st e full
-completed-valid st (Event k m a) e full lines four keys fits r = event-valid st k m a e full lines four r
-completed-valid st (Prepare w) e full lines four keys fits r = prepare-valid st w e (prepare-taken st w r) (prepare-alone st w r .0)
-completed-valid st (Confirm w) e full lines four keys fits r = committed-valid st w e full (confirm-can st w e (confirm-taken st w r)) (confirm-narrow st w e (confirm-taken st w r))
-completed-valid st (Log p l o n) e full lines four keys fits r = logged-valid st p l o n e keys r
-completed-valid st Copy e full lines four keys fits r = copied-valid st e r
-completed-valid st Format e full lines four keys fits r = settled-valid st e
+pub completed-valid : (st : State) (op : Op) → stateOk st ≡ true → Sixteen (st .table) → length (st .map) ≡ 1024 → length (st .writers .held) ≡ 64 → length (st .writers .opened) ≡ 4 → length (st .wide .keys) ≡ 64 → opFits (st .wide .writer) (isFresh st) op ≡ true → refusal (opRows st op) ≡ 0 → stateOk (completed st op) ≡ true
+completed-valid st Idle e full long lines four keys fits r = e
+completed-valid st (Write w p l o n) e full long lines four keys fits r =
+    written-valid st w p l o n e full (write-taken st w p l o n r) (not-true _ fits) lines
+completed-valid st (Commit w) e full long lines four keys fits r = commit-valid st w e full (not-true _ fits) r
+completed-valid st (Consolidate p) e full long lines four keys fits r = consolidate-valid st p e full long r
+completed-valid st Checkpoint e full long lines four keys fits r = checkpoint-valid st e full
+completed-valid st (Event k m a) e full long lines four keys fits r = event-valid st k m a e full lines four r
+completed-valid st (Prepare w) e full long lines four keys fits r = prepare-valid st w e (prepare-taken st w r) (prepare-alone st w r .0)
+completed-valid st (Confirm w) e full long lines four keys fits r = committed-valid st w e full (confirm-can st w e (confirm-taken st w r)) (confirm-narrow st w e (confirm-taken st w r))
+completed-valid st (Log p l o n) e full long lines four keys fits r = logged-valid st p l o n e keys r
+completed-valid st Copy e full long lines four keys fits r = copied-valid st e r
+completed-valid st Format e full long lines four keys fits r = settled-valid st e

@@ -7,7 +7,8 @@ use mathlib.Core.Logic.{_⊎_, ⊎-elim, inl, inr}
 use mathlib.Core.Path.{_≡_, refl, sym, ap, ap₂, _∙_, subst}
 use native.Mathlib.Omega.{arith}
 use lib.Dec.{eqb}
-use lib.ListN.{length, getD}
+use lib.ListN.{length, getD, length-set}
+use lib.Seq.{getD-set-same, getD-set-other}
 use borrow.Author.Tests.{lt-ltb, eqb-true, eqb-false}
 use Rattle.bounded.specs.Count.{Once}
 use Rattle.bounded.proofs.Tests.{caseOn}
@@ -23,6 +24,7 @@ use Rattle.replay.specs.declared.Table.{Table}
 use Rattle.journal.specs.Slots.{noPage, freeSlot}
 use Rattle.journal.specs.Records.{position, wordOfRecord}
 use Rattle.replay.specs.Table.{slotIn, lastIn, replay, slotOf, homeOf, frameNames}
+use Rattle.replay.specs.Map.{pageFrames}
 use Rattle.mount.proofs.Append.{Appendable, Landed, appended, append-view, append-taken}
 use Rattle.journal.proofs.Ring.{pos-none}
 use Rattle.journal.proofs.RightRecords.{right-all}
@@ -30,7 +32,7 @@ use Rattle.journal.proofs.SlotWords.{free-shaped}
 use Rattle.replay.proofs.Tables.{Sixteen}
 use Rattle.mount.proofs.Verdict.{Taken}
 use Rattle.mount.proofs.View.{Shows}
-use Rattle.state.specs.State.{State}
+use Rattle.state.specs.State.{State, ownFrame}
 use Rattle.state.specs.declared.Op.the-variants.{Consolidate}
 use Rattle.operations.specs.Operations.{slotFor, copyCount}
 use Rattle.validity.specs.Validity.{stateOk}
@@ -44,8 +46,8 @@ use Rattle.refinement.proofs.Copies.{mount-apart, mount-once, durable-f
 use Rattle.refinement.proofs.NamesOnce.{name-spare, name-home}
 use Rattle.refinement.proofs.ConsolidateStores.{lineOf, copied-line, line-goes, freeing-slot, freeing-now, freeing-first, at-line, at-page, at-freeing, value-line, value-page, value-freeing}
 use Rattle.refinement.proofs.ConsolidateSlot.{Freed}
-use Rattle.refinement.proofs.FreeNames.{Frees, freed-sixteen, freed-slot, kept-slot, slot-kept, frame-gone, frame-other, freed-once, freed-shapes, freed-apart}
-use Rattle.refinement.proofs.HeaderStore.{header-fits, header-page, header-copy}
+use Rattle.refinement.proofs.FreeNames.{Frees, freed-sixteen, freed-slot, kept-slot, slot-kept, home-gone, home-other, frame-gone, frame-other, freed-once, freed-shapes, freed-apart}
+use Rattle.refinement.proofs.HeaderStore.{header-fits, header-page, header-copy, header-home}
 use Rattle.refinement.proofs.PageSlots.{slot-is, slot-first}
 use Rattle.refinement.proofs.Valid.{good}
 
@@ -91,13 +93,13 @@ module _ (past : List ℕ) (st : State) (img : List ℕ) (b : Reference) (valid 
       (λ (q : slotIn (st .table) s ≡ slotIn d s).
       sym (slot-is z d (F .ranges .legal) (mount-apart st img valid D) p k (F .page-low) l e)
       ∙ slot-is z d (F .ranges .legal) (mount-apart st img valid D) p s (F .page-low) (F .slot-low) (sym (ap (λ (v : Slot). v .page) q) ∙ F .page-is))
-      (λ (q : TakenOnly (word img) z d (st .table) s).
+      (λ (q : TakenOnly (pageFrames (word img)) z d (st .table) s).
       let u : slotOf z d p ≡ z .slots = ap (slotOf z d) (sym (F .page-is)) ∙ q .unslotted in
       absurd (omega (arith, slot-first z d p k l e)))
       (D .behind .slot-same s (F .slot-low)))
       (⊎-elim
       (λ (q : slotIn (st .table) s ≡ slotIn d s). inl (sym (ap (λ (v : Slot). v .page) q) ∙ F .page-is))
-      (λ (q : TakenOnly (word img) z d (st .table) s). inr (ap (λ (v : Slot). v .page) (q .was-free)))
+      (λ (q : TakenOnly (pageFrames (word img)) z d (st .table) s). inr (ap (λ (v : Slot). v .page) (q .was-free)))
       (D .behind .slot-same s (F .slot-low)))
 
   -- ---- with the stores before it landed
@@ -163,11 +165,11 @@ module _ (past : List ℕ) (st : State) (img : List ℕ) (b : Reference) (valid 
           rw (e, q, D .sizes-same) (record-landed k m)
 
       -- the two names stay or change places
-      roles : ((copyFrom t ≡ slotIn d s .spare) × (word img (pageWord p) ≡ homeOf (word img) z d p)) ⊎ ((copyFrom t ≡ homeOf (word img) z d p) × (word img (pageWord p) ≡ slotIn d s .spare))
+      roles : ((copyFrom t ≡ slotIn d s .spare) × (word img (pageWord p) ≡ homeOf (pageFrames (word img)) z d p)) ⊎ ((copyFrom t ≡ homeOf (pageFrames (word img)) z d p) × (word img (pageWord p) ≡ slotIn d s .spare))
       roles =
-          let a : t .spare ≡ slotIn d s .spare = sym (name-spare (word img) z (st .table) s (F .slot-low)) ∙ ap (λ (l : List ℕ). getD l s 0) (names-same st img valid D) ∙ name-spare (word img) z d s (F .slot-low) in
-          let h : homeOf (word img) z (st .table) p ≡ t .original = rw (lt-ltb s (z .slots) (F .slot-low)) in
-          let c : t .original ≡ homeOf (word img) z d p = sym h ∙ sym (name-home (word img) z (st .table) p (F .page-low)) ∙ ap (λ (l : List ℕ). getD l (z .slots + p) 0) (names-same st img valid D) ∙ name-home (word img) z d p (F .page-low) in
+          let a : t .spare ≡ slotIn d s .spare = sym (name-spare (pageFrames (word img)) z (st .table) s (F .slot-low)) ∙ ap (λ (l : List ℕ). getD l s 0) (names-same st img valid D) ∙ name-spare (pageFrames (word img)) z d s (F .slot-low) in
+          let h : homeOf (pageFrames (word img)) z (st .table) p ≡ t .original = rw (lt-ltb s (z .slots) (F .slot-low)) in
+          let c : t .original ≡ homeOf (pageFrames (word img)) z d p = sym h ∙ sym (name-home (pageFrames (word img)) z (st .table) p (F .page-low)) ∙ ap (λ (l : List ℕ). getD l (z .slots + p) 0) (names-same st img valid D) ∙ name-home (pageFrames (word img)) z d p (F .page-low) in
           caseOn (isFew t)
           (λ f.
           let x : copyTo t ≡ t .original = rw f in
@@ -178,8 +180,8 @@ module _ (past : List ℕ) (st : State) (img : List ℕ) (b : Reference) (valid 
           let y : copyFrom t ≡ t .original = rw f in
           inr (y ∙ c, page-landed ∙ x ∙ a))
 
-      names-after : Once (frames z) (frameNames (word img) z (replay z (st .head) 1 new d))
-      names-after = freed-once M (word img) (mount-once st img valid D) roles
+      names-after : Once (frames z) (frameNames (pageFrames (word img)) z (replay z (st .head) 1 new d))
+      names-after = freed-once M (pageFrames (word img)) (mount-once st img valid D) roles
 
       still-taken : Taken (length img) (appended (word img) (D .view) 1 new)
       unfolding frameNames
@@ -205,7 +207,7 @@ module _ (past : List ℕ) (st : State) (img : List ℕ) (b : Reference) (valid 
       whole : imageLength z ≤ length img
       whole = durable-fits past st img b D
 
-      slot-behind : (k : ℕ) → k < z .slots → (slotIn table k ≡ slotIn (replay z (st .head) 1 new d) k) ⊎ TakenOnly (word after) z (replay z (st .head) 1 new d) table k
+      slot-behind : (k : ℕ) → k < z .slots → (slotIn table k ≡ slotIn (replay z (st .head) 1 new d) k) ⊎ TakenOnly (pageFrames (word after)) z (replay z (st .head) 1 new d) table k
       slot-behind k l =
           let d′ : Table = replay z (st .head) 1 new d in
           caseOn (eqb k s)
@@ -218,7 +220,7 @@ module _ (past : List ℕ) (st : State) (img : List ℕ) (b : Reference) (valid 
           let y : slotIn d′ k ≡ slotIn d k = kept-slot M k n .slot in
           ⊎-elim
           (λ (q : slotIn (st .table) k ≡ slotIn d k). inl (x ∙ q ∙ sym y))
-          (λ (q : TakenOnly (word img) z d (st .table) k).
+          (λ (q : TakenOnly (pageFrames (word img)) z d (st .table) k).
           let pg : slotIn table k .page ≡ slotIn (st .table) k .page = ap (λ (u : Slot). u .page) x in
           let ne : slotIn (st .table) k .page ≡ p → ⊥ = λ h. n (S .only k l h) in
           inr (record {
@@ -243,22 +245,38 @@ module _ (past : List ℕ) (st : State) (img : List ℕ) (b : Reference) (valid 
           ∙ sym (kept-slot M k n .last))
 
       -- the committed copy of every line is where it was, or was copied
-      copy-after : (q l : ℕ) → q < z .pages → l < 64 → lineBytes after z (frameOf (word after) z table q l) l ≡ recallLine b q l
+      copy-after : (q l : ℕ) → q < z .pages → l < 64 → lineBytes after z (frameOf (pageFrames (word after)) z table q l) l ≡ recallLine b q l
       copy-after q l low line =
           header-copy img z headWord (position z (st .head) 1) (omega arith) whole table q l
           ∙ caseOn (eqb q p)
           (λ e.
           let w : q ≡ p = eqb-true q p e in
-          let f : frameOf (word img) z table p l ≡ copyTo t = frame-gone S (word img) l ∙ page-landed in
-          let g : frameOf (word img) z (st .table) p l ≡ committedFrame t l = rw (lt-ltb s (z .slots) (F .slot-low)) in
+          let f : frameOf (pageFrames (word img)) z table p l ≡ copyTo t = frame-gone S (pageFrames (word img)) l ∙ page-landed in
+          let g : frameOf (pageFrames (word img)) z (st .table) p l ≡ committedFrame t l = rw (lt-ltb s (z .slots) (F .slot-low)) in
           rw w
           (ap (λ (x : ℕ). lineBytes img z x l) f
           ∙ line-landed l line
           ∙ ap (λ (x : ℕ). lineBytes img z x l) (sym g)
           ∙ D .committed p l (F .page-low) line))
           (λ e.
-          ap (λ (x : ℕ). lineBytes img z x l) (frame-other S (word img) q l low (eqb-false q p e))
+          ap (λ (x : ℕ). lineBytes img z x l) (frame-other S (pageFrames (word img)) q l low (eqb-false q p e))
           ∙ D .committed q l low line)
+
+      -- the page's entry is the frame that the lines went to, which is its page word then; any other's stays
+      own-after : (q : ℕ) → q < z .pages → ownFrame (completed st (Consolidate p)) q ≡ homeOf (pageFrames (word after)) z table q
+      own-after q low =
+          caseOn (eqb q p)
+          (λ e.
+          ap (ownFrame (completed st (Consolidate p))) (eqb-true q p e)
+          ∙ getD-set-same (st .map) p (copyTo t) 0 (omega (arith, D .map-long, F .page-low, F .ranges .legal .pages-high))
+          ∙ sym (ap (homeOf (pageFrames (word after)) z table) (eqb-true q p e)
+          ∙ header-home img z headWord (position z (st .head) 1) (omega arith) whole table p
+          ∙ home-gone S (pageFrames (word img))
+          ∙ page-landed))
+          (λ e.
+          getD-set-other (st .map) p q (copyTo t) 0 (eqb-false q p e)
+          ∙ D .own q low
+          ∙ sym (header-home img z headWord (position z (st .head) 1) (omega arith) whole table q ∙ home-other S (pageFrames (word img)) q low (eqb-false q p e)))
 
       pub consolidated-durable : Durable past (completed st (Consolidate p)) after (withWork idle b)
       consolidated-durable =
@@ -274,5 +292,7 @@ module _ (past : List ℕ) (st : State) (img : List ℕ) (b : Reference) (valid 
             tail-same = D .tail-same;
             count-same = D .count-same;
             behind = rw (D .sizes-same, D .head-same) (record { sixteen = freed-sixteen S; last-same = last-behind; slot-same = slot-behind });
+            map-long = length-set (st .map) p (copyTo t) ∙ D .map-long;
+            own = own-after;
             committed = copy-after;
           }

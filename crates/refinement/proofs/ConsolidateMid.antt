@@ -17,6 +17,7 @@ use Rattle.journal.specs.declared.Slot.{Slot}
 use Rattle.replay.specs.declared.Table.{Table}
 use Rattle.journal.specs.Records.{position, liveCount}
 use Rattle.replay.specs.Table.{slotIn, slotOf}
+use Rattle.replay.specs.Map.{pageFrames}
 use Rattle.mount.proofs.Dead.{Dead, dead-line, dead-new, dead-page}
 use Rattle.journal.proofs.Ring.{pos-none}
 use Rattle.mount.proofs.View.{View}
@@ -68,9 +69,9 @@ module _ (past : List ℕ) (st : State) (img : List ℕ) (b : Reference) (valid 
         dead = subst (λ (y : Sizes). Dead (D .view) (lineWord y (copyTo t) m + k)) (D .sizes-same) (dead-line (D .view) (D .mounts .legal) (copyTo t) m k (rw (D .sizes-same) (to-low m (c .to))) (c .low) l);
         uncommitted =
             λ q n i lq ln li e.
-            let w = line-apart z (frameOf (word img) z (st .table) q n) n i (copyTo t) m k ln (c .low) li l e in
+            let w = line-apart z (frameOf (pageFrames (word img)) z (st .table) q n) n i (copyTo t) m k ln (c .low) li l e in
             copy-apart st img valid D p m q (F .page-low) lq (F .slot-low)
-            (c .to ∙ sym (w .0) ∙ ap (frameOf (word img) z (st .table) q) (w .1));
+            (c .to ∙ sym (w .0) ∙ ap (frameOf (pageFrames (word img)) z (st .table) q) (w .1));
         unowned =
             λ v q n i lv lq ln li out g e.
             let w = line-apart z (otherFrame (slotIn (st .table) (slotFor st q)) n) n i (copyTo t) m k ln (c .low) li l e in
@@ -90,7 +91,7 @@ module _ (past : List ℕ) (st : State) (img : List ℕ) (b : Reference) (valid 
       let m : slotOf z d p < z .slots = slotted-of z d p s (F .slot-low) (sym (ap (λ (v : Slot). v .page) e) ∙ F .page-is) in
       inr (aside-before past st img b D (Consolidate p) (pageWord p) (omega (arith, F .page-low)) (λ l. inl (omega (arith, F .page-low)))
       (dead-page (D .view) p (rw (D .sizes-same) (F .page-low)) (rw (D .sizes-same) m))))
-      (λ (e : TakenOnly (word img) z d (st .table) s).
+      (λ (e : TakenOnly (pageFrames (word img)) z d (st .table) s).
       let few : copyTo t ≡ t .original = rw (e .bitmap, count-lines-none) in
       inl (value-page st p img ∙ few ∙ e .original ∙ ap (λ (q : ℕ). word img (pageWord q)) (F .page-is)))
       (D .behind .slot-same s (F .slot-low))

@@ -7,6 +7,7 @@ use native.Mathlib.Omega.{arith}
 use lib.ListN.{length}
 use borrow.Author.Tests.{ltb-false}
 use Rattle.layout.specs.declared.Sizes.{Sizes}
+use Rattle.replay.specs.Map.{pageFrames}
 use Rattle.layout.specs.Layout.{lineWord, entryWord, countWord}
 use Rattle.words.specs.Words.{word, store}
 use Rattle.image.proofs.LineLaws.{eight-ext}
@@ -53,7 +54,7 @@ module _ (past : List ℕ) (st : State) (img : List ℕ) (b : Reference) (C : Co
   -- each committed copy is the page's
   in-all : (p l : ℕ) → p < z .pages → l < 64 → copyOf st img p l ≡ recallLine b p l
   in-all p l lp ll =
-      let f : ℕ = frameOf (word img) z (st .table) p l in
+      let f : ℕ = frameOf (pageFrames (word img)) z (st .table) p l in
       let whole = durable-fits past st img (inPlace st img b) D in
       let low = committed-low st img (C .valid) D p l lp in
       shown-by (st .wide .keys) (st .wide .count) p l
@@ -63,7 +64,7 @@ module _ (past : List ℕ) (st : State) (img : List ℕ) (b : Reference) (C : Co
       let few = valid st (C .valid) .entries .few in
       eight-ext img img (lineWord z f l) (entryWord z e + 1) (D .bytes) (D .bytes) (omega arith) (omega arith)
       (λ j lj.
-      sym (ap₂ (λ (x y : ℕ). word img (lineWord z (frameOf (word img) z (st .table) x y) y + j)) page line) ∙ C .landed e j m lj (omega arith))
+      sym (ap₂ (λ (x y : ℕ). word img (lineWord z (frameOf (pageFrames (word img)) z (st .table) x y) y + j)) page line) ∙ C .landed e j m lj (omega arith))
       ∙ C .entry e m
       ∙ ap₂ (recallLine b) page line)
       (λ q. C .other p l lp ll q)
@@ -85,7 +86,7 @@ module _ (past : List ℕ) (st : State) (img : List ℕ) (b : Reference) (C : Co
         valid = copied-valid st (C .valid) (pending .taken);
         pending = refl;
         durable = durable;
-        writers = done-silent st (store img countWord 0) (withWork idle b) (C .valid) (C .unheld) (C .four) (C .sixty-four) (ltb-false (st .writers .prepared) 4 (copy-taken st (st .pending .frame) (pending .taken))) (C .no-writes);
+        writers = done-silent st (store img countWord 0) (withWork idle b) (C .valid) (C .unheld) (C .four) (C .sixty-four) (ltb-false (st .writers .prepared) 4 (copy-taken st (pending .taken))) (C .no-writes);
         work = refl;
         narrow = record { state = refl; book = C .book };
       }

@@ -9,6 +9,7 @@ use lib.Dec.{eqb}
 use lib.ListN.{length}
 use borrow.Author.Tests.{eqb-true, eqb-false}
 use Rattle.bounded.proofs.Tests.{caseOn}
+use Rattle.replay.specs.Map.{pageFrames}
 use Rattle.layout.specs.declared.Sizes.{Sizes}
 use Rattle.layout.specs.Layout.{frames, lineWord, entryWord, imageLength}
 use Rattle.words.specs.Words.{word, store}
@@ -53,7 +54,7 @@ module _ (past : List ℕ) (st : State) (img : List ℕ) (b : Reference) (C : Co
   abbrev image : List ℕ
   image = store img a x
 
-  low : frameOf (word img) z (st .table) (keyPage (keyAt st e)) (keyLine (keyAt st e)) < frames z
+  low : frameOf (pageFrames (word img)) z (st .table) (keyPage (keyAt st e)) (keyLine (keyAt st e)) < frames z
   low = home-low st img (C .valid) D e le
 
   inside : 8 * a + 8 ≤ imageLength z
@@ -64,17 +65,17 @@ module _ (past : List ℕ) (st : State) (img : List ℕ) (b : Reference) (C : Co
 
   dead : Dead (D .view) a
   dead =
-      subst (λ (y : Sizes). Dead (D .view) (lineWord y (frameOf (word img) z (st .table) (keyPage (keyAt st e)) (keyLine (keyAt st e))) (keyLine (keyAt st e)) + k)) (D .sizes-same)
-      (dead-line (D .view) (D .mounts .legal) (frameOf (word img) z (st .table) (keyPage (keyAt st e)) (keyLine (keyAt st e))) (keyLine (keyAt st e)) k (rw (D .sizes-same) low) (omega arith) lk)
+      subst (λ (y : Sizes). Dead (D .view) (lineWord y (frameOf (pageFrames (word img)) z (st .table) (keyPage (keyAt st e)) (keyLine (keyAt st e))) (keyLine (keyAt st e)) + k)) (D .sizes-same)
+      (dead-line (D .view) (D .mounts .legal) (frameOf (pageFrames (word img)) z (st .table) (keyPage (keyAt st e)) (keyLine (keyAt st e))) (keyLine (keyAt st e)) k (rw (D .sizes-same) low) (omega arith) lk)
 
   -- the frames of committed copies are as they were
-  frame-same : (p l : ℕ) → p < z .pages → frameOf (word image) z (st .table) p l ≡ frameOf (word img) z (st .table) p l
+  frame-same : (p l : ℕ) → p < z .pages → frameOf (pageFrames (word image)) z (st .table) p l ≡ frameOf (pageFrames (word img)) z (st .table) p l
   frame-same p l lp =
-      frame-ext (word img) (word image) z (D .view .table) (st .table) (durable-legal past st img (inPlace st img b) D) (D .behind) (page-kept past st img (inPlace st img b) D a x inside dead) p l lp
+      frame-ext (pageFrames (word img)) (pageFrames (word image)) z (D .view .table) (st .table) (durable-legal past st img (inPlace st img b) D) (D .behind) (page-kept past st img (inPlace st img b) D a x inside dead) p l lp
 
   -- the lines now in those frames
   abbrev lines : ℕ → ℕ → List ℕ
-  lines p l = lineBytes image z (frameOf (word img) z (st .table) p l) l
+  lines p l = lineBytes image z (frameOf (pageFrames (word img)) z (st .table) p l) l
 
   durable : Durable past st image (inPlace st image b)
   durable =
@@ -82,7 +83,7 @@ module _ (past : List ℕ) (st : State) (img : List ℕ) (b : Reference) (C : Co
       (durable-stored past st img (inPlace st img b) D a x inside (paged lines b) dead
       (λ p l lp ll.
       paged-line lines b p l
-      (length-line image z (frameOf (word img) z (st .table) p l) l (committed-low st img (C .valid) D p l lp) ll (omega (arith, length-store img a x fits, durable-fits past st img (inPlace st img b) D)))))
+      (length-line image z (frameOf (pageFrames (word img)) z (st .table) p l) l (committed-low st img (C .valid) D p l lp) ll (omega (arith, length-store img a x fits, durable-fits past st img (inPlace st img b) D)))))
 
   -- no word of an entry is stored to
   entry-word : (d j : ℕ) → word image (entryWord z d + 1 + j) ≡ word img (entryWord z d + 1 + j)
@@ -98,7 +99,7 @@ module _ (past : List ℕ) (st : State) (img : List ℕ) (b : Reference) (C : Co
   other-kept : (p l : ℕ) → p < z .pages → l < 64 → entryOf (st .wide .keys) (st .wide .count) (keyOf p l) ≡ st .wide .count → copyOf st image p l ≡ copyOf st img p l
   other-kept p l lp ll none =
       ap (λ (f : ℕ). lineBytes image z f l) (frame-same p l lp)
-      ∙ line-kept img a x z (frameOf (word img) z (st .table) p l) l fits
+      ∙ line-kept img a x z (frameOf (pageFrames (word img)) z (st .table) p l) l fits
       (λ j m q. entry-before (st .wide .keys) (st .wide .count) (keyOf p l) e (omega arith) (same-line st img (C .valid) D e k p l j le lk lp ll m (sym q) .0))
 
   page-low : (d : ℕ) → d < st .wide .count → keyPage (keyAt st d) < z .pages

@@ -4,6 +4,7 @@ use mathlib.Core.List.{List}
 use mathlib.Core.Path.{_≡_, sym, ap₂, _∙_, subst}
 use lib.ListN.{getD}
 use Rattle.layout.specs.declared.Sizes.{Sizes}
+use Rattle.replay.specs.Map.{pageFrames}
 use Rattle.words.specs.Words.{word}
 use Rattle.image.specs.Lines.{lineBytes}
 use Rattle.refinement.specs.Frames.{frameOf}
@@ -37,7 +38,7 @@ module _ {past : List ℕ} (st : State) (img : List ℕ) (b : Reference) (C : Co
       subst (λ (z : Sizes). Entry z (v .count) (v .keys)) (sym (D .sizes-same))
       (subst (λ (n : ℕ). Entry (st .sizes) n (v .keys)) (sym (D .count-same)) (subst (Entry (st .sizes) (st .wide .count)) (sym keys-same) (C .entry)))
 
-  other : (p l : ℕ) → p < v .sizes .pages → l < 64 → entryOf (v .keys) (v .count) (keyOf p l) ≡ v .count → lineBytes img (v .sizes) (frameOf (word img) (v .sizes) (v .table) p l) l ≡ recallLine b p l
+  other : (p l : ℕ) → p < v .sizes .pages → l < 64 → entryOf (v .keys) (v .count) (keyOf p l) ≡ v .count → lineBytes img (v .sizes) (frameOf (pageFrames (word img)) (v .sizes) (v .table) p l) l ≡ recallLine b p l
   other p l lp ll bare =
       let low : p < st .sizes .pages = subst (λ (z : Sizes). p < z .pages) (D .sizes-same) lp in
       mounted-committed st img (inPlace st img b) (C .valid) D p l lp ll
@@ -45,5 +46,5 @@ module _ {past : List ℕ} (st : State) (img : List ℕ) (b : Reference) (C : Co
       ∙ C .other p l low ll (ap₂ (λ (ks : List ℕ) (n : ℕ). entryOf ks n (keyOf p l)) (sym keys-same) (sym (D .count-same)) ∙ bare ∙ D .count-same)
 
   -- the lines that a mount shows are the pages'
-  pub view-shows : (p l : ℕ) → p < v .sizes .pages → l < 64 → shownLine img (v .sizes) (v .table) (v .count) (v .keys) p l ≡ recallLine b p l
+  pub view-shows : (p l : ℕ) → p < v .sizes .pages → l < 64 → shownLine img (pageFrames (word img)) (v .sizes) (v .table) (v .count) (v .keys) p l ≡ recallLine b p l
   view-shows p l lp ll = shown-of img (v .sizes) (v .table) (v .count) (v .keys) b entry p l ll (other p l lp ll)

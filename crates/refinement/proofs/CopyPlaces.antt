@@ -4,12 +4,12 @@ use Prim.Native.Nat.{ℕ, _+_, _-_, _*_, _/_, _%_, _<_}
 use mathlib.Core.Bool.{true}
 use mathlib.Core.List.{List}
 use mathlib.Core.Path.{_≡_, refl, sym, ap₂, _∙_}
-use native.Mathlib.Nat.{mod-eq-of-lt}
 use native.Mathlib.Omega.{arith}
 use lib.Dec.{ltb}
 use lib.ListN.{getD}
 use borrow.Author.Tests.{ltb-true, ltb-false, lt-ltb, le-ltb, ne-eqb}
 use Rattle.bounded.proofs.Tests.{caseOn}
+use Rattle.replay.specs.Map.{pageFrames}
 use Rattle.layout.specs.declared.Sizes.{Sizes}
 use Rattle.layout.specs.Layout.{frames, countWord, lineWord, entryWord}
 use Rattle.layout.proofs.LayoutLaws.{line-apart}
@@ -23,7 +23,7 @@ use Rattle.refinement.specs.Wide.{copyAt, copyAtOf, copyValue, copyValue
 use Rattle.refinement.specs.Reference.{Reference}
 use Rattle.refinement.proofs.StateValid.{valid}
 use Rattle.refinement.proofs.Invariant.{Durable}
-use Rattle.refinement.proofs.Copies.{committed-low, committed-apart}
+use Rattle.refinement.proofs.Copies.{committed-low, committed-apart, own-frame}
 
 -- what is stored: the count, words of the entries' lines, 0
 module _ (st : State) (img : List ℕ) where
@@ -45,11 +45,11 @@ module _ (st : State) (img : List ℕ) where
       let i : ℕ = 8 * st .wide .count + 1 in
       rw (ne-eqb i 0 (λ x. omega arith), lt-ltb (8 * st .wide .count) i (omega arith))
 
-  pub at-first : copyAt st img 0 ≡ countWord
+  pub at-first : copyAt st 0 ≡ countWord
   unfolding copyAtOf
   at-first = refl
 
-  pub at-last : copyAt st img (8 * st .wide .count + 1) ≡ countWord
+  pub at-last : copyAt st (8 * st .wide .count + 1) ≡ countWord
   unfolding copyAtOf
   at-last =
       let i : ℕ = 8 * st .wide .count + 1 in
@@ -64,7 +64,7 @@ module _ {past : List ℕ} (st : State) (img : List ℕ) {b : Reference} (ok : s
 
   -- the frame of the committed copy of entry e's line, and its word k
   abbrev pub home : ℕ → ℕ
-  home e = frameOf (word img) z (st .table) (keyPage (key e)) (keyLine (key e))
+  home e = frameOf (pageFrames (word img)) z (st .table) (keyPage (key e)) (keyLine (key e))
 
   abbrev pub copied : ℕ → ℕ → ℕ
   copied e k = lineWord z (home e) (keyLine (key e)) + k
@@ -75,13 +75,13 @@ module _ {past : List ℕ} (st : State) (img : List ℕ) {b : Reference} (ok : s
   pub home-low : (e : ℕ) → e < st .wide .count → home e < frames z
   home-low e l = committed-low st img ok D (keyPage (key e)) (keyLine (key e)) (right .page-low e l)
 
-  pub at-line : (e k : ℕ) → e < st .wide .count → k < 8 → copyAt st img (1 + (8 * e + k)) ≡ copied e k
+  pub at-line : (e k : ℕ) → e < st .wide .count → k < 8 → copyAt st (1 + (8 * e + k)) ≡ copied e k
   unfolding copyAtOf
   at-line e k l m =
       let i : ℕ = 1 + (8 * e + k) in
       let q : (i - 1) / 8 ≡ e = omega arith in
       let r : (i - 1) % 8 ≡ k = omega arith in
-      rw (ne-eqb i 0 (λ x. omega arith), le-ltb (8 * st .wide .count) i (omega arith), q, r, mod-eq-of-lt (home-low e l))
+      rw (ne-eqb i 0 (λ x. omega arith), le-ltb (8 * st .wide .count) i (omega arith), q, r, own-frame st img ok D (keyPage (key e)) (keyLine (key e)) (right .page-low e l))
 
   -- entries of one key are one
   same-entry : (e d : ℕ) → e < st .wide .count → d < st .wide .count → key e ≡ key d → e ≡ d
@@ -95,9 +95,9 @@ module _ {past : List ℕ} (st : State) (img : List ℕ) {b : Reference} (ok : s
 
   -- a word of the committed copy of line m of page q and of entry e's line: the line is the entry's
   pub same-line : (e k q m j : ℕ) → e < st .wide .count → k < 8 → q < z .pages → m < 64 → j < 8
-      → copied e k ≡ lineWord z (frameOf (word img) z (st .table) q m) m + j → (key e ≡ keyOf q m) × (k ≡ j)
+      → copied e k ≡ lineWord z (frameOf (pageFrames (word img)) z (st .table) q m) m + j → (key e ≡ keyOf q m) × (k ≡ j)
   same-line e k q m j l lk lq lm lj x =
-      let a = line-apart z (home e) (keyLine (key e)) k (frameOf (word img) z (st .table) q m) m j (omega arith) lm lk lj x in
+      let a = line-apart z (home e) (keyLine (key e)) k (frameOf (pageFrames (word img)) z (st .table) q m) m j (omega arith) lm lk lj x in
       let p : keyPage (key e) ≡ q = committed-apart st img ok D (keyPage (key e)) (keyLine (key e)) q m (right .page-low e l) lq (a .0) in
       (sym (key-back (key e)) ∙ ap₂ keyOf p (a .1), a .2)
 

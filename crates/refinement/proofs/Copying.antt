@@ -20,6 +20,7 @@ use Rattle.image.proofs.LineLaws.{length-line}
 use Rattle.entries.specs.Entries.{keyOf, keyPage, keyLine, keysFrom, entryOf}
 use Rattle.entries.proofs.EntryLaws.{entry-le, entry-found, page-of-key, line-of-key}
 use Rattle.replay.specs.declared.Table.{Table}
+use Rattle.replay.specs.Map.{pageFrames}
 use Rattle.state.specs.State.{State}
 use Rattle.state.specs.declared.Op.the-variants.{Copy}
 use Rattle.state.specs.Held.{noWriter}
@@ -42,10 +43,10 @@ paged-line lines b p l e = sym (tab-getD (lines p l) 0) ∙ ap (λ (i : ℕ). ta
 
 -- the committed copy of line l of page p, and its word k
 abbrev pub copyOf : State → List ℕ → ℕ → ℕ → List ℕ
-copyOf st img p l = lineBytes img (st .sizes) (frameOf (word img) (st .sizes) (st .table) p l) l
+copyOf st img p l = lineBytes img (st .sizes) (frameOf (pageFrames (word img)) (st .sizes) (st .table) p l) l
 
 abbrev pub copyWord : State → List ℕ → ℕ → ℕ → ℕ → ℕ
-copyWord st img p l k = lineWord (st .sizes) (frameOf (word img) (st .sizes) (st .table) p l) l + k
+copyWord st img p l k = lineWord (st .sizes) (frameOf (pageFrames (word img)) (st .sizes) (st .table) p l) l + k
 
 abbrev pub keyAt : State → ℕ → ℕ
 keyAt st e = getD (st .wide .keys) e 0
@@ -79,7 +80,7 @@ pub in-place : {past : List ℕ} (st : State) (img : List ℕ) {c : Reference} (
     → copyOf st img p l ≡ recallLine (inPlace st img b) p l
 in-place {past = past} st img {c = c} b ok D p l h k =
     paged-line (copyOf st img) b p l
-    (length-line img (st .sizes) (frameOf (word img) (st .sizes) (st .table) p l) l (committed-low st img ok D p l h) k (durable-fits past st img c D))
+    (length-line img (st .sizes) (frameOf (pageFrames (word img)) (st .sizes) (st .table) p l) l (committed-low st img ok D p l h) k (durable-fits past st img c D))
 
 pub placed : {past : List ℕ} (st : State) (img : List ℕ) (c b : Reference) → stateOk st ≡ true → Durable past st img c → Durable past st img (inPlace st img b)
 placed st img c b ok D = durable-kept st img c (inPlace st img b) (st .next) (st .writers) (st .pending) (λ p l h k. sym (D .committed p l h k) ∙ in-place st img b ok D p l h k) D
@@ -94,7 +95,7 @@ shown-by keys n p l f g =
 
 pub shown-of : (img : List ℕ) (z : Sizes) (t : Table) (n : ℕ) (keys : List ℕ) (b : Reference)
     → ((e : ℕ) → e < n → entryBytes img z e ≡ recallLine b (keyPage (getD keys e 0)) (keyLine (getD keys e 0))) → (p l : ℕ) → l < 64
-    → (entryOf keys n (keyOf p l) ≡ n → lineBytes img z (frameOf (word img) z t p l) l ≡ recallLine b p l) → shownLine img z t n keys p l ≡ recallLine b p l
+    → (entryOf keys n (keyOf p l) ≡ n → lineBytes img z (frameOf (pageFrames (word img)) z t p l) l ≡ recallLine b p l) → shownLine img (pageFrames (word img)) z t n keys p l ≡ recallLine b p l
 shown-of img z t n keys b entry p l ll other =
     shown-by keys n p l
     (λ e m q k. rw (q, lt-ltb e n m) (entry e m ∙ ap₂ (recallLine b) (ap keyPage k ∙ page-of-key p l ll) (ap keyLine k ∙ line-of-key p l ll)))
@@ -102,5 +103,5 @@ shown-of img z t n keys b entry p l ll other =
 
 -- the line shown is the page's
 pub copying-shows : {past : List ℕ} (st : State) (img : List ℕ) (b : Reference) → Copying past st img b → (p l : ℕ) → p < st .sizes .pages → l < 64
-    → shownLine img (st .sizes) (st .table) (st .wide .count) (st .wide .keys) p l ≡ recallLine b p l
+    → shownLine img (pageFrames (word img)) (st .sizes) (st .table) (st .wide .count) (st .wide .keys) p l ≡ recallLine b p l
 copying-shows st img b C p l lp ll = shown-of img (st .sizes) (st .table) (st .wide .count) (st .wide .keys) b (C .entry) p l ll (C .other p l lp ll)

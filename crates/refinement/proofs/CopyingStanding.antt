@@ -8,20 +8,21 @@ use lib.Dec.{ltb}
 use lib.ListN.{length}
 use borrow.Author.Tests.{lt-ltb}
 use Rattle.bounded.proofs.Tests.{contradicts}
+use Rattle.replay.specs.Map.{pageFrames}
 use Rattle.words.specs.Words.{word}
 use Rattle.entries.proofs.EntryLaws.{length-keys}
-use Rattle.state.specs.State.{State}
+use Rattle.state.specs.State.{State, ownFrame}
 use Rattle.state.specs.declared.Op.{Op}
 use Rattle.operations.specs.Operations.{isIdle}
 use Rattle.refinement.specs.Stores.{World}
 use Rattle.refinement.specs.Wide.{isCopy, shownLine}
 use Rattle.refinement.specs.Beside.{counted}
 use Rattle.refinement.specs.Reference.{Reference}
-use Rattle.refinement.proofs.Copies.{names-once}
+use Rattle.refinement.proofs.Copies.{own-frame, map-found}
 use Rattle.refinement.proofs.Copying.{Copying, copying-shows}
 use Rattle.refinement.proofs.CopyMount.{keys-same, view-shows}
 use Rattle.refinement.proofs.Standing.{Standing}
-use Rattle.refinement.proofs.Viewed.{Viewed}
+use Rattle.refinement.proofs.Viewed.{Viewed, shown-own}
 
 module _ {past : List ℕ} (st : State) (img : List ℕ) (b : Reference) (C : Copying past st img b) where
   all-counted : counted st ≡ st .wide .count
@@ -46,7 +47,12 @@ module _ {past : List ℕ} (st : State) (img : List ℕ) (b : Reference) (C : Co
         keys-same = λ some. keys-same st img b C;
         behind = D .behind;
         shown = view-shows st img b C;
-        own = λ p l lp ll. ap (λ (n : ℕ). shownLine img (st .sizes) (st .table) n (st .wide .keys) p l) all-counted ∙ copying-shows st img b C p l lp ll;
+        map = map-found st img (C .valid) D;
+        own =
+            λ p l lp ll.
+            ap (λ (n : ℕ). shownLine img (ownFrame st) (st .sizes) (st .table) n (st .wide .keys) p l) all-counted
+            ∙ shown-own img (ownFrame st) (pageFrames (word img)) (st .sizes) (st .table) (st .wide .count) (st .wide .keys) p l (own-frame st img (C .valid) D p l lp)
+            ∙ copying-shows st img b C p l lp ll;
       }
 
 pub copying-standing : {past : List ℕ} (v : World) (b : Reference) → Copying past (v .st) (v .image) b → Standing past v b
@@ -60,7 +66,6 @@ copying-standing v b C =
       sixty-four = C .sixty-four;
       keys = ap length (C .keys) ∙ length-keys (word (v .image)) (st .sizes) (st .wide .count);
       viewed = copying-viewed st (v .image) b C;
-      names = names-once st (v .image) (C .valid) (C .durable);
       busy = λ n. pending;
       work-idle = λ e. contradicts (ap not pending) e;
       none-pending = λ e. contradicts (ap not pending) e;

@@ -7,6 +7,7 @@ use native.Mathlib.Omega.{arith}
 use lib.ListN.{length}
 use borrow.Author.Tests.{ne-eqb}
 use Rattle.layout.specs.declared.Sizes.{Sizes}
+use Rattle.replay.specs.Map.{pageFrames}
 use Rattle.layout.specs.Layout.{layoutOf, countWord, imageLength}
 use Rattle.words.specs.Words.{word, store}
 use Rattle.words.proofs.WordLaws.{length-store, bytes-store, drop-store}
@@ -20,7 +21,7 @@ use Rattle.refinement.specs.Settled.{withWide}
 use Rattle.refinement.specs.Reference.{Reference}
 use Rattle.refinement.proofs.Copies.{durable-legal, durable-fits}
 use Rattle.refinement.proofs.Invariant.{Durable}
-use Rattle.refinement.proofs.HeaderStore.{header-page, header-copy}
+use Rattle.refinement.proofs.HeaderStore.{header-page, header-copy, header-home}
 use Rattle.refinement.proofs.StoreKept.{behind-ext}
 
 -- the view with n entries counted
@@ -72,6 +73,8 @@ module _ {past : List ℕ} (st : State) (img : List ℕ) (b : Reference) (D : Du
         head-same = D .head-same;
         tail-same = D .tail-same;
         count-same = refl;
-        behind = behind-ext (word img) (word (store img countWord n)) z (v .table) (st .table) (durable-legal past st img b D) (D .behind) (λ p l m. header-page img z countWord n (omega arith) whole p);
+        behind = behind-ext (pageFrames (word img)) (pageFrames (word (store img countWord n))) z (v .table) (st .table) (durable-legal past st img b D) (D .behind) (λ p l m. header-page img z countWord n (omega arith) whole p);
+        map-long = D .map-long;
+        own = λ p l. D .own p l ∙ sym (header-home img z countWord n (omega arith) whole (st .table) p);
         committed = λ p l lp ll. header-copy img z countWord n (omega arith) whole (st .table) p l ∙ D .committed p l lp ll;
       }

@@ -14,8 +14,7 @@ use Rattle.layout.specs.declared.Sizes.{Sizes}
 use Rattle.layout.specs.Layout.{Legal, sizesOk, layoutWord, imageWords, imageLength}
 use Rattle.layout.proofs.LayoutLaws.{legal}
 use Rattle.words.specs.Words.{Bytes, word}
-use Rattle.mount.specs.Mount.{mountRows, mountRead, mountOf}
-use Rattle.mount.specs.declared.Mounted.{Mounted}
+use Rattle.mount.specs.Mount.{Mounted, mountRows, mountRead, mountOf}
 use Rattle.fresh.specs.Fresh.{formatted, formatStores, formatRow, formatRows}
 use Rattle.fresh.proofs.FreshStores.{stores-none, stores-length, stores-bytes, stores-past, stores-all, half-layout}
 use Rattle.fresh.proofs.FreshMounts.{fresh-mounts}
@@ -102,7 +101,7 @@ module _ (z : Sizes) (ok : sizesOk z ≡ true) (buffer : List ℕ) (bytes : Byte
   mounts : imageWords z < k → Fresh z (v .image) × (v .st ≡ freshState z)
   unfolding mountCall
   mounts l =
-      let e : mountOf (v .image) ≡ record { row = 0; sizes = z; head = 0; tail = 0; table = _; count = 0; keys = _ } = ap (λ (u : World). mountOf (u .image)) (whole l) ∙ fresh-mounts z buffer ok fits in
+      let e : mountOf (v .image) ≡ record { row = 0; sizes = z; head = 0; tail = 0; table = _; map = _; count = 0; keys = _ } = ap (λ (u : World). mountOf (u .image)) (whole l) ∙ fresh-mounts z buffer ok fits in
       (record { taken = ap (λ (m : Mounted). m .row) e; state = rw e }, ap (λ (u : World). u .st) (whole l))
 
   nines : k ≤ imageWords z → (c : Call) → ByState c → exec c v .number ≡ 9

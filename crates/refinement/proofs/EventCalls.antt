@@ -14,7 +14,6 @@ use Rattle.state.specs.State.{State}
 use Rattle.state.specs.declared.Op.the-variants.{Event}
 use Rattle.operations.specs.Operations.{needs}
 use Rattle.refinement.specs.Settled.{withLines}
-use Rattle.refinement.specs.Frames.{pageFrame}
 use Rattle.refinement.specs.Stores.{World, stepped, steppedBy, left}
 use Rattle.refinement.specs.Outcome.{answered}
 use Rattle.refinement.specs.Calls.{worldOf, eventOf, eventLine, eventSecond, eventCallRows, stepRow, stepOf, stepBytes, runOf, runBytes}
@@ -58,7 +57,7 @@ event-sound {past = past} ms k m a v b h =
     let st = v .st in
     let img = v .image in
     let row : ℕ = refusal (eventCallRows st img ms k m a) in
-    let asked = withLines st (Event k m a) (eventLine st img ms k m a) (eventSecond st img ms k m a) (pageFrame st img 0) in
+    let asked = withLines st (Event k m a) (eventLine st img ms k m a) (eventSecond st img ms k m a) in
     let r =
     answered-next (Between past) (event ms k m a) v b row (eventNeeds k) asked img (inl h)
     (λ e.

@@ -8,6 +8,7 @@ use Rattle.layout.specs.declared.Sizes.{Sizes}
 use Rattle.layout.specs.Layout.{imageLength, lineWord}
 use Rattle.words.specs.Words.{word}
 use Rattle.replay.specs.declared.Table.{Table}
+use Rattle.replay.specs.Map.{pageFrames}
 use Rattle.mount.proofs.Dead.{Dead}
 use Rattle.mount.proofs.View.{View}
 use Rattle.state.specs.State.{State}
@@ -24,8 +25,8 @@ use Rattle.refinement.proofs.Valid.{good, legal-sizes}
 
 -- the frames of committed lines are those of the view
 view-frames : {past : List ℕ} (st : State) (img : List ℕ) (b : Reference) → stateOk st ≡ true → (D : Durable past st img b)
-    → (p l : ℕ) → p < st .sizes .pages → frameOf (word img) (st .sizes) (st .table) p l ≡ frameOf (word img) (st .sizes) (D .view .table) p l
-view-frames st img b ok D = frame-kept (word img) (st .sizes) (D .view .table) (st .table) (legal-sizes st ok) (mount-apart st img ok D) (good st ok .pages) (D .behind)
+    → (p l : ℕ) → p < st .sizes .pages → frameOf (pageFrames (word img)) (st .sizes) (st .table) p l ≡ frameOf (pageFrames (word img)) (st .sizes) (D .view .table) p l
+view-frames st img b ok D = frame-kept (pageFrames (word img)) (st .sizes) (D .view .table) (st .table) (legal-sizes st ok) (mount-apart st img ok D) (good st ok .pages) (D .behind)
 
 module _ {past : List ℕ} (st u : State) (img : List ℕ) (b c : Reference) (ok : stateOk st ≡ true) (uok : stateOk u ≡ true) (D : Durable past st img b) (E : Durable past u img c)
     (same : u .sizes ≡ st .sizes) (op : Op) (m : ℕ) (M : Mid past u img c E op m) where
@@ -33,15 +34,15 @@ module _ {past : List ℕ} (st u : State) (img : List ℕ) (b c : Reference) (ok
   z = st .sizes
 
   abbrev a : ℕ
-  a = storeAt u img op m
+  a = storeAt u op m
 
   one-view : E .view ≡ D .view
   one-view = sym (E .shows) ∙ D .shows
 
-  one-frame : (p l : ℕ) → p < z .pages → frameOf (word img) z (u .table) p l ≡ frameOf (word img) z (st .table) p l
+  one-frame : (p l : ℕ) → p < z .pages → frameOf (pageFrames (word img)) z (u .table) p l ≡ frameOf (pageFrames (word img)) z (st .table) p l
   one-frame p l lp =
-      subst (λ (y : Sizes). (p l : ℕ) → p < y .pages → frameOf (word img) y (u .table) p l ≡ frameOf (word img) y (E .view .table) p l) same (view-frames u img c uok E) p l lp
-      ∙ ap (λ (v : View). frameOf (word img) z (v .table) p l) one-view
+      subst (λ (y : Sizes). (p l : ℕ) → p < y .pages → frameOf (pageFrames (word img)) y (u .table) p l ≡ frameOf (pageFrames (word img)) y (E .view .table) p l) same (view-frames u img c uok E) p l lp
+      ∙ ap (λ (v : View). frameOf (pageFrames (word img)) z (v .table) p l) one-view
       ∙ sym (view-frames st img b ok D p l lp)
 
   inside : 8 * a + 8 ≤ imageLength z
@@ -54,6 +55,6 @@ module _ {past : List ℕ} (st u : State) (img : List ℕ) (b c : Reference) (ok
       (λ (s : Aside past u img c E op a).
       durable-kept past st img b D a (storeValue u img op m) inside (subst (λ (v : View). Dead v a) one-view (s .dead))
       (λ p l k lp ll lk e.
-      subst (λ (y : Sizes). (p l k : ℕ) → p < y .pages → l < 64 → k < 8 → lineWord y (frameOf (word img) y (u .table) p l) l + k ≡ a → ⊥) same (s .uncommitted) p l k lp ll lk
+      subst (λ (y : Sizes). (p l k : ℕ) → p < y .pages → l < 64 → k < 8 → lineWord y (frameOf (pageFrames (word img)) y (u .table) p l) l + k ≡ a → ⊥) same (s .uncommitted) p l k lp ll lk
       (ap (λ (f : ℕ). lineWord z f l + k) (one-frame p l lp) ∙ e)))
       (M .harmless)

@@ -9,7 +9,7 @@ use native.Mathlib.Omega.{arith}
 use lib.Dec.{ltb, leb, eqb}
 use lib.ListN.{length, getD, set, length-set}
 use lib.Seq.{getD-set-same}
-use borrow.Author.Tests.{eqb-true, eqb-false, eq-eqb, ne-eqb, ltb-true, ltb-false, lt-ltb, le-ltb, lt-leb, not-false}
+use borrow.Author.Tests.{eqb-true, eqb-false, eq-eqb, ne-eqb, ltb-true, ltb-false, lt-ltb, le-ltb, lt-leb}
 use Rattle.bounded.specs.Below.{countBelow, one}
 use Rattle.bounded.specs.Rows.{refusal}
 use Rattle.bounded.proofs.Below.{split-below, none-at, none-made, count-ext}
@@ -18,8 +18,6 @@ use Rattle.bounded.proofs.Tests.{caseOn, contradicts, row-keeps, and-right}
 use Rattle.bounded.proofs.Those.{length-those}
 use Rattle.layout.specs.declared.Sizes.{Sizes}
 use Rattle.layout.specs.Layout.{Legal}
-use Rattle.journal.specs.declared.Slot.{Slot}
-use Rattle.replay.specs.declared.Table.{Table}
 use Rattle.replay.specs.Table.{slotIn, withSlot, pagesApart}
 use Rattle.replay.proofs.Tables.{Sixteen, sixteen-slot}
 use Rattle.masks.specs.Lines.{inMask, withLine}
@@ -29,10 +27,10 @@ use Rattle.meters.proofs.MeterLaws.{first-low, own-range}
 use Rattle.state.specs.State.{State}
 use Rattle.state.specs.declared.Op.the-variants.{Write, Commit, Event}
 use Rattle.state.specs.Held.{isOpen, somePrepared, heldAt, heldSlots, othersHold}
-use Rattle.operations.specs.Operations.{live, slotFor, slotted, needs, lineTaken, noneFree, frameBad, writeRows, commitRows, opRows, commitNeeds}
+use Rattle.operations.specs.Operations.{live, slotFor, slotted, needs, lineTaken, noneFree, writeRows, commitRows, opRows, commitNeeds}
 use Rattle.operations.proofs.Taken.{WriteTaken, write-taken, EventTaken, event-taken}
 use Rattle.validity.specs.Validity.{stateOk}
-use Rattle.refinement.specs.Frames.{pageFrame, otherFrame}
+use Rattle.refinement.specs.Frames.{otherFrame}
 use Rattle.refinement.specs.Settled.{withOpen, noPending}
 use Rattle.refinement.specs.Write.{writeSlot, writeTable}
 use Rattle.refinement.specs.Event.{lineAsked, lineDone, firstAsked, firstDone, secondAsked, secondDone, linesDone, eventDone}
@@ -47,12 +45,12 @@ use Rattle.refinement.proofs.Pending.{idle-ok}
 use Rattle.refinement.proofs.StateValid.{valid, valid-ok}
 use Rattle.refinement.proofs.Valid.{good}
 use Rattle.refinement.proofs.WriteHeld.{holds-new, holds-kept}
-use Rattle.refinement.proofs.WriteTable.{Own, Takes, own-or-takes, write-slot-low, page-slot, taken-slot, other-kept}
+use Rattle.refinement.proofs.WriteTable.{Own, Takes, own-or-takes, write-slot-low, page-slot, other-kept}
 use Rattle.refinement.proofs.WriteValid.{written-valid}
 
--- ---- a state in which writer 1 may write the lines of event k, meter m on page 0, whose frame is f, and then commit
+-- ---- a state in which writer 1 may write the lines of event k, meter m on page 0, and then commit
 
-pub record Ready (s : State) (k m f : ℕ) : Type 0 where
+pub record Ready (s : State) (k m : ℕ) : Type 0 where
   pub ok : stateOk s ≡ true
   pub full : Sixteen (s .table)
   pub lines : length (s .writers .held) ≡ 64
@@ -62,14 +60,13 @@ pub record Ready (s : State) (k m f : ℕ) : Type 0 where
   pub first-free : lineTaken (s .sizes) (s .writers .held) 1 (slotFor s 0) (firstMeter k m) ≡ false
   pub own-free : lineTaken (s .sizes) (s .writers .held) 1 (slotFor s 0) (ownMeter k m) ≡ false
   pub some-free : noneFree (s .sizes) (s .table .page) (s .next) (slotFor s 0) ≡ false
-  pub frame-good : frameBad (s .sizes) (s .table .page) (s .table .original) (s .table .spare) (slotFor s 0) f ≡ false
   pub fits : live s + 1 ≤ s .sizes .places
   -- writer 1 holds lines of page 0's slot alone
   pub alone : (q : ℕ) → q < s .sizes .slots → (q ≡ slotFor s 0 → ⊥) → heldAt (s .writers .held) 1 q ≡ 0
 
 -- with one of the lines written
-pub record Wrote (s : State) (k m f : ℕ) : Type 0 where
-  pub ready : Ready s k m f
+pub record Wrote (s : State) (k m : ℕ) : Type 0 where
+  pub ready : Ready s k m
   pub has-slot : slotFor s 0 < s .sizes .slots
   pub holds-some : heldAt (s .writers .held) 1 (slotFor s 0) ≡ 0 → ⊥
 
@@ -104,12 +101,12 @@ others-free s l f =
 
 -- ---- a write of line l
 
-module _ (s : State) (k m f l : ℕ) (words : List ℕ) (R : Ready s k m f) (low : l < 64) (free : lineTaken (s .sizes) (s .writers .held) 1 (slotFor s 0) l ≡ false) where
+module _ (s : State) (k m l : ℕ) (words : List ℕ) (R : Ready s k m) (low : l < 64) (free : lineTaken (s .sizes) (s .writers .held) 1 (slotFor s 0) l ≡ false) where
   abbrev z : Sizes
   z = s .sizes
 
   abbrev asked : State
-  asked = lineAsked s l words f
+  asked = lineAsked s l words
 
   abbrev done : State
   done = completed asked (Write 1 0 l 0 8)
@@ -117,17 +114,17 @@ module _ (s : State) (k m f l : ℕ) (words : List ℕ) (R : Ready s k m f) (low
   legal : Legal z
   legal = valid s (R .ok) .legal
 
-  pub write-row : refusal (opRows s (Write 1 0 l 0 8) f) ≡ 0
+  pub write-row : refusal (opRows s (Write 1 0 l 0 8)) ≡ 0
   write-row =
-      sym (row-none (writeRows s 1 0 l 0 8 f)
-      (rw (lt-leb (z .pages) 0 (omega (arith, legal .pages-low)), le-ltb 63 l (omega arith)), (rw (R .opened), (ne-eqb (s .writers .prepared) 1 (λ e. omega (arith, e, ltb-false (s .writers .prepared) 4 (R .none-prepared))), (free, (R .some-free, (R .frame-good, tt)))))))
+      sym (row-none (writeRows s 1 0 l 0 8)
+      (rw (lt-leb (z .pages) 0 (omega (arith, legal .pages-low)), le-ltb 63 l (omega arith)), (rw (R .opened), (ne-eqb (s .writers .prepared) 1 (λ e. omega (arith, e, ltb-false (s .writers .prepared) 4 (R .none-prepared))), (free, (R .some-free, tt))))))
 
   asked-ok : stateOk asked ≡ true
   unfolding needs
-  asked-ok = lines-valid s words _ f (Write 1 0 l 0 8) (R .ok) (ap not (unwide s 1 (R .none-wide) (omega arith))) write-row (omega arith)
+  asked-ok = lines-valid s words _ (Write 1 0 l 0 8) (R .ok) (ap not (unwide s 1 (R .none-wide) (omega arith))) write-row (omega arith)
 
-  T : WriteTaken asked 1 0 l 0 8 f
-  T = write-taken asked 1 0 l 0 8 f write-row
+  T : WriteTaken asked 1 0 l 0 8
+  T = write-taken asked 1 0 l 0 8 write-row
 
   done-ok : stateOk done ≡ true
   done-ok = written-valid asked 1 0 l 0 8 asked-ok (R .full) T (unwide s 1 (R .none-wide) (omega arith)) (R .lines)
@@ -153,26 +150,12 @@ module _ (s : State) (k m f l : ℕ) (words : List ℕ) (R : Ready s k m f) (low
       others-free done i (λ v j d.
       holds-kept asked 1 0 l 0 8 asked-ok T (R .full) (R .lines) apart v 0 i j (T .args .page-low) (λ h. d (h .0)) ∙ others-not s i v e j d)
 
-  original : slotIn (done .table) (slotFor done 0) .original ≡ f
-  original =
-      ⊎-elim
-      (λ (o : Own asked 0).
-      let e : frameBad z (s .table .page) (s .table .original) (s .table .spare) (slotFor s 0) f ≡ false = R .frame-good in
-      let h : not (eqb (slotIn (s .table) (slotFor s 0) .original) f) ≡ false = rw (lt-ltb (slotFor s 0) (z .slots) (o .has)) at e in
-      ap (λ (x : ℕ). slotIn (done .table) x .original) (slot-now ∙ o .slot)
-      ∙ ap (λ (t : Table). slotIn t (slotFor s 0) .original) (o .table)
-      ∙ eqb-true (slotIn (s .table) (slotFor s 0) .original) f (not-false (eqb (slotIn (s .table) (slotFor s 0) .original) f) h))
-      (λ (t : Takes asked 0).
-      ap (λ (x : ℕ). slotIn (done .table) x .original) slot-now
-      ∙ ap (λ (u : Slot). u .original) (taken-slot asked 0 legal (R .full) (T .args .page-low) apart t))
-      cases
-
   -- the other frame of a line of the page stays the other
   other-same : (i : ℕ) → otherFrame (slotIn (done .table) (slotFor done 0)) i ≡ otherFrame (slotIn (s .table) (writeSlot asked 0)) i
   other-same i =
       ap (λ (x : ℕ). otherFrame (slotIn (done .table) x) i) slot-now ∙ other-kept asked 0 legal (R .full) (T .args .page-low) apart cases i
 
-  pub line-other : (i : ℕ) → otherFrame (slotIn (lineDone s l words f .table) (slotFor (lineDone s l words f) 0)) i ≡ otherFrame (slotIn (s .table) (writeSlot asked 0)) i
+  pub line-other : (i : ℕ) → otherFrame (slotIn (lineDone s l words .table) (slotFor (lineDone s l words) 0)) i ≡ otherFrame (slotIn (s .table) (writeSlot asked 0)) i
   unfolding lineDone
   line-other i = other-same i
 
@@ -186,7 +169,7 @@ module _ (s : State) (k m f l : ℕ) (words : List ℕ) (R : Ready s k m f) (low
       (λ (t : Takes asked 0). R .alone q lq (λ e. omega (arith, e, t .none, lq)))
       cases
 
-  wrote : Wrote done k m f
+  wrote : Wrote done k m
   wrote =
       let h = and-right (slotted done 0) (inMask (heldAt (done .writers .held) 1 (slotFor done 0)) l) (holds-new asked 1 0 l 0 8 asked-ok T (R .full) (R .lines) apart) in
       record {
@@ -201,7 +184,6 @@ module _ (s : State) (k m f l : ℕ) (words : List ℕ) (R : Ready s k m f) (low
               first-free = free-kept (firstMeter k m) (R .first-free);
               own-free = free-kept (ownMeter k m) (R .own-free);
               some-free = rw (lt-leb (z .slots) (slotFor done 0) slot-low);
-              frame-good = rw (lt-ltb (slotFor done 0) (z .slots) slot-low, eq-eqb (slotIn (done .table) (slotFor done 0) .original) f original);
               fits = R .fits;
               alone = done-alone;
             };
@@ -209,7 +191,7 @@ module _ (s : State) (k m f l : ℕ) (words : List ℕ) (R : Ready s k m f) (low
         holds-some = λ e. contradicts h (ap (λ (x : ℕ). inMask x l) e ∙ in-none l);
       }
 
-  pub line-wrote : Wrote (lineDone s l words f) k m f
+  pub line-wrote : Wrote (lineDone s l words) k m
   unfolding lineDone
   line-wrote = wrote
 
@@ -229,7 +211,7 @@ once-counted g (suc n) s l t h =
     (λ e. rw (none-counted g n (λ i m. h i (omega arith) (λ q. omega arith)), subst (λ (x : ℕ). g x ≡ true) e t))
     (λ m. rw (once-counted g n s m t (λ i j d. h i (omega arith) d), h n (omega arith) (λ e. omega arith)))
 
-module _ (s : State) (k m f : ℕ) (W : Wrote s k m f) where
+module _ (s : State) (k m : ℕ) (W : Wrote s k m) where
   pub one-slot : length (heldSlots (s .sizes) (s .writers .held) 1) ≡ 1
   unfolding heldSlots
   one-slot =
@@ -238,16 +220,6 @@ module _ (s : State) (k m f : ℕ) (W : Wrote s k m f) where
       length-those g (s .sizes .slots)
       ∙ once-counted g (s .sizes .slots) (slotFor s 0) (W .has-slot) (ap not (ne-eqb (heldAt held 1 (slotFor s 0)) 0 (W .holds-some)))
       (λ q l n. ap not (eq-eqb (heldAt held 1 q) 0 (W .ready .alone q l n)))
-
-  -- the page's frame is the one held
-  pub wrote-frame : (img : List ℕ) (l : ℕ) (words : List ℕ) → f ≡ pageFrame (lineAsked s l words f) img 0
-  unfolding pageFrame
-  wrote-frame img l words =
-      let x = slotFor s 0 in
-      let e : frameBad (s .sizes) (s .table .page) (s .table .original) (s .table .spare) x f ≡ false = W .ready .frame-good in
-      let low = lt-ltb x (s .sizes .slots) (W .has-slot) in
-      let h : not (eqb (slotIn (s .table) x .original) f) ≡ false = rw low at e in
-      rw low (sym (eqb-true (slotIn (s .table) x .original) f (not-false (eqb (slotIn (s .table) x .original) f) h)))
 
   pub commit-five : needs s (Commit 1) ≡ 5
   unfolding needs
@@ -261,10 +233,7 @@ module _ (s : State) (k m f : ℕ) (W : Wrote s k m f) where
 -- ---- a pending event
 
 module _ (st : State) (k m a : ℕ) (e : stateOk st ≡ true) (full : Sixteen (st .table)) (lines : length (st .writers .held) ≡ 64)
-    (four : length (st .writers .opened) ≡ 4) (E : EventTaken st k m (st .pending .frame)) where
-  abbrev f : ℕ
-  f = st .pending .frame
-
+    (four : length (st .writers .opened) ≡ 4) (E : EventTaken st k m) where
   begun-ok : stateOk (withOpen st 1) ≡ true
   begun-ok =
       let v = valid st e in
@@ -278,7 +247,7 @@ module _ (st : State) (k m a : ℕ) (e : stateOk st ≡ true) (full : Sixteen (s
       (λ t. eqb-true (heldAt (st .writers .held) 1 q) 0 t)
       (λ t. contradicts (valid st e .held .opens q 1 l (omega arith) (eqb-false (heldAt (st .writers .held) 1 q) 0 t)) (E .closed))
 
-  pub event-begun : Ready (withOpen st 1) k m f
+  pub event-begun : Ready (withOpen st 1) k m
   event-begun =
       record {
         ok = begun-ok;
@@ -290,7 +259,6 @@ module _ (st : State) (k m a : ℕ) (e : stateOk st ≡ true) (full : Sixteen (s
         first-free = E .first-free;
         own-free = E .own-free;
         some-free = E .some-free;
-        frame-good = E .frame-good;
         fits = E .fits;
         alone = λ q l n. nothing-held q l;
       }
@@ -301,14 +269,14 @@ module _ (st : State) (k m a : ℕ) (e : stateOk st ≡ true) (full : Sixteen (s
   own-line : ownMeter k m < 64
   own-line = omega (arith, own-range k m (E .known) .1)
 
-  pub first-wrote : Wrote (firstDone st k m) k m f
-  first-wrote = line-wrote (withOpen st 1) k m f (firstMeter k m) (st .pending .line) event-begun first-line (event-begun .first-free)
+  pub first-wrote : Wrote (firstDone st k m) k m
+  first-wrote = line-wrote (withOpen st 1) k m (firstMeter k m) (st .pending .line) event-begun first-line (event-begun .first-free)
 
-  pub second-wrote : Wrote (secondDone st k m) k m f
-  second-wrote = line-wrote (firstDone st k m) k m f (ownMeter k m) (st .pending .second) (first-wrote .ready) own-line (first-wrote .ready .own-free)
+  pub second-wrote : Wrote (secondDone st k m) k m
+  second-wrote = line-wrote (firstDone st k m) k m (ownMeter k m) (st .pending .second) (first-wrote .ready) own-line (first-wrote .ready .own-free)
 
-  pub lines-wrote : Wrote (linesDone st k m) k m f
-  lines-wrote = row-keeps (λ (s : State). Wrote s k m f) (movesCredit k) (secondDone st k m) (firstDone st k m) second-wrote first-wrote
+  pub lines-wrote : Wrote (linesDone st k m) k m
+  lines-wrote = row-keeps (λ (s : State). Wrote s k m) (movesCredit k) (secondDone st k m) (firstDone st k m) second-wrote first-wrote
 
   -- the second line goes to the frame that it would have gone to before the first
   own-slot : writeSlot (secondAsked st k m) 0 ≡ slotFor (firstDone st k m) 0
@@ -318,14 +286,14 @@ module _ (st : State) (k m a : ℕ) (e : stateOk st ≡ true) (full : Sixteen (s
   pub second-frame : (i : ℕ) → otherFrame (slotIn (firstDone st k m .table) (writeSlot (secondAsked st k m) 0)) i ≡ otherFrame (slotIn (st .table) (writeSlot (firstAsked st k m) 0)) i
   second-frame i =
       ap (λ (x : ℕ). otherFrame (slotIn (firstDone st k m .table) x) i) own-slot
-      ∙ line-other (withOpen st 1) k m f (firstMeter k m) (st .pending .line) event-begun first-line (event-begun .first-free) i
+      ∙ line-other (withOpen st 1) k m (firstMeter k m) (st .pending .line) event-begun first-line (event-begun .first-free) i
 
   pub done-valid : stateOk (eventDone st k m) ≡ true
   unfolding eventDone
   done-valid =
       let s = linesDone st k m in
-      commit-valid s 1 (lines-wrote .ready .ok) (lines-wrote .ready .full) (unwide s 1 (lines-wrote .ready .none-wide) (omega arith)) (commit-row s k m f lines-wrote)
+      commit-valid s 1 (lines-wrote .ready .ok) (lines-wrote .ready .full) (unwide s 1 (lines-wrote .ready .none-wide) (omega arith)) (commit-row s k m lines-wrote)
 
 pub event-valid : (st : State) (k m a : ℕ) → stateOk st ≡ true → Sixteen (st .table) → length (st .writers .held) ≡ 64 → length (st .writers .opened) ≡ 4
-    → refusal (opRows st (Event k m a) (st .pending .frame)) ≡ 0 → stateOk (eventDone st k m) ≡ true
-event-valid st k m a e full lines four r = done-valid st k m a e full lines four (event-taken st k m a (st .pending .frame) r)
+    → refusal (opRows st (Event k m a)) ≡ 0 → stateOk (eventDone st k m) ≡ true
+event-valid st k m a e full lines four r = done-valid st k m a e full lines four (event-taken st k m a r)

@@ -35,7 +35,7 @@ quiet-writes st img b writes e q =
       valid = q .valid;
       pending = q .pending;
       durable =
-          record { bytes = D .bytes; past-kept = D .past-kept; view = D .view; shows = D .shows; mounts = D .mounts; sizes-same = D .sizes-same; head-same = D .head-same; tail-same = D .tail-same; count-same = D .count-same; behind = D .behind; committed = D .committed };
+          record { bytes = D .bytes; past-kept = D .past-kept; view = D .view; shows = D .shows; mounts = D .mounts; sizes-same = D .sizes-same; head-same = D .head-same; tail-same = D .tail-same; count-same = D .count-same; behind = D .behind; map-long = D .map-long; own = D .own; committed = D .committed };
       writers =
           record {
             four = ws .four;

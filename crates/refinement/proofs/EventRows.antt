@@ -14,7 +14,6 @@ use Rattle.state.specs.State.{State}
 use Rattle.state.specs.declared.Op.the-variants.{Event}
 use Rattle.operations.specs.Operations.{isIdle, needs, opRows}
 use Rattle.validity.specs.Validity.{stateOk}
-use Rattle.refinement.specs.Frames.{pageFrame}
 use Rattle.refinement.specs.Event.{lineDone, firstDone, secondDone, linesDone, eventDone}
 use Rattle.refinement.specs.Calls.{meterIn, eventCallRows}
 
@@ -28,13 +27,13 @@ event-needs st k m a = refl
 
 -- a taken one's rows
 module _ (st : State) (img ms : List ℕ) (k m a : ℕ) (e : refusal (eventCallRows st img ms k m a) ≡ 0) where
-  pub event-op-row : refusal (opRows st (Event k m a) (pageFrame st img 0)) ≡ 0
+  pub event-op-row : refusal (opRows st (Event k m a)) ≡ 0
   event-op-row =
       let h = none-apply (eventCallRows st img ms k m a) (omega arith) e .1 .1 .1 in
-      sym (row-none (opRows st (Event k m a) (pageFrame st img 0)) (h .0, (h .1 .0, (h .1 .1 .1 .0, (h .1 .1 .1 .1 .0, (h .1 .1 .1 .1 .1 .0, (h .1 .1 .1 .1 .1 .1 .0, (h .1 .1 .1 .1 .1 .1 .1 .0, (h .1 .1 .1 .1 .1 .1 .1 .1 .1 .0, tt)))))))))
+      sym (row-none (opRows st (Event k m a)) (h .0, (h .1 .0, (h .1 .1 .1 .0, (h .1 .1 .1 .1 .0, (h .1 .1 .1 .1 .1 .0, (h .1 .1 .1 .1 .1 .1 .0, (h .1 .1 .1 .1 .1 .1 .1 .1 .0, tt))))))))
 
   pub event-amount : amountBad ms k m (meterIn st img (firstMeter k m)) a ≡ false
-  event-amount = none-apply (eventCallRows st img ms k m a) (omega arith) e .1 .1 .1 .1 .1 .1 .1 .1 .1 .1 .1 .0
+  event-amount = none-apply (eventCallRows st img ms k m a) (omega arith) e .1 .1 .1 .1 .1 .1 .1 .1 .1 .1 .0
 
   pub event-moduli : moduliOk ms ≡ true
   event-moduli = not-false (moduliOk ms) (none-apply (eventCallRows st img ms k m a) (omega arith) e .1 .1 .1 .1 .1 .0)

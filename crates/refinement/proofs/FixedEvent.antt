@@ -16,7 +16,6 @@ use Rattle.state.specs.declared.Op.the-variants.{Event}
 use Rattle.state.specs.Wide.{someWide}
 use Rattle.operations.specs.Operations.{isIdle}
 use Rattle.validity.specs.Validity.{stateOk}
-use Rattle.refinement.specs.Frames.{pageFrame}
 use Rattle.refinement.specs.Outcome.{answered}
 use Rattle.refinement.specs.Settled.{withLines}
 use Rattle.refinement.specs.Calls.{meterIn, meterLine, eventLine, eventSecond, eventCallRows, eventOf}
@@ -50,7 +49,7 @@ module _ (st : State) (img : List ℕ) (k m a : ℕ) where
 
     known-same : eventOf st img fixedModuli k m a ≡ fixedEventOf st img k m a
     unfolding eventOf
-    known-same = λ i. answered (rows-same i) st (eventNeeds k) (withLines st (Event k m a) (line-same i) (second-same i) (pageFrame st img 0))
+    known-same = λ i. answered (rows-same i) st (eventNeeds k) (withLines st (Event k m a) (line-same i) (second-same i))
 
   -- any other is turned back by 20, or by a row before it
   unknown-same : eventKnown k m ≡ false → eventOf st img fixedModuli k m a ≡ fixedEventOf st img k m a

@@ -20,7 +20,7 @@ use Rattle.journal.specs.declared.Slot.{Slot}
 use Rattle.journal.specs.Slots.{noPage, freeSlot}
 use Rattle.replay.specs.Table.{noPosition, emptyTable, lastIn}
 use Rattle.replay.proofs.Tables.{Sixteen, sixteen-empty, sixteen-laid, laid-last, empty-last}
-use Rattle.fresh.specs.Fresh.{freshTable, formatAt, formatValue, formatStores, formatRow, formatRows}
+use Rattle.fresh.specs.Fresh.{freshTable, formatAt, formatValue, formatStores, formatRow, formatRows, freshMap}
 use Rattle.fresh.proofs.FreshMounts.{fresh-slot}
 use Rattle.state.specs.State.{State}
 use Rattle.state.specs.declared.Op.the-variants.{Format}
@@ -37,10 +37,11 @@ use Rattle.refinement.proofs.CallMounted.{fresh-valid}
 use Rattle.refinement.proofs.CallAsked.{pending-valid}
 use Rattle.refinement.proofs.CheckpointPlaces.{default-none}
 use Rattle.refinement.proofs.Steps.{run-image, run-after}
+use Rattle.replay.proofs.Maps.{map-at}
 
 -- the fresh state with a format pending
 abbrev pub formatting : Sizes → State
-formatting z = withPending (freshState z) Format (replicate 8 0) 0
+formatting z = withPending (freshState z) Format (replicate 8 0)
 
 module _ (z : Sizes) (g : Legal z) where
   fresh-sixteen : Sixteen (freshTable z)
@@ -62,7 +63,9 @@ module _ (z : Sizes) (g : Legal z) where
 
   pub fresh-is : isFresh (freshState z) ≡ true
   unfolding freshOf someOpen someBelow allBelow
-  fresh-is = all-made (freshAt z (freshTable z)) (z .slots) slot-fresh
+  fresh-is =
+      rw (all-made (freshAt z (freshTable z)) (z .slots) slot-fresh)
+      (all-made (λ p. eqb (getD (freshMap z) p 0) p) (z .pages) (λ p l. eq-eqb (getD (freshMap z) p 0) p (map-at (z .pages) (λ q. q) p l)))
 
   pub format-left : left (formatting z) ≡ imageWords z + 1
   unfolding needs
@@ -70,7 +73,7 @@ module _ (z : Sizes) (g : Legal z) where
 
 pub format-valid : (z : Sizes) → sizesOk z ≡ true → stateOk (formatting z) ≡ true
 unfolding needs
-format-valid z ok = pending-valid (freshState z) (replicate 8 0) 0 Format (fresh-valid z ok) (fresh-is z (legal z ok)) refl (omega arith)
+format-valid z ok = pending-valid (freshState z) (replicate 8 0) Format (fresh-valid z ok) (fresh-is z (legal z ok)) refl (omega arith)
 
 -- the stores of what is pending are those of the format
 pub format-stores : (z : Sizes) (n : ℕ) (img : List ℕ) → storesMade (formatting z) n img ≡ formatStores z n img

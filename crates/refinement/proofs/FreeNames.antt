@@ -16,7 +16,7 @@ use Rattle.bounded.proofs.Below.{all-made, all-at}
 use Rattle.bounded.proofs.Pigeonhole.{count-set, once-swap}
 use Rattle.bounded.proofs.Tests.{caseOn}
 use Rattle.layout.specs.declared.Sizes.{Sizes}
-use Rattle.layout.specs.Layout.{Legal, frames, pageWord}
+use Rattle.layout.specs.Layout.{Legal, frames}
 use Rattle.journal.specs.declared.Slot.{Slot}
 use Rattle.journal.specs.declared.Record.{Record}
 use Rattle.replay.specs.declared.Table.{Table}
@@ -118,10 +118,10 @@ module _ {z : Sizes} {head : ℕ} {new : ℕ → Record} {d : Table} {s p x : �
   -- ---- homes and committed frames
 
   module _ (r : ℕ → ℕ) where
-    pub home-gone : homeOf r z freedTable p ≡ r (pageWord p)
+    pub home-gone : homeOf r z freedTable p ≡ r p
     home-gone = rw (slot-gone, le-ltb (z .slots) (z .slots) (omega arith))
 
-    pub frame-gone : (l : ℕ) → frameOf r z freedTable p l ≡ r (pageWord p)
+    pub frame-gone : (l : ℕ) → frameOf r z freedTable p l ≡ r p
     frame-gone l = rw (slot-gone, le-ltb (z .slots) (z .slots) (omega arith))
 
     pub home-other : (q : ℕ) → q < z .pages → (q ≡ p → ⊥) → homeOf r z freedTable q ≡ homeOf r z d q
@@ -150,14 +150,14 @@ module _ {z : Sizes} {head : ℕ} {new : ℕ → Record} {d : Table} {s p x : �
     names = frameNames r z d
 
     abbrev swapped : List ℕ
-    swapped = set (set names s x) (z .slots + p) (r (pageWord p))
+    swapped = set (set names s x) (z .slots + p) (r p)
 
     length-swapped : length swapped ≡ frames z
-    length-swapped = length-set (set names s x) (z .slots + p) (r (pageWord p)) ∙ length-set names s x ∙ length-names r z d
+    length-swapped = length-set (set names s x) (z .slots + p) (r p) ∙ length-set names s x ∙ length-names r z d
 
     swapped-spare : (k : ℕ) → k < z .slots → slotIn freedTable k .spare ≡ getD swapped k 0
     swapped-spare k l =
-        let a = getD-set-other (set names s x) (z .slots + p) k (r (pageWord p)) 0 (λ e. omega arith) in
+        let a = getD-set-other (set names s x) (z .slots + p) k (r p) 0 (λ e. omega arith) in
         caseOn (eqb k s)
         (λ e.
         let w : k ≡ s = eqb-true k s e in
@@ -175,11 +175,11 @@ module _ {z : Sizes} {head : ℕ} {new : ℕ → Record} {d : Table} {s p x : �
         let w : q ≡ p = eqb-true q p e in
         rw w
         (home-gone
-        ∙ sym (getD-set-same (set names s x) (z .slots + p) (r (pageWord p)) 0 (omega (arith, F .page-low, length-names r z d, length-set names s x)))))
+        ∙ sym (getD-set-same (set names s x) (z .slots + p) (r p) 0 (omega (arith, F .page-low, length-names r z d, length-set names s x)))))
         (λ e.
         let n : q ≡ p → ⊥ = eqb-false q p e in
         home-other q l n
-        ∙ sym (getD-set-other (set names s x) (z .slots + p) (z .slots + q) (r (pageWord p)) 0 (λ h. n (omega arith))
+        ∙ sym (getD-set-other (set names s x) (z .slots + p) (z .slots + q) (r p) 0 (λ h. n (omega arith))
         ∙ getD-set-other names s (z .slots + q) x 0 (λ h. omega (arith, F .slot-low))
         ∙ name-home r z d q l))
 
@@ -197,7 +197,7 @@ module _ {z : Sizes} {head : ℕ} {new : ℕ → Record} {d : Table} {s p x : �
 
     -- each once: the two names stay where they were, or change places
     pub freed-once : Once (frames z) names
-        → ((x ≡ slotIn d s .spare) × (r (pageWord p) ≡ homeOf r z d p)) ⊎ ((x ≡ homeOf r z d p) × (r (pageWord p) ≡ slotIn d s .spare))
+        → ((x ≡ slotIn d s .spare) × (r p ≡ homeOf r z d p)) ⊎ ((x ≡ homeOf r z d p) × (r p ≡ slotIn d s .spare))
         → Once (frames z) (frameNames r z freedTable)
     freed-once once roles =
         let i : s < length names = omega (arith, F .slot-low, length-names r z d) in
@@ -207,10 +207,10 @@ module _ {z : Sizes} {head : ℕ} {new : ℕ → Record} {d : Table} {s p x : �
         let o : getD (set names s x) (z .slots + p) 0 ≡ getD names (z .slots + p) 0 = getD-set-other names s (z .slots + p) x 0 (λ h. omega (arith, F .slot-low)) in
         subst (Once (frames z)) (sym freed-names)
         (⊎-elim
-        (λ (e : (x ≡ slotIn d s .spare) × (r (pageWord p) ≡ homeOf r z d p)).
-        once-same (frames z) (set names s x) (z .slots + p) (r (pageWord p)) (omega (arith, length-set names s x)) (e .1 ∙ sym (o ∙ b))
+        (λ (e : (x ≡ slotIn d s .spare) × (r p ≡ homeOf r z d p)).
+        once-same (frames z) (set names s x) (z .slots + p) (r p) (omega (arith, length-set names s x)) (e .1 ∙ sym (o ∙ b))
         (once-same (frames z) names s x i (e .0 ∙ sym a) once))
-        (λ (e : (x ≡ homeOf r z d p) × (r (pageWord p) ≡ slotIn d s .spare)).
+        (λ (e : (x ≡ homeOf r z d p) × (r p ≡ slotIn d s .spare)).
         rw (e .0 ∙ sym b, e .1 ∙ sym a) (once-swap (frames z) names s (z .slots + p) i j once))
         roles)
 

@@ -69,7 +69,7 @@ module _ (st : State) where
 
     same : freedSlot st < slots → freeOf st img ≡ consolidateOf st img (freedPage st)
     unfolding freeOf consolidateOf
-    same l = ap (λ (row : ℕ). asked row st (Consolidate (freedPage st)) (replicate 8 0) 0) (same-rows l)
+    same l = ap (λ (row : ℕ). asked row st (Consolidate (freedPage st)) (replicate 8 0)) (same-rows l)
 
     as-chosen : (s : ℕ) → Chosen st s → freeOf st img ≡ consolidateOf st img (getD (st .table .page) s 0)
     as-chosen s c =

@@ -12,7 +12,7 @@ use Rattle.bounded.specs.Below.{upTo}
 use Rattle.bounded.specs.Rows.{refusal}
 use Rattle.entries.proofs.EntryLaws.{Right}
 use Rattle.replay.specs.Table.{slotsShaped}
-use Rattle.state.specs.State.{State}
+use Rattle.state.specs.State.{State, ownFrame}
 use Rattle.state.specs.declared.Op.{Op}
 use Rattle.state.specs.declared.Op.the-variants.{Write, Commit, Consolidate, Checkpoint, Event, Prepare, Confirm}
 use Rattle.operations.specs.Operations.{Ranged, isIdle, opRows, needs, commitNeeds, confirmNeeds, checkpointNeeds, recordedSlots}
@@ -33,7 +33,7 @@ module _ (st : State) (e : stateOk st ≡ true) where
   ranges-of = let h = parts st e in ranged st (h .slots) (ltb-true (st .next) (st .sizes .slots) (h .next))
 
   pub shapes-of : slotsShaped (st .sizes) (st .table) ≡ true
-  shapes-of = slots-good (st .sizes) (st .head) (st .tail) (st .table) (parts st e .slots) .shapes
+  shapes-of = slots-good (st .sizes) (st .head) (st .tail) (st .table) (ownFrame st) (parts st e .slots) .shapes
 
   pub entries-of : Right (st .sizes) (st .wide .keys) (st .wide .count)
   entries-of = valid st e .entries
@@ -42,7 +42,7 @@ pub record Going (st : State) : Type 0 where
   pub ranges : Ranged st
   pub shapes : slotsShaped (st .sizes) (st .table) ≡ true
   pub made-low : st .pending .made < needs st (st .pending .op)
-  pub taken : refusal (opRows st (st .pending .op) (st .pending .frame)) ≡ 0
+  pub taken : refusal (opRows st (st .pending .op)) ≡ 0
 
 pub going : (st : State) → stateOk st ≡ true → isIdle (st .pending .op) ≡ false → Going st
 going st e i =
@@ -51,9 +51,9 @@ going st e i =
 
 -- ---- what no row tells, by the operation
 
-module _ (st : State) (taken : refusal (opRows st (st .pending .op) (st .pending .frame)) ≡ 0) where
-  pub write-of : {w p l o n : ℕ} → st .pending .op ≡ Write w p l o n → WriteTaken st w p l o n (st .pending .frame)
-  write-of {w} {p} {l} {o} {n} e = write-taken st w p l o n (st .pending .frame) (rw e at taken)
+module _ (st : State) (taken : refusal (opRows st (st .pending .op)) ≡ 0) where
+  pub write-of : {w p l o n : ℕ} → st .pending .op ≡ Write w p l o n → WriteTaken st w p l o n
+  write-of {w} {p} {l} {o} {n} e = write-taken st w p l o n (rw e at taken)
 
   pub commit-of : {w : ℕ} → st .pending .op ≡ Commit w → CommitTaken st w
   commit-of {w} e = commit-taken st w (rw e at taken)
@@ -67,8 +67,8 @@ module _ (st : State) (taken : refusal (opRows st (st .pending .op) (st .pending
   pub consolidate-of : {p : ℕ} → st .pending .op ≡ Consolidate p → ConsolidateTaken st p
   consolidate-of {p} e = consolidate-taken st p (rw e at taken)
 
-  pub event-of : {k m a : ℕ} → st .pending .op ≡ Event k m a → EventTaken st k m (st .pending .frame)
-  event-of {k} {m} {a} e = event-taken st k m a (st .pending .frame) (rw e at taken)
+  pub event-of : {k m a : ℕ} → st .pending .op ≡ Event k m a → EventTaken st k m
+  event-of {k} {m} {a} e = event-taken st k m a (rw e at taken)
 
 -- ---- of n stores that are left, the last is the operation's at most
 

@@ -11,12 +11,11 @@ use lib.ListN.{length, getD, set, length-set, List·getD-eq-default}
 use lib.Seq.{getD-set-same}
 use borrow.Author.Tests.{eqb-true, eqb-false, ltb-true, ltb-false, leb-false}
 use Rattle.bounded.specs.Rows.{refusal}
-use Rattle.bounded.proofs.Tests.{caseOn, row-keeps, and-right}
+use Rattle.bounded.proofs.Tests.{caseOn, row-keeps, and-right, or-left, or-right}
 use Rattle.bounded.proofs.Those.{chosen, length-those}
 use Rattle.layout.specs.declared.Sizes.{Sizes}
 use Rattle.layout.specs.Layout.{Legal, frames, headWord, tailWord, countWord, pageWord, slotWord, recordWord, lineWord, entryWord, imageWords, imageLength}
 use Rattle.layout.proofs.LayoutLaws.{record-end, frame-start, line-end}
-use Rattle.words.specs.Words.{word}
 use Rattle.entries.specs.Entries.{keyOf, keyPage, keyLine}
 use Rattle.entries.proofs.EntryLaws.{entry-le}
 use Rattle.journal.specs.Records.{position}
@@ -27,7 +26,7 @@ use Rattle.replay.specs.declared.Table.{Table}
 use Rattle.replay.specs.Table.{noPosition, slotIn, withSlot}
 use Rattle.replay.proofs.Tables.{slot-other}
 use Rattle.masks.proofs.Members.{in-none}
-use Rattle.state.specs.State.{State}
+use Rattle.state.specs.State.{State, ownFrame}
 use Rattle.state.specs.declared.Op.{Op}
 use Rattle.state.specs.declared.Op.the-variants.{Idle, Write, Commit, Consolidate, Checkpoint, Event, Prepare, Confirm, Log, Copy, Format}
 use Rattle.state.specs.Wide.{entryFor, hasEntry}
@@ -36,7 +35,7 @@ use Rattle.operations.specs.Operations.{isIdle, slotFor, slotted, opRows, needs
 use Rattle.validity.specs.Validity.{stateOk}
 use Rattle.validity.proofs.Ranged.{slots-good}
 use Rattle.operations.proofs.Taken.{write-taken, consolidate-taken, log-taken, event-taken}
-use Rattle.refinement.specs.Frames.{otherFrame, pageSlot, frameOf}
+use Rattle.refinement.specs.Frames.{otherFrame, pageSlot}
 use Rattle.refinement.specs.Wide.{logAt, copiedFrame, copyAt, copyAtOf}
 use Rattle.refinement.specs.Stores.{storeAt}
 use Rattle.refinement.specs.Write.{writeSlot, writeAt, writeTable}
@@ -51,6 +50,7 @@ use Rattle.refinement.proofs.SeenFrames.{page-slot-owning}
 use Rattle.fresh.proofs.FreshStores.{format-in}
 use Rattle.refinement.proofs.StateValid.{parts, valid}
 use Rattle.refinement.proofs.Pending.{pends}
+use Rattle.refinement.proofs.Valid.{copy-low}
 pub use Rattle.refinement.proofs.SeenFrames.{other-low}
 pub use Rattle.refinement.proofs.ConsolidatePlaces.{copy-line}
 
@@ -131,13 +131,13 @@ module _ (st : State) (e : stateOk st ≡ true) where
   others-low : OthersLow z legal (st .table)
   others-low s l m = other-low z (slotIn (st .table) s) l (valid st e .slots .shapes s m)
 
-  pub consolidate-in : (p i : ℕ) → refusal (opRows st (Consolidate p) (st .pending .frame)) ≡ 0 → consolidateAt st p i < entryWord z 0
+  pub consolidate-in : (p i : ℕ) → refusal (opRows st (Consolidate p)) ≡ 0 → consolidateAt st p i < entryWord z 0
   unfolding consolidateAt
   consolidate-in p i r =
       let h = consolidate-taken st p r in
       let t = pageSlot st p in
       let c = copyStoreCount t in
-      let o = page-slot-owning st p legal (h .page-low) (h .has-slot) (slots-good z (st .head) (st .tail) (st .table) (parts st e .slots) .shapes) in
+      let o = page-slot-owning st p legal (h .page-low) (h .has-slot) (slots-good z (st .head) (st .tail) (st .table) (ownFrame st) (parts st e .slots) .shapes) in
       caseOn (ltb i c)
       (λ a.
       let m : i < c = ltb-true i c a in
@@ -178,8 +178,8 @@ module _ (st : State) (e : stateOk st ≡ true) where
       let x : ℕ = slotIn (st .table) s .spare in
       let spare : x < frames z = spare-in z legal (slotIn (st .table) s) (valid st e .slots .shapes s (write-slot-in first 0 legal)) in
       let second : OthersLow z legal (writeTable first 0) =
-      row-keeps (OthersLow z legal) (slotted first 0) (st .table) (withSlot (st .table) s (record { page = 0; original = st .pending .frame; spare = x; bitmap = 0 })) others-low
-      (others-taken z legal (st .table) s 0 (st .pending .frame) x others-low spare) in
+      row-keeps (OthersLow z legal) (slotted first 0) (st .table) (withSlot (st .table) s (record { page = 0; original = ownFrame st 0; spare = x; bitmap = 0 })) others-low
+      (others-taken z legal (st .table) s 0 (ownFrame st 0) x others-low spare) in
       caseOn (ltb i 8)
       (λ t. rw t (write-in first legal others-low 0 (firstMeter k m) i (omega (arith, first-low k m known)) (ltb-true i 8 t)))
       (λ t.
@@ -195,11 +195,11 @@ module _ (st : State) (e : stateOk st ≡ true) where
 
 -- a wide write's lie in an entry, a wide commit's in the header and in frames
 module _ (st : State) (e : stateOk st ≡ true) where
-  log-in : (p l o n i : ℕ) → refusal (opRows st (Log p l o n) (st .pending .frame)) ≡ 0 → i < 9 → logAt st p l i < imageWords (st .sizes)
+  log-in : (p l o n i : ℕ) → refusal (opRows st (Log p l o n)) ≡ 0 → i < 9 → logAt st p l i < imageWords (st .sizes)
   log-in p l o n i r m =
       let d = st .wide in
       let x = entryFor d p l in
-      let room = log-taken st p l o n (st .pending .frame) r .room in
+      let room = log-taken st p l o n r .room in
       let low : x < st .sizes .entries =
       caseOn (hasEntry d p l)
       (λ t. omega (arith, ltb-true x (d .count) t, valid st e .entries .few))
@@ -208,16 +208,21 @@ module _ (st : State) (e : stateOk st ≡ true) where
       omega (arith, entry-le (d .keys) (d .count) (keyOf p l), leb-false (st .sizes .entries) (d .count) full)) in
       omega arith
 
-  copy-in : (img : List ℕ) (i : ℕ) → copyAt st img i < entryWord (st .sizes) 0
+  copy-in : (i : ℕ) → copyAt st i < entryWord (st .sizes) 0
   unfolding copyAtOf
-  copy-in img i =
+  copy-in i =
       let z = st .sizes in
       let v = valid st e in
+      let n = st .wide .count in
       let k = getD (st .wide .keys) ((i - 1) / 8) 0 in
-      let f = copiedFrame z (st .table) img k in
-      let low : f < frames z = mod-lt (frameOf (word img) z (st .table) (keyPage k) (keyLine k)) (omega (arith, v .legal .slots-low)) in
-      let inside : lineWord z f (keyLine k) + (i - 1) % 8 < entryWord z 0 = line-in z (v .legal) f (keyLine k) ((i - 1) % 8) low (omega arith) (omega arith) in
-      row-keeps (λ (x : ℕ). x < entryWord z 0) (eqb i 0 || ltb (8 * st .wide .count) i) countWord (lineWord z f (keyLine k) + (i - 1) % 8) (header-in z (v .legal) countWord (omega arith)) inside
+      let f = copiedFrame (ownFrame st) z (st .table) k in
+      caseOn (eqb i 0 || ltb (8 * n) i)
+      (λ t. rw t (header-in z (v .legal) countWord (omega arith)))
+      (λ t.
+      let some : i ≡ 0 → ⊥ = eqb-false i 0 (or-left (eqb i 0) (ltb (8 * n) i) t) in
+      let few : i ≤ 8 * n = ltb-false (8 * n) i (or-right (eqb i 0) (ltb (8 * n) i) t) in
+      let page : keyPage k < z .pages = v .entries .page-low ((i - 1) / 8) (omega arith) in
+      rw t (line-in z (v .legal) f (keyLine k) ((i - 1) % 8) (copy-low st e (keyPage k) (keyLine k) page) (omega arith) (omega arith)))
 
 -- what is before the entries is in the image
 in-image : (z : Sizes) (a : ℕ) → a < entryWord z 0 → a < imageWords z
@@ -225,23 +230,23 @@ in-image z a l = omega arith
 
 module _ (st : State) (e : stateOk st ≡ true) where
   -- store i of an operation that needs more than i
-  pub op-in-range : (op : Op) → refusal (opRows st op (st .pending .frame)) ≡ 0 → (img : List ℕ) (i : ℕ) → i < needs st op → storeAt st img op i < imageWords (st .sizes)
+  pub op-in-range : (op : Op) → refusal (opRows st op) ≡ 0 → (i : ℕ) → i < needs st op → storeAt st op i < imageWords (st .sizes)
   unfolding needs
-  op-in-range Idle r img i l = absurd (omega arith)
-  op-in-range (Write w p l o n) r img i m =
-      in-image (st .sizes) _ (write-in st (legal st e) (others-low st e) p l i (write-taken st w p l o n (st .pending .frame) r .args .line-low) m)
-  op-in-range (Commit w) r img i l = in-image (st .sizes) _ (commit-in st (legal st e) w i)
-  op-in-range (Consolidate p) r img i l = in-image (st .sizes) _ (consolidate-in st e p i r)
-  op-in-range Checkpoint r img i l = in-image (st .sizes) _ (checkpoint-in st e i)
-  op-in-range (Event k m a) r img i l = in-image (st .sizes) _ (event-in st e k m i (event-taken st k m a (st .pending .frame) r .known))
-  op-in-range (Prepare w) r img i l = in-image (st .sizes) _ (commit-in st (legal st e) w i)
-  op-in-range (Confirm w) r img i l = in-image (st .sizes) _ (header-in (st .sizes) (legal st e) headWord (omega arith))
-  op-in-range (Log p l o n) r img i m = log-in st e p l o n i r m
-  op-in-range Copy r img i l = in-image (st .sizes) _ (copy-in st e img i)
-  op-in-range Format r img i l = format-in (st .sizes) (legal st e) i (omega arith)
+  op-in-range Idle r i l = absurd (omega arith)
+  op-in-range (Write w p l o n) r i m =
+      in-image (st .sizes) _ (write-in st (legal st e) (others-low st e) p l i (write-taken st w p l o n r .args .line-low) m)
+  op-in-range (Commit w) r i l = in-image (st .sizes) _ (commit-in st (legal st e) w i)
+  op-in-range (Consolidate p) r i l = in-image (st .sizes) _ (consolidate-in st e p i r)
+  op-in-range Checkpoint r i l = in-image (st .sizes) _ (checkpoint-in st e i)
+  op-in-range (Event k m a) r i l = in-image (st .sizes) _ (event-in st e k m i (event-taken st k m a r .known))
+  op-in-range (Prepare w) r i l = in-image (st .sizes) _ (commit-in st (legal st e) w i)
+  op-in-range (Confirm w) r i l = in-image (st .sizes) _ (header-in (st .sizes) (legal st e) headWord (omega arith))
+  op-in-range (Log p l o n) r i m = log-in st e p l o n i r m
+  op-in-range Copy r i l = in-image (st .sizes) _ (copy-in st e i)
+  op-in-range Format r i l = format-in (st .sizes) (legal st e) i (omega arith)
 
   -- store i of the pending operation: its eight bytes, on a word, lie inside the image
-  pub store-in-range : isIdle (st .pending .op) ≡ false → (img : List ℕ) (i : ℕ) → i < needs st (st .pending .op) → 8 * storeAt st img (st .pending .op) i + 8 ≤ imageLength (st .sizes)
-  store-in-range d img i l =
-      let a : storeAt st img (st .pending .op) i < imageWords (st .sizes) = op-in-range (st .pending .op) (pends st (st .pending .op) e refl d .taken) img i l in
+  pub store-in-range : isIdle (st .pending .op) ≡ false → (i : ℕ) → i < needs st (st .pending .op) → 8 * storeAt st (st .pending .op) i + 8 ≤ imageLength (st .sizes)
+  store-in-range d i l =
+      let a : storeAt st (st .pending .op) i < imageWords (st .sizes) = op-in-range (st .pending .op) (pends st (st .pending .op) e refl d .taken) i l in
       omega arith

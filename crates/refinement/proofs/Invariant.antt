@@ -1,5 +1,5 @@
 -- What holds of the store and the reference machine between two calls.
-use Rattle.state.specs.State.{Wide, State}
+use Rattle.state.specs.State.{Wide, State, ownFrame}
 use Prim.Native.Nat.{ℕ, _-_, _^_, _<_, _≤_}
 use mathlib.Core.Bool.{true, false}
 use mathlib.Core.List.{List}
@@ -7,12 +7,13 @@ use mathlib.Core.Logic.{_⊎_}
 use mathlib.Core.Path.{_≡_, ap, _∙_}
 use lib.ListN.{length, drop}
 use Rattle.layout.specs.declared.Sizes.{Sizes}
-use Rattle.layout.specs.Layout.{imageLength, pageWord}
+use Rattle.layout.specs.Layout.{imageLength}
 use Rattle.image.specs.Lines.{lineBytes, lineWords}
 use Rattle.words.specs.Words.{Bytes, word}
 use Rattle.replay.specs.declared.Table.{Table}
 use Rattle.journal.specs.Slots.{freeSlot}
-use Rattle.replay.specs.Table.{slotIn, lastIn, slotOf}
+use Rattle.replay.specs.Table.{slotIn, lastIn, slotOf, homeOf}
+use Rattle.replay.specs.Map.{pageFrames}
 use Rattle.mount.proofs.View.{View, Shows}
 use Rattle.mount.proofs.Verdict.{Taken}
 use Rattle.replay.proofs.Tables.{Sixteen}
@@ -22,7 +23,7 @@ use Rattle.state.specs.Held.{noWriter, heldAt}
 use Rattle.state.specs.Wide.{noWide, isWide, someWide}
 use Rattle.operations.specs.Operations.{slotFor, needs}
 use Rattle.validity.specs.Validity.{stateOk}
-use Rattle.refinement.specs.Frames.{otherFrame, pageFrame}
+use Rattle.refinement.specs.Frames.{otherFrame}
 use Rattle.refinement.specs.Settled.{noPending}
 use Rattle.refinement.specs.Stores.{World, storeAt, storeValue}
 use Rattle.refinement.specs.Recall.{frameOf}
@@ -32,10 +33,10 @@ use Rattle.refinement.specs.Reference.{Reference, none, idle, under, wri
 pub use Rattle.refinement.specs.Frames.{holds}
 
 -- slot s of the state's table t is what a mount finds in d; or a write took it and nothing is committed yet, so that it is still free
--- in the image, whose page words are read through r
+-- in the image, whose page table has page p in frame r p
 pub record TakenOnly (r : ℕ → ℕ) (z : Sizes) (d t : Table) (s : ℕ) : Type 0 where
   pub page-low : slotIn t s .page < z .pages
-  pub original : slotIn t s .original ≡ r (pageWord (slotIn t s .page))
+  pub original : slotIn t s .original ≡ r (slotIn t s .page)
   pub bitmap : slotIn t s .bitmap ≡ 0
   pub was-free : slotIn d s ≡ freeSlot (slotIn t s .spare)
   pub unslotted : slotOf z d (slotIn t s .page) ≡ z .slots
@@ -45,7 +46,8 @@ pub record Behind (r : ℕ → ℕ) (z : Sizes) (d t : Table) : Type 0 where
   pub last-same : (s : ℕ) → s < z .slots → lastIn t s ≡ lastIn d s
   pub slot-same : (s : ℕ) → s < z .slots → (slotIn t s ≡ slotIn d s) ⊎ TakenOnly r z d t s
 
--- of the image: a mount is taken and finds the state's durable part, and the committed copy of every line is the reference machine's
+-- of the image: a mount is taken and finds the state's durable part, the map has each page's home by the page table, and the committed copy of every line is
+-- the reference machine's
 pub record Durable (past : List ℕ) (st : State) (img : List ℕ) (b : Reference) : Type 0 where
   pub bytes : Bytes img
   pub past-kept : drop (imageLength (st .sizes)) img ≡ past
@@ -56,8 +58,10 @@ pub record Durable (past : List ℕ) (st : State) (img : List ℕ) (b : Referenc
   pub head-same : view .head ≡ st .head
   pub tail-same : view .tail ≡ st .tail
   pub count-same : view .count ≡ st .wide .count
-  pub behind : Behind (word img) (st .sizes) (view .table) (st .table)
-  pub committed : (p l : ℕ) → p < st .sizes .pages → l < 64 → lineBytes img (st .sizes) (frameOf (word img) (st .sizes) (st .table) p l) l ≡ recallLine b p l
+  pub behind : Behind (pageFrames (word img)) (st .sizes) (view .table) (st .table)
+  pub map-long : length (st .map) ≡ 1024
+  pub own : (p : ℕ) → p < st .sizes .pages → ownFrame st p ≡ homeOf (pageFrames (word img)) (st .sizes) (st .table) p
+  pub committed : (p l : ℕ) → p < st .sizes .pages → l < 64 → lineBytes img (st .sizes) (frameOf (pageFrames (word img)) (st .sizes) (st .table) p l) l ≡ recallLine b p l
 
 -- of the writers: held lines are masks of 64 bits; the other copy of a held line is the writer's, unless it is being written; a line
 -- that is not held has no unfinished writes; the records of a prepared writer are in the journal
@@ -98,8 +102,8 @@ pub record Quiet (past : List ℕ) (st : State) (img : List ℕ) (b : Reference)
   pub work : b .work ≡ idle
   pub narrow : Narrow st b
 
--- an operation other than an event is pending: what the reference machine has under way, and for a write the finished line, the page's frame and that the
--- line was bytes before
+-- an operation other than an event is pending: what the reference machine has under way, and for a write the finished line and that the line was
+-- bytes before
 abbrev pub Doing : State → List ℕ → Reference → Op → Type 0
 Doing st img b Idle = ⊥
 Doing st img b (Write w p l o n) =
@@ -108,7 +112,6 @@ Doing st img b (Write w p l o n) =
     × (n ≤ length bytes)
     × (b .work ≡ under (writing w p l o n bytes) (needs st (Write w p l o n) - st .pending .made))
     × (st .pending .line ≡ lineWords (readLine (written w p l o n bytes b) w p l))
-    × (st .pending .frame ≡ pageFrame st img p)
     × Bytes (readLine b w p l)
 Doing st img b (Commit w) = b .work ≡ under (committing w) (needs st (Commit w) - st .pending .made)
 Doing st img b (Consolidate p) = b .work ≡ under nothing (needs st (Consolidate p) - st .pending .made)
@@ -138,7 +141,7 @@ pub record Busy (past : List ℕ) (st : State) (img : List ℕ) (b : Reference) 
   pub valid : stateOk st ≡ true
   pub durable : Durable past st img b
   pub writers : Writing st img b (Changing (st .pending .op))
-  pub landed : (j : ℕ) → j < st .pending .made → word img (storeAt st img (st .pending .op) j) ≡ storeValue st img (st .pending .op) j
+  pub landed : (j : ℕ) → j < st .pending .made → word img (storeAt st (st .pending .op) j) ≡ storeValue st img (st .pending .op) j
   pub doing : Doing st img b (st .pending .op)
   pub narrow : Narrow st b
 

@@ -11,7 +11,7 @@ use Rattle.refinement.proofs.Invariant.{Durable, Quiet}
 
 -- the state with another next slot, other writers and another pending operation
 abbrev pub sameSlots : State → ℕ → Writers → Pending → State
-sameSlots st next ws q = record { sizes = st .sizes; head = st .head; tail = st .tail; next = next; table = st .table; writers = ws; wide = st .wide; pending = q }
+sameSlots st next ws q = record { sizes = st .sizes; head = st .head; tail = st .tail; next = next; table = st .table; map = st .map; writers = ws; wide = st .wide; pending = q }
 
 pub durable-kept : {past : List ℕ} (st : State) (img : List ℕ) (b b′ : Reference) (next : ℕ) (ws : Writers) (q : Pending) → ((p l : ℕ) → p < st .sizes .pages → l < 64 → recallLine b p l ≡ recallLine b′ p l)
     → Durable past st img b → Durable past (sameSlots st next ws q) img b′
@@ -27,6 +27,8 @@ durable-kept st img b b′ next ws q e d =
       tail-same = d .tail-same;
       count-same = d .count-same;
       behind = d .behind;
+      map-long = d .map-long;
+      own = d .own;
       committed = λ p l h k. d .committed p l h k ∙ e p l h k;
     }
 

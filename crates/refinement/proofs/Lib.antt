@@ -28,6 +28,7 @@ pub mod Completed
 pub mod Steps
 pub mod PageSlots
 pub mod NamesOnce
+pub mod OwnFrames
 pub mod Going
 pub mod Quiet
 pub mod Begun
@@ -133,7 +134,8 @@ pub mod Theorem
 pub mod MountReadsBack
 pub mod StoresInside
 pub mod Lacks
-pub mod PageFrame
+pub mod RowSixteen
+pub mod FramesAlone
 pub mod NeverRefused
 pub mod Totals
 pub mod Tally

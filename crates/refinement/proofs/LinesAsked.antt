@@ -13,8 +13,8 @@ use Rattle.refinement.specs.Settled.{withLines}
 use Rattle.refinement.proofs.StateValid.{valid, valid-ok}
 use Rattle.refinement.proofs.Pending.{pends-ok}
 
-module _ (st : State) (line second : List ℕ) (frame : ℕ) where
-  pub needs-lines : (op o : Op) → needs (withLines st o line second frame) op ≡ needs st op
+module _ (st : State) (line second : List ℕ) where
+  pub needs-lines : (op o : Op) → needs (withLines st o line second) op ≡ needs st op
   unfolding needs
   needs-lines Idle o = refl
   needs-lines (Write w p l a n) o = refl
@@ -28,23 +28,23 @@ module _ (st : State) (line second : List ℕ) (frame : ℕ) where
   needs-lines Copy o = refl
   needs-lines Format o = refl
 
-  pub rows-lines : (op o : Op) (f : ℕ) → refusal (opRows (withLines st o line second frame) op f) ≡ refusal (opRows st op f)
-  rows-lines Idle o f = refl
-  rows-lines (Write w p l a n) o f = refl
-  rows-lines (Commit w) o f = refl
-  rows-lines (Consolidate p) o f = refl
-  rows-lines Checkpoint o f = refl
-  rows-lines (Event k m a) o f = refl
-  rows-lines (Prepare w) o f = refl
-  rows-lines (Confirm w) o f = refl
-  rows-lines (Log p l i n) o f = refl
-  rows-lines Copy o f = refl
-  rows-lines Format o f = refl
+  pub rows-lines : (op o : Op) → refusal (opRows (withLines st o line second) op) ≡ refusal (opRows st op)
+  rows-lines Idle o = refl
+  rows-lines (Write w p l a n) o = refl
+  rows-lines (Commit w) o = refl
+  rows-lines (Consolidate p) o = refl
+  rows-lines Checkpoint o = refl
+  rows-lines (Event k m a) o = refl
+  rows-lines (Prepare w) o = refl
+  rows-lines (Confirm w) o = refl
+  rows-lines (Log p l i n) o = refl
+  rows-lines Copy o = refl
+  rows-lines Format o = refl
 
-  pub lines-valid : (op : Op) → stateOk st ≡ true → opFits (st .wide .writer) (isFresh st) op ≡ true → refusal (opRows st op frame) ≡ 0 → 0 < needs st op → stateOk (withLines st op line second frame) ≡ true
+  pub lines-valid : (op : Op) → stateOk st ≡ true → opFits (st .wide .writer) (isFresh st) op ≡ true → refusal (opRows st op) ≡ 0 → 0 < needs st op → stateOk (withLines st op line second) ≡ true
   lines-valid op e k r l =
       let v = valid st e in
-      valid-ok (withLines st op line second frame)
+      valid-ok (withLines st op line second)
       (record {
         legal = v .legal;
         positions = v .positions;
@@ -55,5 +55,5 @@ module _ (st : State) (line second : List ℕ) (frame : ℕ) where
         prepared = v .prepared;
         entries = v .entries;
         wide = v .wide;
-        pending = pends-ok (withLines st op line second frame) op refl (record { fits = k; made-low = rw (needs-lines op op) l; taken = rows-lines op op frame ∙ r });
+        pending = pends-ok (withLines st op line second) op refl (record { fits = k; made-low = rw (needs-lines op op) l; taken = rows-lines op op ∙ r });
       })

@@ -24,10 +24,15 @@ use Rattle.refinement.proofs.Invariant.{Durable, Related}
 use Rattle.refinement.proofs.ReadCall.{turn-kept}
 use Rattle.refinement.proofs.Sound.{Sound, related-valid, related-durable}
 use Rattle.refinement.proofs.Valid.{legal-sizes}
+use Rattle.refinement.proofs.Copies.{own-frame}
+use Rattle.image.specs.Lines.{lineBytes}
 
 module _ {past : List ℕ} (st : State) (img : List ℕ) (b : Reference) (ok : stateOk st ≡ true) (D : Durable past st img b) where
   pub stored-meter : (m : ℕ) → m < 24 → meterStored st img m ≡ meterOn b m
-  stored-meter m l = ap (λ (x : List ℕ). wordAt x 0) (D .committed 0 m (omega (arith, legal-sizes st ok .pages-low)) (omega arith))
+  stored-meter m l =
+      let page : 0 < st .sizes .pages = omega (arith, legal-sizes st ok .pages-low) in
+      ap (λ (f : ℕ). wordAt (lineBytes img (st .sizes) f m) 0) (own-frame st img ok D 0 m page)
+      ∙ ap (λ (x : List ℕ). wordAt x 0) (D .committed 0 m page (omega arith))
 
   module _ (text : List ℕ) (e : refusal (loadRows st img text) ≡ 0) where
     pub loaded-moduli : loadOf st img text .moduli ≡ moduliIn text
@@ -37,7 +42,7 @@ module _ {past : List ℕ} (st : State) (img : List ℕ) (b : Reference) (ok : s
     meter-below : (m : ℕ) → m < 24 → meterOn b m < modulusOf (moduliIn text) m
     meter-below m l =
         let high : ℕ → Bool = λ i. leb (modulusOf (moduliIn text) i) (meterStored st img i) in
-        let h = leb-false (modulusOf (moduliIn text) m) (meterStored st img m) (none-at high 24 m l (none-apply (loadRows st img text) (omega arith) e .1 .1 .1 .1 .1 .1 .0)) in
+        let h = leb-false (modulusOf (moduliIn text) m) (meterStored st img m) (none-at high 24 m l (none-apply (loadRows st img text) (omega arith) e .1 .1 .1 .1 .1 .0)) in
         omega (arith, h, stored-meter m l)
 
   pub load-right : (text : List ℕ) → loadOf st img text .number ≡ 0 → (m : ℕ) → m < 24 → meterOn b m < modulusOf (loadOf st img text .moduli) m

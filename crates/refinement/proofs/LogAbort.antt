@@ -28,7 +28,7 @@ aborted : (st : State) → st .pending ≡ noPending → aborting st (st .wide .
 aborted st e =
     let f : dropped (st .wide) (st .wide .writer) ≡ noWide = ap (λ (x : Bool). cond x noWide (st .wide)) (eq-eqb (st .wide .writer) (st .wide .writer) refl) in
     λ i.
-    record { sizes = st .sizes; head = st .head; tail = st .tail; next = st .next; table = st .table; writers = closedWriter (st .sizes) (st .writers) (st .wide .writer); wide = f i; pending = e i }
+    record { sizes = st .sizes; head = st .head; tail = st .tail; next = st .next; table = st .table; map = st .map; writers = closedWriter (st .sizes) (st .writers) (st .wide .writer); wide = f i; pending = e i }
 
 pub log-abort : {past : List ℕ} (w : ℕ) (v : World) (b : Reference) → Logging past (v .st) (v .image) b → Kept past (abort w) v b
 unfolding exec abortOf

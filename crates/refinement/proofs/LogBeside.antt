@@ -56,24 +56,24 @@ module _ {past : List ℕ} (st : State) (img : List ℕ) (b : Reference) (G : Lo
   rest-needs Checkpoint s = refl
 
   -- it is pending in the state without the wide transaction
-  rest-busy : (op : Op) → Beside op → 0 < needs rest op → refusal (opRows rest op 0) ≡ 0
-      → Busy past (withPending rest op (replicate 8 0) 0) img (withWork (under nothing (needs rest op)) (emptied w b))
+  rest-busy : (op : Op) → Beside op → 0 < needs rest op → refusal (opRows rest op) ≡ 0
+      → Busy past (withPending rest op (replicate 8 0)) img (withWork (under nothing (needs rest op)) (emptied w b))
   rest-busy (Consolidate p) s l r =
-      asked-busy rest img (withWork idle (emptied w b)) (Consolidate p) (replicate 8 0) 0 nothing (at-rest st img b G) refl l r (all-left rest (Consolidate p) (replicate 8 0) 0 nothing)
+      asked-busy rest img (withWork idle (emptied w b)) (Consolidate p) (replicate 8 0) nothing (at-rest st img b G) refl l r (all-left rest (Consolidate p) (replicate 8 0) nothing)
   rest-busy Checkpoint s l r =
-      asked-busy rest img (withWork idle (emptied w b)) Checkpoint (replicate 8 0) 0 nothing (at-rest st img b G) refl l r (all-left rest Checkpoint (replicate 8 0) 0 nothing)
+      asked-busy rest img (withWork idle (emptied w b)) Checkpoint (replicate 8 0) nothing (at-rest st img b G) refl l r (all-left rest Checkpoint (replicate 8 0) nothing)
 
   beside-fits : (op : Op) → Beside op → opFits w (isFresh st) op ≡ true
   beside-fits (Consolidate p) s = refl
   beside-fits Checkpoint s = refl
 
   -- so it is in this one
-  pub beside-asked : (op : Op) → Beside op → 0 < needs st op → refusal (opRows st op 0) ≡ 0 → refusal (opRows rest op 0) ≡ 0
-      → Logging past (withPending st op (replicate 8 0) 0) img (withWork (under nothing (needs st op)) b)
+  pub beside-asked : (op : Op) → Beside op → 0 < needs st op → refusal (opRows st op) ≡ 0 → refusal (opRows rest op) ≡ 0
+      → Logging past (withPending st op (replicate 8 0)) img (withWork (under nothing (needs st op)) b)
   beside-asked op s l r r′ =
       let e = rest-needs op s in
-      let B = subst (λ (n : ℕ). Busy past (withPending rest op (replicate 8 0) 0) img (withWork (under nothing n) (emptied w b))) e (rest-busy op s (subst (λ (n : ℕ). 0 < n) (sym e) l) r′) in
-      regain (withPending st op (replicate 8 0) 0) img (withWork (under nothing (needs st op)) b) (pending-valid st (replicate 8 0) 0 op (G .valid) (beside-fits op s) r l)
+      let B = subst (λ (n : ℕ). Busy past (withPending rest op (replicate 8 0)) img (withWork (under nothing n) (emptied w b))) e (rest-busy op s (subst (λ (n : ℕ). 0 < n) (sym e) l) r′) in
+      regain (withPending st op (replicate 8 0)) img (withWork (under nothing (needs st op)) b) (pending-valid st (replicate 8 0) op (G .valid) (beside-fits op s) r l)
       (G .low) (G .book) (G .four) (G .sixty-four) (G .alone)
       (record { keys = G .entries .keys; line = λ e le out. G .entries .line e le (unlogged st img b G idles e); no-writes = G .entries .no-writes }) (λ _. s) (inr B)
 
@@ -89,6 +89,7 @@ module _ {past : List ℕ} (st : State) (img : List ℕ) (b : Reference) (G : Lo
         tail = empty i;
         next = st .next;
         table = record { page = st .table .page; original = st .table .original; spare = st .table .spare; bitmap = st .table .bitmap; last = e₂ i };
+        map = st .map;
         writers = st .writers;
         wide = st .wide;
         pending = sym e₃ i;
@@ -107,9 +108,9 @@ module _ {past : List ℕ} (v : World) (b : Reference) (G : Logging past (v .st)
   -- a consolidation of page p
   consolidation : (c : Call) (row p : ℕ) → ((n : ℕ) → taken c n b ≡ starts nothing n b)
       → (row ≡ 0 → (not (isIdle (v .st .pending .op)) ≡ false) × (refusal (consolidateRows (v .st) p) ≡ 0))
-      → Then past v (worldOf (asked row (v .st) (Consolidate p) (replicate 8 0) 0 .state) (v .image)) (turn c row (asked row (v .st) (Consolidate p) (replicate 8 0) 0 .stores) b)
+      → Then past v (worldOf (asked row (v .st) (Consolidate p) (replicate 8 0) .state) (v .image)) (turn c row (asked row (v .st) (Consolidate p) (replicate 8 0) .stores) b)
   consolidation c row p books rows =
-      asked-next (Invariant _) c v b (Consolidate p) (replicate 8 0) 0 nothing row (λ e. books) (logging G)
+      asked-next (Invariant _) c v b (Consolidate p) (replicate 8 0) nothing row (λ e. books) (logging G)
       (λ e z. absurd (some-needed (v .st) p z))
       (λ e l. record { sizes = refl; related = logging (beside-asked (v .st) (v .image) b G (rows e .0) (Consolidate p) tt l (rows e .1) (rest-row (v .st) (v .image) b G (rows e .0) p (rows e .1))) })
 
@@ -135,7 +136,7 @@ module _ {past : List ℕ} (v : World) (b : Reference) (G : Logging past (v .st)
   log-checkpoint =
       let rows = none-apply (checkpointCallRows (v .st) (v .image)) (omega arith) in
       let r =
-      asked-next (Invariant _) checkpoint v b Checkpoint (replicate 8 0) 0 nothing (refusal (checkpointCallRows (v .st) (v .image))) (λ e n. refl) (logging G)
+      asked-next (Invariant _) checkpoint v b Checkpoint (replicate 8 0) nothing (refusal (checkpointCallRows (v .st) (v .image))) (λ e n. refl) (logging G)
       (λ e z. record { sizes = refl; related = logging (none-asked (v .st) (v .image) b G (rows e .1 .1 .0) z) })
       (λ e l. record { sizes = refl; related = logging (beside-asked (v .st) (v .image) b G (rows e .1 .1 .0) Checkpoint tt l refl refl) }) in
       record { right = tt; sizes = r .sizes; related = r .related }

@@ -50,12 +50,12 @@ module _ {past : List ℕ} (st : State) (img : List ℕ) (b : Reference) (G : Lo
 
   -- else it is pending
   abbrev asks : State
-  asks = withPending st Copy (replicate 8 0) 0
+  asks = withPending st Copy (replicate 8 0)
 
   pending : 0 < needs st Copy → Logging past asks img (withWork (copying w (needs st Copy)) b)
   pending some =
       record {
-        valid = pending-valid st (replicate 8 0) 0 Copy (G .valid) refl (copy-row st (G .valid) (G .low) 0) some;
+        valid = pending-valid st (replicate 8 0) Copy (G .valid) refl (copy-row st (G .valid) (G .low)) some;
         low = G .low;
         book = G .book;
         four = G .four;
@@ -68,7 +68,7 @@ module _ {past : List ℕ} (st : State) (img : List ℕ) (b : Reference) (G : Lo
               line = λ e le out. G .entries .line e le (unlogged st img b G idles e);
               no-writes = G .entries .no-writes;
             };
-        stage = asked refl refl (ap (copying w) (sym (needs-asked st (replicate 8 0) 0 Copy Copy)));
+        stage = asked refl refl (ap (copying w) (sym (needs-asked st (replicate 8 0) Copy Copy)));
       }
 
   -- one or the other
@@ -84,7 +84,7 @@ log-commit {past = past} w v b G =
     let st = v .st in
     let img = v .image in
     let op : ℕ → Op = commitOp st in
-    let after : ℕ → State = λ y. cond (eqb (needs st (op y)) 0) (completed st (op y)) (withPending st (op y) (replicate 8 0) 0) in
+    let after : ℕ → State = λ y. cond (eqb (needs st (op y)) 0) (completed st (op y)) (withPending st (op y) (replicate 8 0)) in
     let r =
     answered-still (Invariant _) (commit w) v b (refusal (commitCallRows st img w)) (needs st (op w)) (after w) (logging G)
     (λ e.
@@ -96,7 +96,7 @@ log-commit {past = past} w v b G =
     let copies : op x ≡ Copy = ap (λ (t : Bool). cond t Copy (Commit x)) (eq-eqb x x refl) in
     let a = both st img b G i (needs st Copy) refl v refl in
     let c : Then past v (worldOf (after x) img) (startsCopy x (needs st (op x)) b) =
-    subst (λ (o : Op). Then past v (worldOf (cond (eqb (needs st o) 0) (completed st o) (withPending st o (replicate 8 0) 0)) img) (startsCopy x (needs st o) b)) (sym copies) a in
+    subst (λ (o : Op). Then past v (worldOf (cond (eqb (needs st o) 0) (completed st o) (withPending st o (replicate 8 0))) img) (startsCopy x (needs st o) b)) (sym copies) a in
     let d : Then past v (worldOf (after w) img) (startsCopy w (needs st (op w)) b) = subst (λ (y : ℕ). Then past v (worldOf (after y) img) (startsCopy y (needs st (op y)) b)) own c in
     subst (Then past v (worldOf (after w) img)) (sym (ap (λ (t : Bool). cond t (startsCopy w (needs st (op w)) b) (starts (committing w) (needs st (op w)) b)) (eq-eqb (b .wide) w (G .book ∙ own)))) d) in
     record { right = tt; sizes = r .sizes; related = r .related }

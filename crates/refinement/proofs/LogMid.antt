@@ -49,8 +49,8 @@ module _ {past : List ℕ} (st : State) (img : List ℕ) (b : Reference) (G : Lo
   v : Valid st
   v = valid st (G .valid)
 
-  pub taken : LogTaken st p l o n (st .pending .frame)
-  taken = log-taken st p l o n (st .pending .frame) (pends st (Log p l o n) (G .valid) op refl .taken)
+  pub taken : LogTaken st p l o n
+  taken = log-taken st p l o n (pends st (Log p l o n) (G .valid) op refl .taken)
 
   pub made-low : m < 9
   unfolding needs

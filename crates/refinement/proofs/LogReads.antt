@@ -9,7 +9,6 @@ use Rattle.bounded.proofs.Rows.{none-apply, row-none}
 use Rattle.words.specs.Words.{over}
 use Rattle.meters.specs.Meters.{modulusOf}
 use Rattle.state.specs.declared.Op.the-variants.{Copy}
-use Rattle.refinement.specs.Frames.{pageFrame}
 use Rattle.refinement.specs.Stores.{World, completed}
 use Rattle.refinement.specs.Calls.{readRows, readRow, readBytes, loadRows, loadOf}
 use Rattle.refinement.specs.Run.{read, load, exec}
@@ -39,7 +38,6 @@ module _ {past : List ℕ} (v : World) (b : Reference) (G : Logging past (v .st)
 
   -- a load reads the meters as it would without the transaction
   rest-rows : (text : List ℕ) → refusal (loadRows (v .st) (v .image) text) ≡ 0 → refusal (loadRows (completed (v .st) Copy) (v .image) text) ≡ 0
-  unfolding pageFrame
   rest-rows text e =
       let rows = none-apply (loadRows (v .st) (v .image) text) (omega arith) e in
       sym (row-none (loadRows (completed (v .st) Copy) (v .image) text) (ap not (at-rest (v .st) (v .image) b G .valid), (rows .1 .0, (refl, rows .1 .1 .1))))

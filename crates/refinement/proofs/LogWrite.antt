@@ -22,7 +22,7 @@ use Rattle.state.specs.declared.Op.the-variants.{Write, Log, Copy}
 use Rattle.state.specs.Wide.{isWide, entryFor, hasEntry}
 use Rattle.operations.specs.Operations.{isIdle, needs, opRows}
 use Rattle.operations.proofs.Taken.{ArgsGood, write-taken, log-taken}
-use Rattle.refinement.specs.Frames.{pageFrame, holds}
+use Rattle.refinement.specs.Frames.{holds}
 use Rattle.refinement.specs.Stores.{World, completed}
 use Rattle.refinement.specs.Calls.{worldOf, withPending, seenLine, finishedLine, writeCallRows, changesNothing, writeOp, writeOf}
 use Rattle.refinement.specs.Run.{write, exec}
@@ -38,12 +38,12 @@ use Rattle.refinement.proofs.Cases.{logging, Kept, Then, Invariant}
 use Rattle.refinement.proofs.Next.{answered-still}
 
 module _ {past : List ℕ} (st : State) (img : List ℕ) (b : Reference) (G : Logging past st img b) (p l o n : ℕ) (bytes : List ℕ) (lent : Bytes bytes) (given : n ≤ length bytes)
-    (idles : not (isIdle (st .pending .op)) ≡ false) (row : refusal (opRows st (Log p l o n) (pageFrame st img p)) ≡ 0) where
+    (idles : not (isIdle (st .pending .op)) ≡ false) (row : refusal (opRows st (Log p l o n)) ≡ 0) where
   abbrev w : ℕ
   w = st .wide .writer
 
   args : ArgsGood (st .sizes) w p l o n
-  args = log-taken st p l o n (pageFrame st img p) row .args
+  args = log-taken st p l o n row .args
 
   -- the line as the writer sees it, and the finished one
   abbrev old : List ℕ
@@ -62,13 +62,13 @@ module _ {past : List ℕ} (st : State) (img : List ℕ) (b : Reference) (G : Lo
   old-bytes = caseOn (isWide (st .wide) w && hasEntry (st .wide) p l) (λ t. rw t (bytes-part img _ 64 (G .durable .bytes))) (λ t. rw t (bytes-part img _ 64 (G .durable .bytes)))
 
   abbrev asks : State
-  asks = withPending st (Log p l o n) (finishedLine st img w p l o n bytes) (pageFrame st img p)
+  asks = withPending st (Log p l o n) (finishedLine st img w p l o n bytes)
 
   pending : Logging past asks img (withWork (under (writing w p l o n bytes) 9) b)
   unfolding needs
   pending =
       record {
-        valid = pending-valid st (finishedLine st img w p l o n bytes) (pageFrame st img p) (Log p l o n) (G .valid) refl row (omega arith);
+        valid = pending-valid st (finishedLine st img w p l o n bytes) (Log p l o n) (G .valid) refl row (omega arith);
         low = G .low;
         book = G .book;
         four = G .four;
@@ -141,7 +141,7 @@ log-write {past = past} w p l o n bytes lent v b G =
     let img = v .image in
     let x : ℕ = st .wide .writer in
     let stores : ℕ → ℕ = λ y. cond (changesNothing st img y p l o n bytes) 0 (cond (isWide (st .wide) y) 9 8) in
-    let after : ℕ → State = λ y. cond (changesNothing st img y p l o n bytes) st (withPending st (writeOp st y p l o n) (finishedLine st img y p l o n bytes) (pageFrame st img p)) in
+    let after : ℕ → State = λ y. cond (changesNothing st img y p l o n bytes) st (withPending st (writeOp st y p l o n) (finishedLine st img y p l o n bytes)) in
     let r =
     answered-still (Invariant _) (write w p l o n bytes) v b (refusal (writeCallRows st img w p l o n bytes)) (stores w) (after w) (logging G)
     (λ e.
@@ -153,19 +153,19 @@ log-write {past = past} w p l o n bytes lent v b G =
     caseOn (isWide (st .wide) w)
     (λ t. eqb-true x w t)
     (λ t.
-    let T = write-taken st w p l o n (pageFrame st img p) (subst (λ (q : Op). refusal (opRows st q (pageFrame st img p)) ≡ 0) (write-narrow st img w t p l o n) row) in
+    let T = write-taken st w p l o n (subst (λ (q : Op). refusal (opRows st q) ≡ 0) (write-narrow st img w t p l o n) row) in
     only-open st (G .valid) (G .low) w (T .args .writer-low) (T .opened)) in
     let t : isWide (st .wide) x ≡ true = eq-eqb x x refl in
     let is : writeOp st x p l o n ≡ Log p l o n = ap (λ (y : Bool). cond y (Log p l o n) (Write x p l o n)) t in
-    let log-row : refusal (opRows st (Log p l o n) (pageFrame st img p)) ≡ 0 =
-    subst (λ (q : Op). refusal (opRows st q (pageFrame st img p)) ≡ 0) is (subst (λ (y : ℕ). refusal (opRows st (writeOp st y p l o n) (pageFrame st img p)) ≡ 0) (sym own) row) in
+    let log-row : refusal (opRows st (Log p l o n)) ≡ 0 =
+    subst (λ (q : Op). refusal (opRows st q) ≡ 0) is (subst (λ (y : ℕ). refusal (opRows st (writeOp st y p l o n)) ≡ 0) (sym own) row) in
     let a : Then past v (worldOf (after x) img) (starts (writing x p l o n bytes) (stores x) b) =
     caseOn (changesNothing st img x p l o n bytes)
     (λ u. rw u (record { sizes = refl; related = logging (unchanged st img b G p l o n bytes lent given i log-row u) }))
     (λ u.
     rw u
-    (subst (λ (q : Op). Then past v (worldOf (withPending st q (finishedLine st img x p l o n bytes) (pageFrame st img p)) img) (starts (writing x p l o n bytes) (cond (isWide (st .wide) x) 9 8) b)) (sym is)
-    (subst (λ (k : ℕ). Then past v (worldOf (withPending st (Log p l o n) (finishedLine st img x p l o n bytes) (pageFrame st img p)) img) (starts (writing x p l o n bytes) k b)) (sym (ap (λ (y : Bool). cond y 9 8) t))
+    (subst (λ (q : Op). Then past v (worldOf (withPending st q (finishedLine st img x p l o n bytes)) img) (starts (writing x p l o n bytes) (cond (isWide (st .wide) x) 9 8) b)) (sym is)
+    (subst (λ (k : ℕ). Then past v (worldOf (withPending st (Log p l o n) (finishedLine st img x p l o n bytes)) img) (starts (writing x p l o n bytes) k b)) (sym (ap (λ (y : Bool). cond y 9 8) t))
     (record { sizes = refl; related = logging (pending st img b G p l o n bytes lent given i log-row) })))) in
     subst (λ (y : ℕ). Then past v (worldOf (after y) img) (starts (writing y p l o n bytes) (stores y) b)) own a) in
     record { right = tt; sizes = r .sizes; related = r .related }

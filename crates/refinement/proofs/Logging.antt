@@ -150,8 +150,8 @@ module _ (st : State) (ok : stateOk st ≡ true) (low : st .wide .writer < 4) wh
       (λ t. eqb-true (st .wide .writer) v t)
       (λ t. contradicts o (fine .closed v l (λ e. eqb-false (st .wide .writer) v t (sym e))))
 
-  pub copy-row : (f : ℕ) → refusal (opRows st Copy f) ≡ 0
-  copy-row f = sym (row-none (opRows st Copy f) (le-ltb (st .writers .prepared) 4 unprepared, tt))
+  pub copy-row : refusal (opRows st Copy) ≡ 0
+  copy-row = sym (row-none (opRows st Copy) (le-ltb (st .writers .prepared) 4 unprepared, tt))
 
 -- ---- the state without it
 
@@ -164,7 +164,7 @@ module _ {past : List ℕ} (st : State) (img : List ℕ) (b : Reference) (G : Lo
       let w : ℕ = st .wide .writer in
       let c : Reference = withWork idle (emptied w b) in
       record {
-        valid = copied-valid st (G .valid) (copy-row st (G .valid) (G .low) (st .pending .frame));
+        valid = copied-valid st (G .valid) (copy-row st (G .valid) (G .low));
         pending = refl;
         durable = durable-kept (completed st Copy) img b c (st .next) (closedWriter (st .sizes) (st .writers) w) noPending (λ p l h k. refl) (G .durable);
         writers =

@@ -9,27 +9,28 @@ use lib.Dec.{ltb, eqb}
 use lib.ListN.{getD}
 use borrow.Author.Tests.{eqb-true, eqb-false, ltb-true, ltb-false}
 use Rattle.bounded.proofs.Tab.{tab-ext}
+use Rattle.replay.specs.Map.{pageFrames}
 use Rattle.bounded.proofs.Tests.{caseOn, contradicts}
 use Rattle.words.specs.Words.{word}
 use Rattle.image.specs.Lines.{lineBytes}
 use Rattle.entries.specs.Entries.{keyOf, keyPage, keyLine}
 use Rattle.entries.proofs.EntryLaws.{page-of-key, line-of-key, entry-le, entry-found, key-read}
 use Rattle.masks.proofs.Members.{in-none}
-use Rattle.state.specs.State.{State}
+use Rattle.state.specs.State.{State, ownFrame}
 use Rattle.state.specs.declared.Op.{Op}
 use Rattle.state.specs.declared.Op.the-variants.{Copy}
 use Rattle.state.specs.declared.Pending.{Pending}
 use Rattle.state.specs.Wide.{isWide, hasEntry, entryFor}
 use Rattle.operations.specs.Operations.{isIdle, slotFor, slotted}
 use Rattle.validity.specs.Validity.{stateOk}
-use Rattle.refinement.specs.Frames.{pageFrame, seenFrame, frameOf}
+use Rattle.refinement.specs.Frames.{seenFrame, frameOf}
 use Rattle.refinement.specs.Settled.{noPending}
 use Rattle.refinement.specs.Stores.{World, completed}
 use Rattle.refinement.specs.Wide.{entryBytes, isCopy}
 use Rattle.refinement.specs.Beside.{counted}
 use Rattle.refinement.specs.Calls.{seenLine}
 use Rattle.refinement.specs.Reference.{Reference, Cell, none, idle, laidOver, readLine}
-use Rattle.refinement.proofs.Copies.{names-once}
+use Rattle.refinement.proofs.Copies.{own-frame, map-found}
 use Rattle.refinement.proofs.Copying.{keyAt}
 use Rattle.refinement.proofs.Invariant.{Durable}
 use Rattle.refinement.proofs.Logging.{Logged, Stage, settled, writes, asked, beside, Logging, unheld, copy-row, keys-long, beside-some}
@@ -41,7 +42,7 @@ use Rattle.refinement.proofs.WideValid.{copied-valid}
 
 module _ {past : List ℕ} (st : State) (img : List ℕ) (b : Reference) (G : Logging past st img b) where
   ok : stateOk (completed st Copy) ≡ true
-  ok = copied-valid st (G .valid) (copy-row st (G .valid) (G .low) (st .pending .frame))
+  ok = copied-valid st (G .valid) (copy-row st (G .valid) (G .low))
 
   D : Durable past (completed st Copy) img b
   D = G .durable
@@ -73,8 +74,13 @@ module _ {past : List ℕ} (st : State) (img : List ℕ) (b : Reference) (G : Lo
         count-same = D .count-same ∙ sym none-counted;
         keys-same = λ some. absurd (some none-counted);
         behind = D .behind;
-        shown = λ p l lp ll. shown-copy img (v .sizes) (v .table) (v .count) (v .keys) p l (D .count-same) ∙ mounted-committed (completed st Copy) img b ok D p l lp ll;
-        own = λ p l lp ll. shown-copy img (st .sizes) (st .table) (counted st) (st .wide .keys) p l none-counted ∙ D .committed p l lp ll;
+        shown = λ p l lp ll. shown-copy img (pageFrames (word img)) (v .sizes) (v .table) (v .count) (v .keys) p l (D .count-same) ∙ mounted-committed (completed st Copy) img b ok D p l lp ll;
+        map = map-found (completed st Copy) img ok D;
+        own =
+            λ p l lp ll.
+            shown-copy img (ownFrame st) (st .sizes) (st .table) (counted st) (st .wide .keys) p l none-counted
+            ∙ ap (λ (f : ℕ). lineBytes img (st .sizes) f l) (own-frame (completed st Copy) img ok D p l lp)
+            ∙ D .committed p l lp ll;
       }
 
   -- ---- where nothing is pending
@@ -102,17 +108,17 @@ module _ {past : List ℕ} (st : State) (img : List ℕ) (b : Reference) (G : Lo
       by-stage (beside h busy) = beside-some (st .pending .op) h .0
 
   -- a line without unfinished writes is seen in its committed copy
-  seen-frame : (w p l : ℕ) → w < 4 → seenFrame st w p l (pageFrame st img p) ≡ frameOf (word img) (st .sizes) (st .table) p l
-  unfolding seenFrame pageFrame
+  seen-frame : (w p l : ℕ) → w < 4 → seenFrame st w p l ≡ frameOf (ownFrame st) (st .sizes) (st .table) p l
+  unfolding seenFrame
   seen-frame w p l lw =
       caseOn (slotted st p)
       (λ t. rw (t, unheld st (G .valid) (G .low) w (slotFor st p) lw (ltb-true (slotFor st p) (st .sizes .slots) t), in-none l))
       (λ t. rw t)
 
   seen-page : (w p l : ℕ) → w < 4 → p < st .sizes .pages → l < 64 → ((i : ℕ) → i < 64 → b .writes w p l i ≡ none)
-      → lineBytes img (st .sizes) (seenFrame st w p l (pageFrame st img p)) l ≡ readLine b w p l
+      → lineBytes img (st .sizes) (seenFrame st w p l) l ≡ readLine b w p l
   seen-page w p l lw lp ll bare =
-      ap (λ (f : ℕ). lineBytes img (st .sizes) f l) (seen-frame w p l lw)
+      ap (λ (f : ℕ). lineBytes img (st .sizes) f l) (seen-frame w p l lw ∙ own-frame (completed st Copy) img ok D p l lp)
       ∙ D .committed p l lp ll
       ∙ tab-ext 64 (b .pages p l) (λ i. laidOver (b .writes w p l i) (b .pages p l i)) (λ i j. ap (λ (c : Cell). laidOver c (b .pages p l i)) (sym (bare i j)))
 
@@ -150,7 +156,6 @@ logging-standing v b G =
       sixty-four = G .sixty-four;
       keys = keys-long st img b G;
       viewed = logging-viewed st img b G;
-      names = names-once (completed st Copy) img (ok st img b G) (G .durable);
       busy = busy st img b G;
       work-idle = λ e. nothing-under-way st img b G e .1;
       none-pending = λ e. nothing-under-way st img b G e .0;

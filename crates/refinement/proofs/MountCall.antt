@@ -6,9 +6,10 @@ use mathlib.Core.List.{List}
 use mathlib.Core.Path.{_≡_, sym, ap, _∙_, subst}
 use lib.ListN.{length}
 use Rattle.layout.specs.declared.Sizes.{Sizes}
+use Rattle.replay.specs.Map.{pageFrames}
 use Rattle.image.specs.Lines.{lineBytes}
 use Rattle.words.specs.Words.{word}
-use Rattle.mount.specs.declared.Mounted.{Mounted}
+use Rattle.mount.specs.Mount.{Mounted}
 use Rattle.mount.proofs.Verdict.{Taken, foundIn, taken-mount}
 use Rattle.mount.proofs.View.{View, Shows}
 use Rattle.state.specs.State.{State}
@@ -28,10 +29,10 @@ module _ {past : List ℕ} (st : State) (img : List ℕ) (b : Reference) (valid 
   -- the committed copies that a mount finds are those of the state
   pub mounted-committed : Committed img (D .view) b
   mounted-committed =
-      subst (λ (z : Sizes). (p l : ℕ) → p < z .pages → l < 64 → lineBytes img z (frameOf (word img) z (D .view .table) p l) l ≡ recallLine b p l) (sym (D .sizes-same))
+      subst (λ (z : Sizes). (p l : ℕ) → p < z .pages → l < 64 → lineBytes img z (frameOf (pageFrames (word img)) z (D .view .table) p l) l ≡ recallLine b p l) (sym (D .sizes-same))
       (λ p l h k.
       ap (λ (f : ℕ). lineBytes img (st .sizes) f l)
-      (sym (frame-kept (word img) (st .sizes) (D .view .table) (st .table) (legal-sizes st valid) (mount-apart st img valid D) (good st valid .pages) (D .behind) p l h))
+      (sym (frame-kept (pageFrames (word img)) (st .sizes) (D .view .table) (st .table) (legal-sizes st valid) (mount-apart st img valid D) (good st valid .pages) (D .behind) p l h))
       ∙ D .committed p l h k)
 
 -- it is taken, and the state is what the image shows

@@ -9,9 +9,10 @@ use Rattle.bounded.proofs.Tests.{caseOn, row-keeps}
 use Rattle.layout.specs.declared.Sizes.{Sizes}
 use Rattle.entries.specs.Entries.{noKeys}
 use Rattle.replay.specs.Table.{slotIn, lastIn}
-use Rattle.mount.proofs.Verdict.{foundIn}
+use Rattle.replay.specs.Map.{pageFrames}
+use Rattle.mount.proofs.Verdict.{foundIn, mapIn, entry-shown}
 use Rattle.mount.proofs.View.{View}
-use Rattle.state.specs.State.{State}
+use Rattle.state.specs.State.{State, ownFrame}
 use Rattle.refinement.specs.Mount.{mountedState, copyingState}
 use Rattle.refinement.specs.Stores.{World}
 use Rattle.refinement.specs.Wide.{shownLine}
@@ -22,7 +23,11 @@ use Rattle.refinement.proofs.Cases.{standing-of}
 use Rattle.refinement.proofs.MountCall.{mount-viewed}
 use Rattle.refinement.proofs.Mounted.{stateOf}
 use Rattle.refinement.proofs.Reached.{Reached, always}
-use Rattle.refinement.proofs.Viewed.{Viewed, shown-copy}
+use Rattle.refinement.proofs.Viewed.{Viewed, shown-copy, shown-own}
+use Rattle.refinement.proofs.OwnFrames.{frame-is}
+use Rattle.words.specs.Words.{word}
+use Rattle.image.specs.Lines.{lineBytes}
+use lib.ListN.{getD}
 
 module _ {past : List ℕ} (v : World) (b : Reference) (seen : Viewed past (v .st) (v .image) b) where
   abbrev st : State
@@ -44,23 +49,30 @@ module _ {past : List ℕ} (v : World) (b : Reference) (seen : Viewed past (v .s
   mount-state = ap (λ (d : Result). d .world .st) (mount-viewed v view (seen .shows) (seen .mounts))
 
   -- the lines that the mounted state says are those that the image shows
-  mounted-line : (p l : ℕ) → lineOf (v .image) mounted p l ≡ shownLine (v .image) (view .sizes) (view .table) (view .count) (view .keys) p l
-  mounted-line p l =
+  mounted-line : (p l : ℕ) → p < view .sizes .pages → lineOf (v .image) mounted p l ≡ shownLine (v .image) (pageFrames (word (v .image))) (view .sizes) (view .table) (view .count) (view .keys) p l
+  mounted-line p l low =
       let img = v .image in
       let z = view .sizes in
       let t = view .table in
+      let h : ℕ → ℕ = λ q. getD (mapIn view) q 0 in
+      let own = frame-is h (pageFrames (word img)) z t (entry-shown img view (seen .shows)) p l low in
       caseOn (eqb (view .count) 0)
-      (λ e. rw e (shown-copy img z t 0 noKeys p l refl ∙ sym (shown-copy img z t (view .count) (view .keys) p l (eqb-true (view .count) 0 e))))
-      (λ e. rw e)
+      (λ e.
+      rw e
+      (shown-copy img h z t 0 noKeys p l refl
+      ∙ ap (λ (f : ℕ). lineBytes img z f l) own
+      ∙ sym (shown-copy img (pageFrames (word img)) z t (view .count) (view .keys) p l (eqb-true (view .count) 0 e))))
+      (λ e. rw e (shown-own img h (pageFrames (word img)) z t (view .count) (view .keys) p l own))
 
   finds-page : (p l : ℕ) → p < st .sizes .pages → l < 64 → lineOf (v .image) (exec mount v .world .st) p l ≡ recallLine b p l
   finds-page p l lp ll =
+      let low : p < view .sizes .pages = subst (λ (z : Sizes). p < z .pages) (sym (seen .sizes-same)) lp in
       ap (λ (m : State). lineOf (v .image) m p l) mount-state
-      ∙ mounted-line p l
-      ∙ seen .shown p l (subst (λ (z : Sizes). p < z .pages) (sym (seen .sizes-same)) lp) ll
+      ∙ mounted-line p l low
+      ∙ seen .shown p l low ll
 
   -- either state has the view's durable part
-  either : (P : State → Type 0) → P (stateOf view) → P (copyingState (view .sizes) (view .head) (view .tail) (view .table) (view .count) (view .keys)) → P mounted
+  either : (P : State → Type 0) → P (stateOf view) → P (copyingState (view .sizes) (view .head) (view .tail) (view .table) (mapIn view) (view .count) (view .keys)) → P mounted
   either P quiet copying = row-keeps P (eqb (view .count) 0) _ _ quiet copying
 
   slot-back : (s : ℕ) → s < st .sizes .slots → (slotIn (view .table) s ≡ slotIn (st .table) s) ⊎ Uncommitted (v .image) st (stateOf view) s
@@ -79,11 +91,12 @@ module _ {past : List ℕ} (v : World) (b : Reference) (seen : Viewed past (v .s
         tail = either (λ m. m .tail ≡ st .tail) (seen .tail-same) (seen .tail-same);
         last = λ s l. let e = sym (seen .behind .last-same s l) in either (λ m. lastIn (m .table) s ≡ lastIn (st .table) s) e e;
         slot = λ s l. either (λ m. (slotIn (m .table) s ≡ slotIn (st .table) s) ⊎ Uncommitted (v .image) st m s) (slot-back s l) (other-state s (slot-back s l));
+        map = λ p l. let e = seen .map p l in either (λ m. ownFrame m p ≡ ownFrame st p) e e;
         line = λ p l lp ll. sym (ap (λ (m : State). lineOf (v .image) m p l) mount-state) ∙ finds-page p l lp ll ∙ sym (seen .own p l lp ll);
       })
     where
       other-state : (s : ℕ) → (slotIn (view .table) s ≡ slotIn (st .table) s) ⊎ Uncommitted (v .image) st (stateOf view) s
-          → (slotIn (view .table) s ≡ slotIn (st .table) s) ⊎ Uncommitted (v .image) st (copyingState (view .sizes) (view .head) (view .tail) (view .table) (view .count) (view .keys)) s
+          → (slotIn (view .table) s ≡ slotIn (st .table) s) ⊎ Uncommitted (v .image) st (copyingState (view .sizes) (view .head) (view .tail) (view .table) (mapIn view) (view .count) (view .keys)) s
       other-state s (inl e) = inl e
       other-state s (inr u) = inr (record { page-low = u .page-low; original = u .original; bitmap = u .bitmap; free = u .free })
 

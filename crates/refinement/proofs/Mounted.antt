@@ -7,11 +7,12 @@ use mathlib.Core.Path.{_≡_, refl, ap, _∙_}
 use native.Mathlib.Omega.{arith}
 use lib.ListN.{length, drop}
 use Rattle.bounded.proofs.Tests.{contradicts}
+use Rattle.replay.specs.Map.{pageFrames}
 use Rattle.layout.specs.Layout.{imageLength}
 use Rattle.image.specs.Lines.{lineBytes}
 use Rattle.words.specs.Words.{Bytes, word}
 use Rattle.replay.proofs.Tables.{one-value}
-use Rattle.mount.proofs.Verdict.{Taken}
+use Rattle.mount.proofs.Verdict.{Taken, mapIn, entry-shown}
 use Rattle.mount.proofs.View.{View, Shows}
 use Rattle.masks.specs.Lines.{inMask}
 use Rattle.masks.proofs.Members.{in-none}
@@ -20,17 +21,17 @@ use Rattle.state.specs.Held.{heldAt, noWriter}
 use Rattle.operations.specs.Operations.{slotFor, slotted}
 use Rattle.refinement.specs.Mount.{allClosed, quietState}
 use Rattle.refinement.specs.Recall.{frameOf}
-use Rattle.refinement.proofs.CallMounted.{view-sixteen, mount-valid}
+use Rattle.refinement.proofs.CallMounted.{view-sixteen, view-map, mount-valid}
 use Rattle.refinement.specs.Reference.{Reference, none, idle, recallLine}
 use Rattle.refinement.proofs.Invariant.{Quiet, holds}
 
 abbrev pub stateOf : View → State
-stateOf v = quietState (v .sizes) (v .head) (v .tail) (v .table)
+stateOf v = quietState (v .sizes) (v .head) (v .tail) (v .table) (mapIn v)
 
 -- the committed copies in an image that shows v are the reference machine's
 abbrev pub Committed : List ℕ → View → Reference → Type 0
 Committed img v b =
-    (p l : ℕ) → p < v .sizes .pages → l < 64 → lineBytes img (v .sizes) (frameOf (word img) (v .sizes) (v .table) p l) l ≡ recallLine b p l
+    (p l : ℕ) → p < v .sizes .pages → l < 64 → lineBytes img (v .sizes) (frameOf (pageFrames (word img)) (v .sizes) (v .table) p l) l ≡ recallLine b p l
 
 none-held : (w s : ℕ) → heldAt (allClosed .held) w s ≡ 0
 none-held w s = one-value 64 (16 * w + s) 0
@@ -59,6 +60,8 @@ mounted-quiet img v b bytes past shows taken committed none-written work uncount
             tail-same = refl;
             count-same = uncounted;
             behind = record { sixteen = view-sixteen img v shows; last-same = λ s l. refl; slot-same = λ s l. inl refl };
+            map-long = view-map img v shows (taken .legal .pages-high);
+            own = entry-shown img v shows;
             committed = committed;
           };
       writers =

@@ -101,7 +101,7 @@ module _ (past : List ℕ) (s : State) (img : List ℕ) (t : Task) (base : Refer
 
 -- all its lines written, the commit asked for
 abbrev pub commitAsked : State → ℕ → ℕ → State
-commitAsked st k m = withPending (linesDone st k m) (Commit 1) (replicate 8 0) 0
+commitAsked st k m = withPending (linesDone st k m) (Commit 1) (replicate 8 0)
 
 -- the operation of the transaction that goes on, with its j stores
 pub data Stage (past : List ℕ) (st : State) (img : List ℕ) (b : Reference) (ms : List ℕ) (k m a : ℕ) : Type 0 where

@@ -1,26 +1,18 @@
--- Where spares and homes name each frame once, no two slots name one frame.
+-- Where spares and homes name each frame once, they lie below F and no two of them are alike.
 use Prim.Native.Nat.{ℕ, _+_, _<_}
-use mathlib.Core.Bool.{true}
-use mathlib.Core.Logic.{⊎-elim}
-use mathlib.Core.Path.{_≡_, refl, sym, ap, _∙_}
+use mathlib.Core.Path.{_≡_, sym, ap, _∙_}
 use native.Mathlib.Omega.{arith}
 use lib.ListN.{getD, List·getD-append}
 use lib.Seq.{getD-append-add}
-use borrow.Author.Tests.{lt-ltb}
 use Rattle.bounded.specs.Count.{Once}
 use Rattle.bounded.specs.Tab.{tab}
-use Rattle.bounded.proofs.Below.{all-at}
 use Rattle.bounded.proofs.Pigeonhole.{once-below, once-apart, entry-below, entries-apart}
 use Rattle.bounded.proofs.Tab.{length-tab, getD-tab}
 use Rattle.layout.specs.declared.Sizes.{Sizes}
-use Rattle.layout.specs.Layout.{Legal, frames}
+use Rattle.layout.specs.Layout.{frames}
 use Rattle.replay.specs.declared.Table.{Table}
-use Rattle.journal.specs.Slots.{noPage, shaped}
-use Rattle.replay.specs.Table.{slotIn, homeOf, frameNames, slotsShaped, pagesApart}
+use Rattle.replay.specs.Table.{slotIn, homeOf, frameNames}
 use Rattle.names.proofs.Homes.{length-names}
-use Rattle.journal.proofs.SlotWords.{Owning, Free, shape}
-use Rattle.refinement.proofs.PageSlots.{slot-is}
-use Rattle.refinement.proofs.ValidSlots.{SlotsFine}
 
 -- the names at their places
 module _ (r : ℕ → ℕ) (z : Sizes) (t : Table) where
@@ -68,50 +60,3 @@ module _ (r : ℕ → ℕ) (z : Sizes) (t : Table) (once : Once (frames z) (fram
   spare-home s p l m e =
       let x : s ≡ z .slots + p = names-apart s (z .slots + p) (omega arith) (omega arith) (name-spare r z t s l ∙ e ∙ sym (name-home r z t p m)) in
       omega arith
-
-  -- ---- so the slots are apart
-
-  module _ (g : Legal z) (shapes : slotsShaped z t ≡ true) (pages : pagesApart z (t .page) ≡ true) where
-    shape-at : (s : ℕ) → s < z .slots → shaped z (slotIn t s) ≡ true
-    shape-at s l = all-at (λ s. shaped z (slotIn t s)) (z .slots) s l shapes
-
-    -- slots with one page are one
-    one-slot : (s k : ℕ) → s < z .slots → k < z .slots → slotIn t s .page < z .pages → slotIn t s .page ≡ slotIn t k .page → s ≡ k
-    one-slot s k l m h e =
-        sym (slot-is z t g pages (slotIn t s .page) s h l refl) ∙ slot-is z t g pages (slotIn t s .page) k h m (sym e)
-
-    -- the home of an owning slot's page is the slot's original
-    original-home : (s : ℕ) → s < z .slots → slotIn t s .page < z .pages → slotIn t s .original ≡ homeOf r z t (slotIn t s .page)
-    original-home s l h =
-        let e = slot-is z t g pages (slotIn t s .page) s h l refl in
-        rw (e, lt-ltb s (z .slots) l)
-
-    original-spare : (s k : ℕ) → s < z .slots → k < z .slots → slotIn t s .original ≡ slotIn t k .spare → ⊥
-    original-spare s k l m e =
-        ⊎-elim
-        (λ (o : Owning z (slotIn t s)). spare-home k (slotIn t s .page) m (o .page-low) (sym e ∙ original-home s l (o .page-low)))
-        (λ (f : Free z (slotIn t s)). omega (arith, spare-low k m))
-        (shape z (slotIn t s) (shape-at s l))
-
-    owns : (s : ℕ) → s < z .slots → (slotIn t s .page ≡ noPage → ⊥) → slotIn t s .page < z .pages
-    owns s l n =
-        ⊎-elim (λ (o : Owning z (slotIn t s)). o .page-low) (λ (f : Free z (slotIn t s)). absurd (n (f .page-none))) (shape z (slotIn t s) (shape-at s l))
-
-    pub names-fine : SlotsFine z (slotIn t)
-    names-fine =
-        record {
-          shapes = shape-at;
-          apart =
-              λ s k l m d.
-              record {
-                pages = λ n e. d (one-slot s k l m (owns s l n) e);
-                spares = λ e. d (spares-apart s k l m e);
-                forth = original-spare s k l m;
-                back = λ e. original-spare k s m l (sym e);
-                originals =
-                    λ a b e.
-                    let p = owns s l a in
-                    let q = owns k m b in
-                    d (one-slot s k l m p (homes-apart (slotIn t s .page) (slotIn t k .page) p q (sym (original-home s l p) ∙ e ∙ original-home k m q)));
-              };
-        }

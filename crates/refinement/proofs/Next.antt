@@ -32,18 +32,18 @@ module _ (R : World → Reference → Type 0) (c : Call) (v : World) (b : Refere
   answered-still (suc k) n after h f = rw (eqb·suc-zero k) (record { sizes = refl; related = h })
 
   -- of one that asks for an operation: refused, complete where no store is needed, or pending
-  module _ (op : Op) (line : List ℕ) (frame : ℕ) (t : Task) where
+  module _ (op : Op) (line : List ℕ) (t : Task) where
     by-needs : (n : ℕ) → needs (v .st) op ≡ n → (needs (v .st) op ≡ 0 → Next R v (worldOf (completed (v .st) op) (v .image)) (does t b))
-        → (0 < needs (v .st) op → Next R v (worldOf (withPending (v .st) op line frame) (v .image)) (withWork (under t (needs (v .st) op)) b))
-        → Next R v (worldOf (cond (eqb (needs (v .st) op) 0) (completed (v .st) op) (withPending (v .st) op line frame)) (v .image)) (starts t (needs (v .st) op) b)
+        → (0 < needs (v .st) op → Next R v (worldOf (withPending (v .st) op line) (v .image)) (withWork (under t (needs (v .st) op)) b))
+        → Next R v (worldOf (cond (eqb (needs (v .st) op) 0) (completed (v .st) op) (withPending (v .st) op line)) (v .image)) (starts t (needs (v .st) op) b)
     by-needs zero q now later = let d = now q in rw q d
     by-needs (suc k) q now later =
-        let d : Next R v (worldOf (withPending (v .st) op line frame) (v .image)) (withWork (under t (needs (v .st) op)) b) = later (omega (arith, q)) in
+        let d : Next R v (worldOf (withPending (v .st) op line) (v .image)) (withWork (under t (needs (v .st) op)) b) = later (omega (arith, q)) in
         rw (q, eqb·suc-zero k) (rw q at d)
 
     pub asked-next : (row : ℕ) → (row ≡ 0 → (n : ℕ) → taken c n b ≡ starts t n b) → R v b
         → (row ≡ 0 → needs (v .st) op ≡ 0 → Next R v (worldOf (completed (v .st) op) (v .image)) (does t b))
-        → (row ≡ 0 → 0 < needs (v .st) op → Next R v (worldOf (withPending (v .st) op line frame) (v .image)) (withWork (under t (needs (v .st) op)) b))
-        → Next R v (worldOf (asked row (v .st) op line frame .state) (v .image)) (turn c row (asked row (v .st) op line frame .stores) b)
+        → (row ≡ 0 → 0 < needs (v .st) op → Next R v (worldOf (withPending (v .st) op line) (v .image)) (withWork (under t (needs (v .st) op)) b))
+        → Next R v (worldOf (asked row (v .st) op line .state) (v .image)) (turn c row (asked row (v .st) op line .stores) b)
     asked-next zero e h now later = let n : ℕ = needs (v .st) op in rw (e refl n) (by-needs n refl (now refl) (later refl))
     asked-next (suc k) e h now later = rw (eqb·suc-zero k) (record { sizes = refl; related = h })

@@ -10,7 +10,7 @@ use Rattle.layout.specs.declared.Sizes.{Sizes}
 use Rattle.journal.specs.declared.Slot.{Slot}
 use Rattle.journal.specs.Slots.{noPage, shaped}
 use Rattle.state.specs.Held.{heldAt}
-use Rattle.refinement.proofs.ValidSlots.{Apart, apart-sym, SlotsFine}
+use Rattle.refinement.proofs.ValidSlots.{Named, SlotsFine}
 use Rattle.refinement.proofs.ValidWriters.{HeldFine}
 
 -- g is f with slot s replaced by v
@@ -22,21 +22,28 @@ module _ (z : Sizes) (f g : ℕ → Slot) (s : ℕ) (v : Slot) (same : g s ≡ v
       (λ e. subst P (sym (ap g (eqb-true k s e) ∙ same)) a)
       (λ e. subst P (sym (others k (eqb-false k s e))) (b (eqb-false k s e)))
 
-  pub slots-changed : SlotsFine z f → shaped z v ≡ true → ((k : ℕ) → k < z .slots → (k ≡ s → ⊥) → Apart v (f k)) → SlotsFine z g
-  slots-changed h shape new =
+  -- h′ are the pages' own frames then
+  pub slots-changed : (h h′ : ℕ → ℕ) → SlotsFine z h f → shaped z v ≡ true
+      → ((k : ℕ) → k < z .slots → (k ≡ s → ⊥) → (v .page ≡ noPage → ⊥) → v .page ≡ f k .page → ⊥)
+      → Named z h′ g → ((v .page ≡ noPage → ⊥) → h′ (v .page) ≡ v .original)
+      → ((k : ℕ) → k < z .slots → (k ≡ s → ⊥) → (f k .page ≡ noPage → ⊥) → h′ (f k .page) ≡ h (f k .page)) → SlotsFine z h′ g
+  slots-changed h h′ fine shape new named own same-own =
       record {
-        shapes = λ k l. by-slot (λ (x : Slot). shaped z x ≡ true) k shape (λ n. h .shapes k l);
-        apart =
+        shapes = λ k l. by-slot (λ (x : Slot). shaped z x ≡ true) k shape (λ n. fine .shapes k l);
+        pages =
             λ j k l m d.
             caseOn (eqb j s)
             (λ e.
             let q : j ≡ s = eqb-true j s e in
             let n : k ≡ s → ⊥ = λ r. d (q ∙ sym r) in
-            subst (λ (x : Slot). Apart x (g k)) (sym (ap g q ∙ same)) (subst (λ (x : Slot). Apart v x) (sym (others k n)) (new k m n)))
+            subst (λ (x : Slot). (x .page ≡ noPage → ⊥) → x .page ≡ g k .page → ⊥) (sym (ap g q ∙ same))
+            (subst (λ (x : Slot). (v .page ≡ noPage → ⊥) → v .page ≡ x .page → ⊥) (sym (others k n)) (new k m n)))
             (λ e.
             let n : j ≡ s → ⊥ = eqb-false j s e in
-            subst (λ (x : Slot). Apart x (g k)) (sym (others j n))
-            (by-slot (λ (x : Slot). Apart (f j) x) k (apart-sym v (f j) (new j l n)) (λ r. h .apart j k l m d)));
+            subst (λ (x : Slot). (x .page ≡ noPage → ⊥) → x .page ≡ g k .page → ⊥) (sym (others j n))
+            (by-slot (λ (x : Slot). (f j .page ≡ noPage → ⊥) → f j .page ≡ x .page → ⊥) k (λ a q. new j l n (λ x. a (q ∙ x)) (sym q)) (λ r. fine .pages j k l m d)));
+        named = named;
+        kept = λ k l. by-slot (λ (x : Slot). (x .page ≡ noPage → ⊥) → h′ (x .page) ≡ x .original) k own (λ n a. same-own k l n a ∙ fine .kept k l a);
       }
 
   -- held lines stay as they are; of a slot that becomes free there must be none

@@ -54,9 +54,9 @@ module _ (v : World) where
       let low : (i : ℕ) → i < k → from + i < needs st (st .pending .op) = λ i m. omega arith in
       up-keeps (SamePast n (v .image)) (λ i m. storeMade st m (st .pending .op) (from + i)) k (v .image)
       (λ i m j h.
-      let a : ℕ = storeAt st m (st .pending .op) (from + i) in
+      let a : ℕ = storeAt st (st .pending .op) (from + i) in
       let w : ℕ = storeValue st m (st .pending .op) (from + i) in
-      let inside : 8 * a + 8 ≤ n = store-in-range st (g .ok) (g .some) m (from + i) (low i j) in
+      let inside : 8 * a + 8 ≤ n = store-in-range st (g .ok) (g .some) (from + i) (low i j) in
       let fits : 8 * a + 8 ≤ length m = omega (arith, h .as-long, g .fits) in
       record { past = drop-store m a w n fits inside ∙ h .past; as-long = length-store m a w fits ∙ h .as-long })
       (same n (v .image))

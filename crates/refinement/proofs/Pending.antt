@@ -40,14 +40,14 @@ idle-ok st e = rw e
 pub record Pends (st : State) (op : Op) : Type 0 where
   pub fits : opFits (st .wide .writer) (isFresh st) op ≡ true
   pub made-low : st .pending .made < needs st op
-  pub taken : refusal (opRows st op (st .pending .frame)) ≡ 0
+  pub taken : refusal (opRows st op) ≡ 0
 
 pub pends-ok : (st : State) (op : Op) → st .pending .op ≡ op → Pends st op → pendingOk st ≡ true
 unfolding pendingOk
 pends-ok st op e h =
-    let busy : Op → Bool = λ o. opFits (st .wide .writer) (isFresh st) o && (ltb (st .pending .made) (needs st o) && eqb (refusal (opRows st o (st .pending .frame))) 0) in
+    let busy : Op → Bool = λ o. opFits (st .wide .writer) (isFresh st) o && (ltb (st .pending .made) (needs st o) && eqb (refusal (opRows st o)) 0) in
     let is : busy op ≡ true =
-    rw (h .fits, lt-ltb (st .pending .made) (needs st op) (h .made-low)) (eq-eqb (refusal (opRows st op (st .pending .frame))) 0 (h .taken)) in
+    rw (h .fits, lt-ltb (st .pending .made) (needs st op) (h .made-low)) (eq-eqb (refusal (opRows st op)) 0 (h .taken)) in
     or-second (isIdle (st .pending .op)) (busy (st .pending .op)) (ap busy e ∙ is)
   where
     or-second : (a b : Bool) → b ≡ true → a || b ≡ true
@@ -58,16 +58,16 @@ pub pends : (st : State) (op : Op) → stateOk st ≡ true → st .pending .op �
 unfolding pendingOk
 pends st op v e i =
     let a = ltb (st .pending .made) (needs st op) in
-    let b = eqb (refusal (opRows st op (st .pending .frame))) 0 in
+    let b = eqb (refusal (opRows st op)) 0 in
     let c = opFits (st .wide .writer) (isFresh st) op in
     let h : isIdle op || (c && (a && b)) ≡ true =
-    ap (λ (o : Op). isIdle o || (opFits (st .wide .writer) (isFresh st) o && (ltb (st .pending .made) (needs st o) && eqb (refusal (opRows st o (st .pending .frame))) 0))) (sym e) ∙ valid st v .pending in
+    ap (λ (o : Op). isIdle o || (opFits (st .wide .writer) (isFresh st) o && (ltb (st .pending .made) (needs st o) && eqb (refusal (opRows st o)) 0))) (sym e) ∙ valid st v .pending in
     let f : c && (a && b) ≡ true = ap (λ (x : Bool). x || (c && (a && b))) (sym i) ∙ h in
     let k : a && b ≡ true = and-right c (a && b) f in
     record {
       fits = and-left c (a && b) f;
       made-low = ltb-true (st .pending .made) (needs st op) (and-left a b k);
-      taken = eqb-true (refusal (opRows st op (st .pending .frame))) 0 (and-right a b k);
+      taken = eqb-true (refusal (opRows st op)) 0 (and-right a b k);
     }
 
 -- what an operation needs does not depend on the stores made
@@ -86,18 +86,18 @@ needs-made st m Copy = refl
 needs-made st m Format = refl
 
 -- nor do its rows
-pub rows-made : (st : State) (m : ℕ) (op : Op) (f : ℕ) → refusal (opRows (withMade st m) op f) ≡ refusal (opRows st op f)
-rows-made st m Idle f = refl
-rows-made st m (Write w p l o n) f = refl
-rows-made st m (Commit w) f = refl
-rows-made st m (Consolidate p) f = refl
-rows-made st m Checkpoint f = refl
-rows-made st m (Event k i a) f = refl
-rows-made st m (Prepare w) f = refl
-rows-made st m (Confirm w) f = refl
-rows-made st m (Log p l o n) f = refl
-rows-made st m Copy f = refl
-rows-made st m Format f = refl
+pub rows-made : (st : State) (m : ℕ) (op : Op) → refusal (opRows (withMade st m) op) ≡ refusal (opRows st op)
+rows-made st m Idle = refl
+rows-made st m (Write w p l o n) = refl
+rows-made st m (Commit w) = refl
+rows-made st m (Consolidate p) = refl
+rows-made st m Checkpoint = refl
+rows-made st m (Event k i a) = refl
+rows-made st m (Prepare w) = refl
+rows-made st m (Confirm w) = refl
+rows-made st m (Log p l o n) = refl
+rows-made st m Copy = refl
+rows-made st m Format = refl
 
 pub made-valid : (st : State) (m : ℕ) → stateOk st ≡ true → isIdle (st .pending .op) ≡ false → m < needs st (st .pending .op) → stateOk (withMade st m) ≡ true
 made-valid st m e i l =
@@ -117,5 +117,5 @@ made-valid st m e i l =
       wide = v .wide;
       pending =
           pends-ok (withMade st m) op refl
-          (record { fits = h .fits; made-low = rw (needs-made st m op) l; taken = rows-made st m op (st .pending .frame) ∙ h .taken });
+          (record { fits = h .fits; made-low = rw (needs-made st m op) l; taken = rows-made st m op ∙ h .taken });
     })

@@ -25,9 +25,9 @@ line-at img a i m h =
     let e : 8 * a + 8 * i ≡ 8 * (a + i) = omega arith in
     line-word (part img (8 * a) 64) i m ∙ word-part img (8 * a) 64 (8 * i) (omega arith) h ∙ ap (wordAt img) e
 
-module _ (st : State) (img : List ℕ) (op : Op) (line : List ℕ) (frame : ℕ) where
+module _ (st : State) (img : List ℕ) (op : Op) (line : List ℕ) where
   abbrev asks : State
-  asks = withPending st op line frame
+  asks = withPending st op line
 
   module _ (back : (i : ℕ) → i < needs st op → storeMade asks img op i ≡ img) where
     stores-back : (k : ℕ) → k ≤ needs st op → storesMade asks k img ≡ img
@@ -36,9 +36,9 @@ module _ (st : State) (img : List ℕ) (op : Op) (line : List ℕ) (frame : ℕ)
         (λ i x m e. let j : 0 + i ≡ i = omega arith in ap (λ (y : List ℕ). storeMade asks y op (0 + i)) e ∙ ap (storeMade asks img op) j ∙ back i (omega arith)) refl
 
     pub image-back : (k : ℕ) → k ≤ left asks → steppedBy k (worldOf asks img) .image ≡ img
-    image-back k h = run-image k (worldOf asks img) h ∙ stores-back k (omega (arith, h, needs-asked st line frame op op))
+    image-back k h = run-image k (worldOf asks img) h ∙ stores-back k (omega (arith, h, needs-asked st line op op))
 
     pub all-back : isIdle op ≡ false → 0 < needs st op → completed asks op ≡ st → steppedBy (left asks) (worldOf asks img) ≡ worldOf st img
     all-back some l same =
-        let e : steppedBy (left asks) (worldOf asks img) .st ≡ st = run-all (worldOf asks img) some (omega (arith, l, needs-asked st line frame op op)) ∙ same in
+        let e : steppedBy (left asks) (worldOf asks img) .st ≡ st = run-all (worldOf asks img) some (omega (arith, l, needs-asked st line op op)) ∙ same in
         λ i. record { st = e i; image = image-back (left asks) (omega arith) i }

@@ -9,11 +9,11 @@ use lib.Dec.{ltb, leb, eqb}
 use lib.ListN.{length}
 use borrow.Author.Tests.{ltb-false, leb-false, eqb-true}
 use Rattle.bounded.specs.Rows.{Row, refusal, Past}
+use Rattle.replay.specs.Map.{pageFrames}
 use Rattle.bounded.proofs.Rows.{none-apply}
 use Rattle.bounded.proofs.Tests.{caseOn, or-left, or-right}
 use Rattle.words.specs.Words.{word, over}
-use Rattle.mount.specs.declared.Mounted.{Mounted}
-use Rattle.mount.specs.Mount.{mountOf, mountRead, mountRows, sizesFrom}
+use Rattle.mount.specs.Mount.{Mounted, mountOf, mountRead, mountRows, sizesFrom}
 use Rattle.mount.proofs.Verdict.{taken-mount}
 use Rattle.mount.proofs.View.{View}
 use Rattle.state.specs.State.{State}
@@ -60,7 +60,7 @@ module _ {past : List ℕ} {st : State} (img : List ℕ) (b : Reference) (seen :
   unfolding recallBytes
   recall-right e =
       let shown =
-      subst (λ (v : View). (p l : ℕ) → p < v .sizes .pages → l < 64 → shownLine img (v .sizes) (v .table) (v .count) (v .keys) p l ≡ recallLine b p l) (sym (seen .shows)) (seen .shown) in
+      subst (λ (v : View). (p l : ℕ) → p < v .sizes .pages → l < 64 → shownLine img (pageFrames (word img)) (v .sizes) (v .table) (v .count) (v .keys) p l ≡ recallLine b p l) (sym (seen .shows)) (seen .shown) in
       let low : Bool = leb (sizesFrom (word img) .pages) p in
       let a = or-left (low || ltb 63 l) (ltb (length target) 64) (args-good e) in
       rw e

@@ -14,15 +14,16 @@ use Rattle.image.proofs.LineLaws.{length-line}
 use Rattle.entries.specs.Entries.{keyOf, keyPage, keyLine, entryOf}
 use Rattle.entries.proofs.EntryLaws.{Right, entries-right, key-back, entry-own}
 use Rattle.replay.specs.Table.{frameNames}
+use Rattle.replay.specs.Map.{pageFrames}
 use Rattle.replay.proofs.Tables.{one-value}
-use Rattle.mount.proofs.Verdict.{Taken}
+use Rattle.mount.proofs.Verdict.{Taken, mapIn, entry-shown}
 use Rattle.mount.proofs.View.{View, Shows}
 use Rattle.refinement.specs.Recall.{frameOf}
 use Rattle.refinement.specs.Wide.{entryBytes, shownLine}
 use Rattle.state.specs.State.{State}
 use Rattle.refinement.specs.Mount.{copyingState}
 use Rattle.refinement.specs.Reference.{Reference, none, idle, recallLine}
-use Rattle.refinement.proofs.CallMounted.{view-names, view-sixteen, copying-valid}
+use Rattle.refinement.proofs.CallMounted.{view-names, view-sixteen, view-map, copying-valid}
 use Rattle.refinement.proofs.Copying.{copyOf, inPlace, paged-line, Copying}
 use Rattle.state.specs.Held.{noWriter}
 use Rattle.refinement.proofs.Invariant.{Durable, Quiet}
@@ -33,7 +34,7 @@ use Rattle.refinement.proofs.Viewed.{shown-copy}
 
 -- the state that a mount of such an image returns
 abbrev pub copyingOf : View → State
-copyingOf v = copyingState (v .sizes) (v .head) (v .tail) (v .table) (v .count) (v .keys)
+copyingOf v = copyingState (v .sizes) (v .head) (v .tail) (v .table) (mapIn v) (v .count) (v .keys)
 
 -- the reference machine after a mount
 abbrev pub remounted : Reference → Reference
@@ -41,23 +42,23 @@ remounted b = record { pages = b .pages; writes = λ w p l i. none; work = idle;
 
 -- the lines that an image shows are the reference machine's
 abbrev pub Shown : List ℕ → View → Reference → Type 0
-Shown img v b = (p l : ℕ) → p < v .sizes .pages → l < 64 → shownLine img (v .sizes) (v .table) (v .count) (v .keys) p l ≡ recallLine b p l
+Shown img v b = (p l : ℕ) → p < v .sizes .pages → l < 64 → shownLine img (pageFrames (word img)) (v .sizes) (v .table) (v .count) (v .keys) p l ≡ recallLine b p l
 
 -- the committed copies lie in frames of the image
 module _ (img : List ℕ) (v : View) (shows : Shows img v) (mounts : Taken (length img) v) where
-  once : Once (frames (v .sizes)) (frameNames (word img) (v .sizes) (v .table))
+  once : Once (frames (v .sizes)) (frameNames (pageFrames (word img)) (v .sizes) (v .table))
   once = subst (Once (frames (v .sizes))) (view-names img v shows) (mounts .names)
 
-  pub copy-low : (p l : ℕ) → p < v .sizes .pages → frameOf (word img) (v .sizes) (v .table) p l < frames (v .sizes)
+  pub copy-low : (p l : ℕ) → p < v .sizes .pages → frameOf (pageFrames (word img)) (v .sizes) (v .table) p l < frames (v .sizes)
   copy-low p l low =
-      owned-low (word img) (v .sizes) (v .table) (mounts .legal) once p (frameOf (word img) (v .sizes) (v .table) p l) low
-      (committed-owned (word img) (v .sizes) (v .table) (mounts .legal) once p l)
+      owned-low (pageFrames (word img)) (v .sizes) (v .table) (mounts .legal) once p (frameOf (pageFrames (word img)) (v .sizes) (v .table) p l) low
+      (committed-owned (pageFrames (word img)) (v .sizes) (v .table) (mounts .legal) once p l)
 
   -- two in one frame are of one page
-  pub one-page : (p l q m : ℕ) → p < v .sizes .pages → q < v .sizes .pages → frameOf (word img) (v .sizes) (v .table) p l ≡ frameOf (word img) (v .sizes) (v .table) q m → p ≡ q
+  pub one-page : (p l q m : ℕ) → p < v .sizes .pages → q < v .sizes .pages → frameOf (pageFrames (word img)) (v .sizes) (v .table) p l ≡ frameOf (pageFrames (word img)) (v .sizes) (v .table) q m → p ≡ q
   one-page p l q m lp lq e =
-      owned-apart (word img) (v .sizes) (v .table) (mounts .legal) once p q _ _ lp lq
-      (committed-owned (word img) (v .sizes) (v .table) (mounts .legal) once p l) (committed-owned (word img) (v .sizes) (v .table) (mounts .legal) once q m) e
+      owned-apart (pageFrames (word img)) (v .sizes) (v .table) (mounts .legal) once p q _ _ lp lq
+      (committed-owned (pageFrames (word img)) (v .sizes) (v .table) (mounts .legal) once p l) (committed-owned (pageFrames (word img)) (v .sizes) (v .table) (mounts .legal) once q m) e
 
 module _ (img : List ℕ) (v : View) (b : Reference) (bytes : Bytes img) (shows : Shows img v) (mounts : Taken (length img) v) (shown : Shown img v b) where
   abbrev z : Sizes
@@ -68,15 +69,15 @@ module _ (img : List ℕ) (v : View) (b : Reference) (bytes : Bytes img) (shows 
 
   pub remount-quiet : v .count ≡ 0 → Quiet past (stateOf v) img (remounted b)
   remount-quiet e =
-      mounted-quiet img v (remounted b) bytes refl shows mounts (λ p l lp ll. sym (shown-copy img z (v .table) (v .count) (v .keys) p l e) ∙ shown p l lp ll)
+      mounted-quiet img v (remounted b) bytes refl shows mounts (λ p l lp ll. sym (shown-copy img (pageFrames (word img)) z (v .table) (v .count) (v .keys) p l e) ∙ shown p l lp ll)
       (λ w p l i. refl) refl e refl
 
   right : Right z (v .keys) (v .count)
   right = entries-right z (v .keys) (v .count) (mounts .entries)
 
   -- the line of an entry that is counted, and a line without one
-  entry-shown : (e : ℕ) → e < v .count → entryBytes img z e ≡ recallLine b (keyPage (getD (v .keys) e 0)) (keyLine (getD (v .keys) e 0))
-  entry-shown e low =
+  entry-line : (e : ℕ) → e < v .count → entryBytes img z e ≡ recallLine b (keyPage (getD (v .keys) e 0)) (keyLine (getD (v .keys) e 0))
+  entry-line e low =
       let k : ℕ = getD (v .keys) e 0 in
       let own : entryOf (v .keys) (v .count) (keyOf (keyPage k) (keyLine k)) ≡ e = ap (entryOf (v .keys) (v .count)) (key-back k) ∙ entry-own z (v .keys) (v .count) right e low in
       let s = shown (keyPage k) (keyLine k) (right .page-low e low) (omega arith) in
@@ -98,9 +99,11 @@ module _ (img : List ℕ) (v : View) (b : Reference) (bytes : Bytes img) (shows 
         tail-same = refl;
         count-same = refl;
         behind = record { sixteen = view-sixteen img v shows; last-same = λ s l. refl; slot-same = λ s l. inl refl };
+        map-long = view-map img v shows (mounts .legal .pages-high);
+        own = entry-shown img v shows;
         committed =
             λ p l lp ll.
-            paged-line (copyOf (copyingOf v) img) (remounted b) p l (length-line img z (frameOf (word img) z (v .table) p l) l (copy-low img v shows mounts p l lp) ll (mounts .fits));
+            paged-line (copyOf (copyingOf v) img) (remounted b) p l (length-line img z (frameOf (pageFrames (word img)) z (v .table) p l) l (copy-low img v shows mounts p l lp) ll (mounts .fits));
       }
 
   pub remount-copying : (v .count ≡ 0 → ⊥) → Copying past (copyingOf v) img (remounted b)
@@ -114,7 +117,7 @@ module _ (img : List ℕ) (v : View) (b : Reference) (bytes : Bytes img) (shows 
         unheld = λ w s k l. one-value 64 (16 * w + s) 0;
         durable = durable;
         keys = view-keys img v shows z (v .count) refl refl;
-        entry = entry-shown;
+        entry = entry-line;
         other = other-shown;
         landed = λ e k le lk l. absurd (omega arith);
         no-writes = λ w p l i a c d e. refl;

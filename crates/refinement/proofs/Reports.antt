@@ -51,8 +51,8 @@ idle-left st e =
     (λ t. let none : needs st op ≡ 0 = eqb-true (needs st op) 0 t in omega arith)
     (λ t. let some : needs st op ≡ 0 → ⊥ = eqb-false (needs st op) 0 t in contradicts e (needing st op 0 (omega arith)))
 
-asked-left : (st : State) (op : Op) (line second : List ℕ) (frame : ℕ) → left (withLines st op line second frame) ≡ needs st op
-asked-left st op line second frame = omega (arith, needs-lines st line second frame op op)
+asked-left : (st : State) (op : Op) (line second : List ℕ) (frame : ℕ) → left (withLines st op line second) ≡ needs st op
+asked-left st op line second frame = omega (arith, needs-lines st line second op op)
 
 -- ---- step and run
 
@@ -95,7 +95,7 @@ went v taken =
 -- ---- operations asked for
 
 asks : (row : ℕ) (v : World) (op : Op) → isIdle op ≡ false → row ≡ 0
-    → let o = asked row (v .st) op (replicate 8 0) 0 in Needs (o .stores) v (worldOf (o .state) (v .image))
+    → let o = asked row (v .st) op (replicate 8 0) in Needs (o .stores) v (worldOf (o .state) (v .image))
 asks row v op some e =
     let st = v .st in
     rw e

@@ -26,7 +26,7 @@ use Rattle.state.specs.Wide.{isWide}
 use Rattle.operations.specs.Operations.{slotFor, slotted, writeRows, needs}
 use Rattle.operations.proofs.Taken.{WriteTaken, write-taken}
 use Rattle.validity.specs.Validity.{stateOk}
-use Rattle.refinement.specs.Frames.{pageFrame, seenFrame, holds}
+use Rattle.refinement.specs.Frames.{seenFrame, holds}
 use Rattle.refinement.specs.Settled.{noPending}
 use Rattle.refinement.specs.Write.{writeSlot, writeAt, writeValue}
 use Rattle.refinement.specs.Stores.{storeMade, completed, steppedBy, left}
@@ -34,24 +34,25 @@ use Rattle.refinement.specs.Calls.{withPending, worldOf, finishedLine, c
 use Rattle.refinement.proofs.Going.{ranges-of, shapes-of}
 use Rattle.refinement.proofs.LinePut.{with-again}
 use Rattle.refinement.proofs.SeenFrames.{seen-low}
+use Rattle.refinement.proofs.Valid.{map-low}
 use Rattle.refinement.proofs.PutBack.{line-at, all-back}
 use Rattle.refinement.proofs.WriterCalls.{frameLine, changes-narrow, finished-narrow}
 
 module _ (st : State) (img : List ℕ) (w p l o n : ℕ) (bytes : List ℕ) (ok : stateOk st ≡ true) (long : imageLength (st .sizes) ≤ length img) (sound : Bytes img)
-    (row : refusal (writeRows st w p l o n (pageFrame st img p)) ≡ 0) (given : n ≤ length bytes)
+    (row : refusal (writeRows st w p l o n) ≡ 0) (given : n ≤ length bytes)
     (other : isWide (st .wide) w ≡ false) (idle : changesNothing st img w p l o n bytes ≡ true) where
   abbrev z : Sizes
   z = st .sizes
 
   -- the frame that the line is seen in, and the state with the write pending
   abbrev f : ℕ
-  f = seenFrame st w p l (pageFrame st img p)
+  f = seenFrame st w p l
 
   abbrev asks : State
-  asks = withPending st (Write w p l o n) (finishedLine st img w p l o n bytes) (pageFrame st img p)
+  asks = withPending st (Write w p l o n) (finishedLine st img w p l o n bytes)
 
-  T : WriteTaken st w p l o n (pageFrame st img p)
-  T = write-taken st w p l o n (pageFrame st img p) row
+  T : WriteTaken st w p l o n
+  T = write-taken st w p l o n row
 
   abbrev same : Bool
   same = not (mergeChanges (frameLine st img w p l) o n bytes)
@@ -69,7 +70,7 @@ module _ (st : State) (img : List ℕ) (w p l o n : ℕ) (bytes : List ℕ) (ok 
   mine = and-right (slotted st p) (inMask (heldAt (st .writers .held) w (slotFor st p)) l) line-held
 
   frame-low : f < frames z
-  frame-low = seen-low st w p l (pageFrame st img p) (ranges-of st ok .legal) (T .args .page-low) (shapes-of st ok) (T .frame-good)
+  frame-low = seen-low st w p l (ranges-of st ok .legal) (T .args .page-low) (shapes-of st ok) (map-low st ok p (T .args .page-low))
 
   line-low : 8 * lineWord z f l + 64 ≤ length img
   line-low = omega (arith, line-end z f l frame-low (T .args .line-low))
@@ -107,9 +108,9 @@ module _ (st : State) (img : List ℕ) (w p l o n : ℕ) (bytes : List ℕ) (ok 
     completed-back =
         rw has-slot
         (λ i.
-        record { sizes = st .sizes; head = st .head; tail = st .tail; next = st .next; table = st .table; writers = record { opened = st .writers .opened; held = held-back i; prepared = st .writers .prepared }; wide = st .wide; pending = sym none i })
+        record { sizes = st .sizes; head = st .head; tail = st .tail; next = st .next; table = st .table; map = st .map; writers = record { opened = st .writers .opened; held = held-back i; prepared = st .writers .prepared }; wide = st .wide; pending = sym none i })
 
     -- after all eight the world is as it was
     pub world-back : steppedBy (left asks) (worldOf asks img) ≡ worldOf st img
     unfolding needs
-    world-back = all-back st img (Write w p l o n) (finishedLine st img w p l o n bytes) (pageFrame st img p) back refl (omega arith) completed-back
+    world-back = all-back st img (Write w p l o n) (finishedLine st img w p l o n bytes) back refl (omega arith) completed-back

@@ -27,7 +27,7 @@ use Rattle.state.specs.Wide.{isWide, hasEntry, entryFor, withEntry}
 use Rattle.operations.specs.Operations.{needs, logRows}
 use Rattle.operations.proofs.Taken.{LogTaken, log-taken}
 use Rattle.validity.specs.Validity.{stateOk}
-use Rattle.refinement.specs.Frames.{pageFrame, seenFrame, holds}
+use Rattle.refinement.specs.Frames.{seenFrame, holds}
 use Rattle.refinement.specs.Settled.{noPending}
 use Rattle.refinement.specs.Wide.{entryBytes, logValue}
 use Rattle.refinement.specs.Stores.{storeMade, completed}
@@ -36,7 +36,7 @@ use Rattle.refinement.proofs.PutBack.{line-at}
 use Rattle.refinement.proofs.StateValid.{valid}
 
 module _ (st : State) (img : List ℕ) (w p l o n : ℕ) (bytes : List ℕ) (ok : stateOk st ≡ true) (long : imageLength (st .sizes) ≤ length img) (sound : Bytes img)
-    (row : refusal (logRows st p l o n (pageFrame st img p)) ≡ 0) (given : n ≤ length bytes)
+    (row : refusal (logRows st p l o n) ≡ 0) (given : n ≤ length bytes)
     (mine : isWide (st .wide) w ≡ true) (idle : changesNothing st img w p l o n bytes ≡ true)
     (stored : (e : ℕ) → e < st .wide .count → word img (entryWord (st .sizes) e) ≡ getD (st .wide .keys) e 0) where
   abbrev z : Sizes
@@ -50,10 +50,10 @@ module _ (st : State) (img : List ℕ) (w p l o n : ℕ) (bytes : List ℕ) (ok 
   line = entryBytes img z e
 
   abbrev asks : State
-  asks = withPending st (Log p l o n) (finishedLine st img w p l o n bytes) (pageFrame st img p)
+  asks = withPending st (Log p l o n) (finishedLine st img w p l o n bytes)
 
-  T : LogTaken st p l o n (pageFrame st img p)
-  T = log-taken st p l o n (pageFrame st img p) row
+  T : LogTaken st p l o n
+  T = log-taken st p l o n row
 
   abbrev same : Bool
   same = not (mergeChanges (seenLine st img w p l) o n bytes)
@@ -72,7 +72,7 @@ module _ (st : State) (img : List ℕ) (w p l o n : ℕ) (bytes : List ℕ) (ok 
   entry-low = omega (arith, entry-end z e (omega (arith, low, valid st ok .entries .few)), long)
 
   seen : seenLine st img w p l ≡ line
-  seen = ap (λ (x : Bool). cond x line (lineBytes img z (seenFrame st w p l (pageFrame st img p)) l)) (ap (λ (x : Bool). x && hasEntry (st .wide) p l) mine ∙ has)
+  seen = ap (λ (x : Bool). cond x line (lineBytes img z (seenFrame st w p l) l)) (ap (λ (x : Bool). x && hasEntry (st .wide) p l) mine ∙ has)
 
   -- ---- the stores
 
@@ -108,4 +108,4 @@ module _ (st : State) (img : List ℕ) (w p l o n : ℕ) (bytes : List ℕ) (ok 
 
   pub logged-back : st .pending ≡ noPending → completed asks (Log p l o n) ≡ st
   logged-back none =
-      λ i. record { sizes = st .sizes; head = st .head; tail = st .tail; next = st .next; table = st .table; writers = st .writers; wide = used-again i; pending = sym none i }
+      λ i. record { sizes = st .sizes; head = st .head; tail = st .tail; next = st .next; table = st .table; map = st .map; writers = st .writers; wide = used-again i; pending = sym none i }

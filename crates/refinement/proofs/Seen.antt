@@ -10,7 +10,7 @@ use Rattle.masks.specs.Lines.{inMask}
 use Rattle.state.specs.State.{State}
 use Rattle.state.specs.Held.{heldAt}
 use Rattle.operations.specs.Operations.{slotFor, slotted}
-use Rattle.refinement.specs.Frames.{pageFrame, seenFrame}
+use Rattle.refinement.specs.Frames.{seenFrame}
 use Rattle.refinement.specs.Reference.{Reference, Cell, laidOver, readLine, recallLine}
 use Rattle.refinement.proofs.Invariant.{Durable, Writing, holds}
 
@@ -21,13 +21,14 @@ module _ {past : List ℕ} (st : State) (img : List ℕ) (b : Reference) (writte
       tab-ext 64 (b .pages p l) (λ i. laidOver (b .writes w p l i) (b .pages p l i)) (λ i j. ap (λ (c : Cell). laidOver c (b .pages p l i)) (sym (ws .no-writes w p l i h k m j e)))
 
   pub seen-line : (w p l : ℕ) → w < 4 → p < st .sizes .pages → l < 64 → (written w p l → ⊥)
-      → lineBytes img (st .sizes) (seenFrame st w p l (pageFrame st img p)) l ≡ readLine b w p l
-  unfolding seenFrame pageFrame
+      → lineBytes img (st .sizes) (seenFrame st w p l) l ≡ readLine b w p l
+  unfolding seenFrame
   seen-line w p l h k m n =
       let c = durable .committed p l k m in
+      let o = durable .own p k in
       caseOn (slotted st p)
       (λ s.
       caseOn (inMask (heldAt (st .writers .held) w (slotFor st p)) l)
       (λ t. rw (s, t) (ws .own-copy w p l h k m n (rw (s, t))))
       (λ t. rw (s, t) ((rw s at c) ∙ unheld-line w p l h k m (rw (s, t)))))
-      (λ s. rw s ((rw s at c) ∙ unheld-line w p l h k m (rw s)))
+      (λ s. rw s (ap (λ (f : ℕ). lineBytes img (st .sizes) f l) (rw s at o) ∙ (rw s at c) ∙ unheld-line w p l h k m (rw s)))

@@ -1,13 +1,13 @@
 -- The frames that lines are read from and written to are frames: below F.
 use Prim.Native.Nat.{ℕ, _<_}
-use mathlib.Core.Bool.{true, false}
+use mathlib.Core.Bool.{true}
 use mathlib.Core.Logic.{⊎-elim}
 use mathlib.Core.Path.{_≡_}
 use native.Mathlib.Omega.{arith}
-use lib.Dec.{leb, eqb}
-use borrow.Author.Tests.{ltb-true, leb-false, eqb-true}
+use lib.Dec.{eqb}
+use borrow.Author.Tests.{ltb-true, eqb-true}
 use Rattle.bounded.proofs.Below.{all-at, first-holds}
-use Rattle.bounded.proofs.Tests.{caseOn, or-left, row-keeps}
+use Rattle.bounded.proofs.Tests.{caseOn, row-keeps}
 use Rattle.masks.specs.Lines.{inMask}
 use Rattle.masks.proofs.Members.{in-none}
 use Rattle.layout.specs.declared.Sizes.{Sizes}
@@ -17,10 +17,9 @@ use Rattle.replay.specs.declared.Table.{Table}
 use Rattle.journal.specs.Slots.{shaped}
 use Rattle.replay.specs.Table.{slotIn, slotsShaped}
 use Rattle.journal.proofs.SlotWords.{Owning, Free, shape}
-use Rattle.state.specs.State.{State}
+use Rattle.state.specs.State.{State, ownFrame}
 use Rattle.state.specs.Held.{heldAt}
-use Rattle.operations.specs.Operations.{slotFor, slotted, frameBad}
-use Rattle.state.specs.Slots.{frameOfSlot}
+use Rattle.operations.specs.Operations.{slotFor, slotted}
 use Rattle.refinement.specs.Frames.{pageSlot, committedFrame, otherFrame, seenFrame}
 
 pub slot-shaped : (z : Sizes) (t : Table) (s : ℕ) → slotsShaped z t ≡ true → s < z .slots → shaped z (slotIn t s) ≡ true
@@ -45,12 +44,11 @@ page-slot-owning st p h l s e =
     (λ (f : Free (st .sizes) (pageSlot st p)). absurd (omega (arith, f .page-none)))
     (shape (st .sizes) (pageSlot st p) (slot-shaped (st .sizes) (st .table) k e low))
 
--- the frame that a writer reads a line from, f being the page's frame, is a frame
-pub seen-low : (st : State) (w p l f : ℕ) → Legal (st .sizes) → p < st .sizes .pages → slotsShaped (st .sizes) (st .table) ≡ true
-    → frameBad (st .sizes) (st .table .page) (st .table .original) (st .table .spare) (slotFor st p) f ≡ false
-    → seenFrame st w p l f < frames (st .sizes)
+-- the frame that a writer reads a line from is a frame, where the page's own is one
+pub seen-low : (st : State) (w p l : ℕ) → Legal (st .sizes) → p < st .sizes .pages → slotsShaped (st .sizes) (st .table) ≡ true → ownFrame st p < frames (st .sizes)
+    → seenFrame st w p l < frames (st .sizes)
 unfolding seenFrame
-seen-low st w p l f h m e b =
+seen-low st w p l h m e own =
     let low : ℕ → Type 0 = λ (x : ℕ). x < frames (st .sizes) in
     let t = pageSlot st p in
     caseOn (slotted st p)
@@ -60,4 +58,4 @@ seen-low st w p l f h m e b =
     (row-keeps low (inMask (heldAt (st .writers .held) w (slotFor st p)) l) (otherFrame t l) (committedFrame t l)
     (row-keeps low (inMask (t .bitmap) l) (t .original) (t .spare) (o .original-low) (o .spare-low))
     (row-keeps low (inMask (t .bitmap) l) (t .spare) (t .original) (o .spare-low) (o .original-low))))
-    (λ u. rw u (leb-false (frames (st .sizes)) f (or-left (leb (frames (st .sizes)) f) (frameOfSlot (st .sizes) (st .table .page) (st .table .original) (st .table .spare) f) (rw u at b))))
+    (λ u. rw u own)

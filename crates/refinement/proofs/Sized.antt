@@ -22,7 +22,7 @@ use Rattle.replay.proofs.Tables.{Sixteen, sixteen-slot}
 use Rattle.replay.proofs.Latest.{sixteen-replay}
 use Rattle.masks.specs.Lines.{withLine}
 use Rattle.masks.proofs.Members.{with-lt, exclusive-or-lt}
-use Rattle.state.specs.State.{State, Writers}
+use Rattle.state.specs.State.{State, Writers, ownFrame}
 use Rattle.state.specs.declared.Op.{Op}
 use Rattle.state.specs.declared.Op.the-variants.{Idle, Write, Commit, Consolidate, Checkpoint, Event, Prepare, Confirm, Log, Copy, Format}
 use Rattle.entries.specs.Entries.{keyOf}
@@ -54,6 +54,7 @@ pub record SizedWriters (ws : Writers) : Type 0 where
 
 pub record Sized (st : State) : Type 0 where
   pub table : SizedTable (st .table)
+  pub map : length (st .map) ≡ 1024
   pub writers : SizedWriters (st .writers)
   pub keys : length (st .wide .keys) ≡ 64
 
@@ -99,7 +100,7 @@ module _ (st : State) (h : Sized st) where
   written-table : (p : ℕ) → SizedTable (writeTable st p)
   written-table p =
       let s = writeSlot st p in
-      let v : Slot = record { page = p; original = st .pending .frame; spare = slotIn (st .table) s .spare; bitmap = 0 } in
+      let v : Slot = record { page = p; original = ownFrame st p; spare = slotIn (st .table) s .spare; bitmap = 0 } in
       row-keeps SizedTable (slotted st p) (st .table) (withSlot (st .table) s v) (h .table)
       (record { sixteen = sixteen-slot (st .table) s v (h .table .sixteen); bitmap-low = set-low (st .table .bitmap) s 0 (h .table .bitmap-low) (omega arith) })
 
@@ -110,6 +111,7 @@ module _ (st : State) (h : Sized st) where
       let m = withLine (heldAt held w s) l in
       record {
         table = written-table p;
+        map = h .map;
         writers =
             record {
               four = h .writers .four;
@@ -129,6 +131,7 @@ module _ (st : State) (h : Sized st) where
               sixteen = sixteen-replay (st .sizes) (st .head) n (commitRecord st w) (st .table) (h .table .sixteen);
               bitmap-low = replay-low (st .sizes) (st .head) n (commitRecord st w) (st .table) (h .table .bitmap-low) (commit-low w);
             };
+        map = h .map;
         writers = record { four = c .four; sixty-four = c .sixty-four; held-low = c .held-low };
         keys = h .keys;
       }
@@ -136,32 +139,32 @@ module _ (st : State) (h : Sized st) where
 -- the states of an event
 open-sized : (st : State) → Sized st → Sized (withOpen st 1)
 open-sized st h =
-    record { table = h .table; writers = record { four = length-set (st .writers .opened) 1 true ∙ h .writers .four; sixty-four = h .writers .sixty-four; held-low = h .writers .held-low }; keys = h .keys }
+    record { table = h .table; map = h .map; writers = record { four = length-set (st .writers .opened) 1 true ∙ h .writers .four; sixty-four = h .writers .sixty-four; held-low = h .writers .held-low }; keys = h .keys }
 
-line-sized : (st : State) (l : ℕ) (words : List ℕ) (f : ℕ) → Sized st → l < 64 → Sized (lineDone st l words f)
+line-sized : (st : State) (l : ℕ) (words : List ℕ) → Sized st → l < 64 → Sized (lineDone st l words)
 unfolding lineDone
-line-sized st l words f h low = written-sized (lineAsked st l words f) (record { table = h .table; writers = h .writers; keys = h .keys }) 1 0 l low
+line-sized st l words h low = written-sized (lineAsked st l words) (record { table = h .table; map = h .map; writers = h .writers; keys = h .keys }) 1 0 l low
 
 event-sized : (st : State) (k m : ℕ) → Sized st → eventKnown k m ≡ true → Sized (eventDone st k m)
 unfolding eventDone
 event-sized st k m h e =
     let low : firstMeter k m < 64 = omega (arith, first-low k m e) in
     let own : ownMeter k m < 64 = omega (arith, own-range k m e .1) in
-    let first : Sized (firstDone st k m) = line-sized (withOpen st 1) (firstMeter k m) (st .pending .line) (st .pending .frame) (open-sized st h) low in
+    let first : Sized (firstDone st k m) = line-sized (withOpen st 1) (firstMeter k m) (st .pending .line) (open-sized st h) low in
     committed-sized (linesDone st k m)
-    (row-keeps Sized (movesCredit k) (secondDone st k m) (firstDone st k m) (line-sized (firstDone st k m) (ownMeter k m) (st .pending .second) (st .pending .frame) first own) first) 1
+    (row-keeps Sized (movesCredit k) (secondDone st k m) (firstDone st k m) (line-sized (firstDone st k m) (ownMeter k m) (st .pending .second) first own) first) 1
 
 module _ (st : State) (h : Sized st) where
-  pub completed-sized : (op : Op) → refusal (opRows st op (st .pending .frame)) ≡ 0 → Sized (completed st op)
+  pub completed-sized : (op : Op) → refusal (opRows st op) ≡ 0 → Sized (completed st op)
   completed-sized Idle r = h
-  completed-sized (Write w p l o n) r = written-sized st h w p l (write-taken st w p l o n (st .pending .frame) r .args .line-low)
+  completed-sized (Write w p l o n) r = written-sized st h w p l (write-taken st w p l o n r .args .line-low)
   completed-sized (Commit w) r = committed-sized st h w
-  completed-sized (Prepare w) r = record { table = h .table; writers = record { four = h .writers .four; sixty-four = h .writers .sixty-four; held-low = h .writers .held-low }; keys = h .keys }
+  completed-sized (Prepare w) r = record { table = h .table; map = h .map; writers = record { four = h .writers .four; sixty-four = h .writers .sixty-four; held-low = h .writers .held-low }; keys = h .keys }
   completed-sized (Confirm w) r = committed-sized st h w
-  completed-sized (Log p l o n) r = record { table = h .table; writers = h .writers; keys = length-set (st .wide .keys) (entryFor (st .wide) p l) (keyOf p l) ∙ h .keys }
-  completed-sized Copy r = record { table = h .table; writers = closed-sized (st .sizes) (st .writers) (st .wide .writer) (h .writers); keys = refl }
-  completed-sized Format r = record { table = h .table; writers = h .writers; keys = h .keys }
-  completed-sized (Event k m a) r = event-sized st k m h (event-taken st k m a (st .pending .frame) r .known)
+  completed-sized (Log p l o n) r = record { table = h .table; map = h .map; writers = h .writers; keys = length-set (st .wide .keys) (entryFor (st .wide) p l) (keyOf p l) ∙ h .keys }
+  completed-sized Copy r = record { table = h .table; map = h .map; writers = closed-sized (st .sizes) (st .writers) (st .wide .writer) (h .writers); keys = refl }
+  completed-sized Format r = record { table = h .table; map = h .map; writers = h .writers; keys = h .keys }
+  completed-sized (Event k m a) r = event-sized st k m h (event-taken st k m a r .known)
   completed-sized (Consolidate p) r =
       record {
         table =
@@ -169,6 +172,7 @@ module _ (st : State) (h : Sized st) where
               sixteen = sixteen-replay (st .sizes) (st .head) 1 (freeingRecord st p) (st .table) (h .table .sixteen);
               bitmap-low = replay-low (st .sizes) (st .head) 1 (freeingRecord st p) (st .table) (h .table .bitmap-low) (freeing-low st h p);
             };
+        map = length-set (st .map) p _ ∙ h .map;
         writers = h .writers;
         keys = h .keys;
       }
@@ -180,9 +184,10 @@ module _ (st : State) (h : Sized st) where
               sixteen = record { page = t .page; original = t .original; spare = t .spare; bitmap = t .bitmap; last = length-filled (st .sizes .slots) (λ s. noPosition) (st .table .last) ∙ t .last };
               bitmap-low = h .table .bitmap-low;
             };
+        map = h .map;
         writers = h .writers;
         keys = h .keys;
       }
 
   pub made-sized : (m : ℕ) → Sized (withMade st m)
-  made-sized m = record { table = h .table; writers = h .writers; keys = h .keys }
+  made-sized m = record { table = h .table; map = h .map; writers = h .writers; keys = h .keys }

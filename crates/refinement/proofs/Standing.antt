@@ -7,10 +7,8 @@ use native.Mathlib.Omega.{arith}
 use lib.Dec.{eqb}
 use lib.ListN.{length, getD}
 use borrow.Author.Tests.{ne-eqb}
-use Rattle.bounded.specs.Count.{Once}
-use Rattle.layout.specs.Layout.{frames, entryWord}
+use Rattle.layout.specs.Layout.{entryWord}
 use Rattle.words.specs.Words.{word}
-use Rattle.replay.specs.Table.{frameNames}
 use Rattle.replay.proofs.Tables.{Sixteen}
 use Rattle.state.specs.State.{Wide}
 use Rattle.state.specs.Wide.{isWide}
@@ -21,7 +19,6 @@ use Rattle.refinement.specs.Stores.{World}
 use Rattle.refinement.specs.Calls.{seenLine}
 use Rattle.refinement.specs.Reference.{Reference, idle, readLine}
 use Rattle.refinement.proofs.Between.{Between, between-valid, between-durable, between-narrow, between-held, between-opened, between-quiet, between-pending}
-use Rattle.refinement.proofs.Copies.{names-once}
 use Rattle.refinement.proofs.Invariant.{Never, Quiet, not-wide}
 use Rattle.refinement.proofs.Seen.{seen-line}
 use Rattle.refinement.proofs.Viewed.{Viewed, durable-viewed}
@@ -34,7 +31,6 @@ pub record Standing (past : List ℕ) (v : World) (b : Reference) : Type 0 where
   pub sixty-four : length (v .st .writers .held) ≡ 64
   pub keys : length (v .st .wide .keys) ≡ 64
   pub viewed : Viewed past (v .st) (v .image) b
-  pub names : Once (frames (v .st .sizes)) (frameNames (word (v .image)) (v .st .sizes) (v .st .table))
   pub busy : (b .work ≡ idle → ⊥) → isIdle (v .st .pending .op) ≡ false
   -- where nothing is pending: the book has nothing under way and the same wide writer; the keys are in the image; each writer
   -- sees the book's lines; and without a wide one all is quiet
@@ -59,7 +55,6 @@ between-standing v b h =
       sixty-four = between-held v b h;
       keys = ap (λ (d : Wide). length (d .keys)) (N .state);
       viewed = durable-viewed (v .st) (v .image) b ok D N;
-      names = names-once (v .st) (v .image) ok D;
       busy = between-pending v b h;
       work-idle = λ e. between-quiet v b h e .work;
       none-pending = λ e. between-quiet v b h e .pending;

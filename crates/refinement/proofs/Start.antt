@@ -27,6 +27,8 @@ use Rattle.refinement.specs.Reference.{blank}
 use Rattle.refinement.proofs.Invariant.{Quiet}
 use Rattle.refinement.proofs.Mounted.{Committed, mounted-quiet}
 use Rattle.refinement.proofs.Names.{owned-low, committed-owned}
+use Rattle.replay.specs.Map.{pageFrames, mapFrom}
+use Rattle.mount.proofs.Verdict.{mapIn}
 
 zero-line : flat (tab 8 (λ k. 0)) ≡ tab 64 (λ i. 0)
 unfolding flat bytesOf tab
@@ -40,14 +42,16 @@ module _ (z : Sizes) (ok : sizesOk z ≡ true) (buffer : List ℕ) (bytes : Byte
   fresh-committed p l h k =
       let g : Legal z = legal z ok in
       let r : ℕ → ℕ = word (formatted z buffer) in
-      let f : ℕ = frameOf r z (freshView z .table) p l in
+      let own : ℕ → ℕ = pageFrames r in
+      let f : ℕ = frameOf own z (freshView z .table) p l in
       let once = subst (Once (frames z)) (view-names (formatted z buffer) (freshView z) (fresh-shows z g buffer fits)) (fresh-taken z g (length (formatted z buffer)) long .names) in
-      let low : f < frames z = owned-low r z (freshView z .table) g once p f h (committed-owned r z (freshView z .table) g once p l) in
+      let low : f < frames z = owned-low own z (freshView z .table) g once p f h (committed-owned own z (freshView z .table) g once p l) in
       line-words (formatted z buffer) z f l (bytes-formatted z g buffer fits bytes) low k long
       ∙ ap flat (tab-ext 8 (λ j. r (lineWord z f l + j)) (λ j. 0) (λ j m. formatted-zero z g buffer fits (lineWord z f l + j) (omega arith) (omega arith)))
       ∙ zero-line
 
   pub fresh-quiet : Quiet (drop (imageLength z) buffer) (freshState z) (formatted z buffer) blank
+  unfolding mapIn mapFrom
   fresh-quiet =
       let g : Legal z = legal z ok in
       mounted-quiet (formatted z buffer) (freshView z) blank (bytes-formatted z g buffer fits bytes) (drop-formatted z g buffer fits (imageLength z) (omega arith)) (fresh-shows z g buffer fits)

@@ -9,20 +9,20 @@ use Rattle.layout.specs.Layout.{Legal}
 use Rattle.layout.proofs.LayoutLaws.{legal, legal-ok}
 use Rattle.replay.specs.Table.{slotIn}
 use Rattle.journal.proofs.Ring.{Positions, positions, positions-ok}
-use Rattle.state.specs.State.{State}
+use Rattle.state.specs.State.{State, ownFrame}
 use Rattle.state.specs.Held.{isOpen, heldOk}
 use Rattle.state.specs.Wide.{isWide, wideOk}
 use Rattle.entries.proofs.EntryLaws.{Right}
 use Rattle.validity.specs.Validity.{slotsOk, lastsOk, preparedOk, pendingOk, stateOk}
 use Rattle.validity.proofs.Ranged.{slots-good}
-use Rattle.refinement.proofs.ValidSlots.{SlotsFine, slots-fine, shapes-ok, pages-ok, frames-ok}
+use Rattle.refinement.proofs.ValidSlots.{SlotsFine, slots-fine, shapes-ok, pages-ok, names-ok, kept-ok}
 use Rattle.refinement.proofs.ValidWriters.{HeldFine, held-fine, held-ok, PreparedFine, prepared-fine, prepared-ok, WideFine, wide-right, wide-fine, wide-ok}
 use Rattle.refinement.proofs.ValidLasts.{lastAt, LastsFine, lasts-fine, lasts-ok}
 
 pub record Valid (st : State) : Type 0 where
   pub legal : Legal (st .sizes)
   pub positions : Positions (st .sizes) (st .head) (st .tail)
-  pub slots : SlotsFine (st .sizes) (slotIn (st .table))
+  pub slots : SlotsFine (st .sizes) (ownFrame st) (slotIn (st .table))
   pub held : HeldFine (st .sizes) (slotIn (st .table)) (st .writers .opened) (st .writers .held)
   pub next-low : st .next < st .sizes .slots
   pub lasts : LastsFine (st .sizes) (st .head) (st .tail) (lastAt (st .table))
@@ -37,7 +37,7 @@ narrow st w v low o n l = contradicts o (v .wide l .closed w low (λ e. eqb-fals
 
 -- the parts of row 8
 pub record Parts (st : State) : Type 0 where
-  pub slots : slotsOk (st .sizes) (st .head) (st .tail) (st .table) ≡ true
+  pub slots : slotsOk (st .sizes) (st .head) (st .tail) (st .table) (ownFrame st) ≡ true
   pub held : heldOk (st .sizes) (st .table .page) (st .writers .opened) (st .writers .held) ≡ true
   pub next : ltb (st .next) (st .sizes .slots) ≡ true
   pub lasts : lastsOk (st .sizes) (st .head) (st .tail) (st .table .last) ≡ true
@@ -48,7 +48,7 @@ pub record Parts (st : State) : Type 0 where
 pub parts : (st : State) → stateOk st ≡ true → Parts st
 unfolding stateOk
 parts st e =
-    let a = slotsOk (st .sizes) (st .head) (st .tail) (st .table) in
+    let a = slotsOk (st .sizes) (st .head) (st .tail) (st .table) (ownFrame st) in
     let b = heldOk (st .sizes) (st .table .page) (st .writers .opened) (st .writers .held) in
     let c = ltb (st .next) (st .sizes .slots) in
     let d = lastsOk (st .sizes) (st .head) (st .tail) (st .table .last) in
@@ -72,11 +72,11 @@ parts st e =
 pub valid : (st : State) → stateOk st ≡ true → Valid st
 valid st e =
     let h = parts st e in
-    let g = slots-good (st .sizes) (st .head) (st .tail) (st .table) (h .slots) in
+    let g = slots-good (st .sizes) (st .head) (st .tail) (st .table) (ownFrame st) (h .slots) in
     record {
       legal = legal (st .sizes) (g .sizes);
       positions = positions (st .sizes) (st .head) (st .tail) (g .positions);
-      slots = slots-fine (st .sizes) (st .table) (g .shapes) (g .pages) (g .frames);
+      slots = slots-fine (st .sizes) (ownFrame st) (st .table) (legal (st .sizes) (g .sizes)) (g .shapes) (g .pages) (g .names) (g .kept);
       held = held-fine (st .sizes) (st .table) (st .writers .opened) (st .writers .held) (h .held);
       next-low = ltb-true (st .next) (st .sizes .slots) (h .next);
       lasts = lasts-fine (st .sizes) (st .head) (st .tail) (st .table) (h .lasts);
@@ -94,9 +94,10 @@ valid-ok st v =
     rw (
       legal-ok z (v .legal),
       positions-ok z (st .head) (st .tail) (v .positions),
-      shapes-ok z t (v .legal) (v .slots),
-      pages-ok z t (v .legal) (v .slots),
-      frames-ok z t (v .legal) (v .slots),
+      shapes-ok z (ownFrame st) t (v .legal) (v .slots),
+      pages-ok z (ownFrame st) t (v .legal) (v .slots),
+      names-ok z (ownFrame st) t (v .legal) (v .slots),
+      kept-ok z (ownFrame st) t (v .legal) (v .slots),
       held-ok z t (st .writers .opened) (st .writers .held) (v .held),
       lt-ltb (st .next) (z .slots) (v .next-low),
       lasts-ok z (st .head) (st .tail) t (v .lasts),

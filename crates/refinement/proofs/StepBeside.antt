@@ -74,7 +74,7 @@ module _ (st : State) where
   unlogged Checkpoint s e x = x
 
   -- its stores go before the entries
-  below : (op : Op) → Beside op → st .pending .op ≡ op → stateOk st ≡ true → Sixteen (st .table) → (img : List ℕ) (i : ℕ) → storeAt st img op i < entryWord (st .sizes) 0
+  below : (op : Op) → Beside op → st .pending .op ≡ op → stateOk st ≡ true → Sixteen (st .table) → (img : List ℕ) (i : ℕ) → storeAt st op i < entryWord (st .sizes) 0
   below (Consolidate p) s e ok full img i = consolidate-in st ok p i (pends st (Consolidate p) ok e refl .taken)
   below Checkpoint s e ok full img i = checkpoint-in st ok i
 
@@ -134,14 +134,14 @@ module _ {past : List ℕ} (st : State) (img : List ℕ) (b : Reference) (G : Lo
   abbrev image : List ℕ
   image = storeMade st img op m
 
-  low : storeAt st img op m < entryWord (st .sizes) 0
+  low : storeAt st op m < entryWord (st .sizes) 0
   low = below st op s is (G .valid) full img m
 
-  fits : 8 * storeAt st img op m + 8 ≤ length img
+  fits : 8 * storeAt st op m + 8 ≤ length img
   fits = omega (arith, low, durable-fits past (completed st Copy) img b (G .durable))
 
   entries : Entries st image b (Logged (st .wide) (st .pending .op))
-  entries = entries-kept st img b (Logged (st .wide) (st .pending .op)) (storeAt st img op m) _ fits low (G .entries)
+  entries = entries-kept st img b (Logged (st .wide) (st .pending .op)) (storeAt st op m) _ fits low (G .entries)
 
   -- the reference machine after the store
   abbrev left : ℕ
@@ -189,7 +189,7 @@ ends : {past : List ℕ} (st : State) (img : List ℕ) (b : Reference) (G : Logg
 ends st img b G (Consolidate p) is s B last =
     let E = last-entries st img b G (Consolidate p) is s B in
     regain (completed st (Consolidate p)) (image st img b G (Consolidate p) is s B) (c st img b G (Consolidate p) is s B)
-    (consolidate-valid st p (G .valid) (full st img b G (Consolidate p) is s B) (pends st (Consolidate p) (G .valid) is refl .taken))
+    (consolidate-valid st p (G .valid) (full st img b G (Consolidate p) is s B) (G .durable .map-long) (pends st (Consolidate p) (G .valid) is refl .taken))
     (G .low) (G .book) (G .four) (G .sixty-four) (G .alone) (record { keys = E .keys; line = E .line; no-writes = E .no-writes }) (λ B. absurd (B .doing))
     (last-next st img b G (Consolidate p) is s B last)
 ends st img b G Checkpoint is s B last =

@@ -16,6 +16,7 @@ use Rattle.words.specs.Words.{word, store}
 use Rattle.words.proofs.WordLaws.{length-store, bytes-store, drop-store}
 use Rattle.replay.specs.declared.Table.{Table}
 use Rattle.replay.specs.Table.{slotIn, lastIn, noPosition}
+use Rattle.replay.specs.Map.{pageFrames}
 use Rattle.mount.proofs.Emptied.{Copied, unrecorded, emptied, emptied-view, emptied-taken}
 use Rattle.mount.proofs.LastRecords.{last-record}
 use Rattle.replay.proofs.Tables.{Sixteen, one-value}
@@ -35,7 +36,7 @@ use Rattle.refinement.specs.Reference.{Reference, idle, under, nothing, 
 use Rattle.refinement.proofs.Copies.{durable-legal, durable-fits}
 use Rattle.refinement.proofs.Invariant.{TakenOnly, Behind, Durable, Writing, Never, Changing, Doing, Quiet, Busy, Related}
 use Rattle.refinement.proofs.CheckpointMid.{recorded, slot-stored, at-slot, value-slot, at-tail, value-tail, checkpoint-mid}
-use Rattle.refinement.proofs.HeaderStore.{header-fits, header-page, header-line, header-copy}
+use Rattle.refinement.proofs.HeaderStore.{header-fits, header-page, header-line, header-copy, header-home}
 use Rattle.refinement.proofs.Records.{stored-kept}
 use Rattle.refinement.proofs.Stepping.{needs-made, step-mid}
 use Rattle.refinement.proofs.StepLast.{step-last}
@@ -74,7 +75,7 @@ module _ (past : List ℕ) (st : State) (img : List ℕ) (b : Reference) (D : Du
       ∙ ap (λ (y : Sizes). word img (recordWord y (lastIn d s) + 1 + k)) (sym (D .sizes-same))
       ∙ last-record img (D .view) (D .shows) (D .mounts .legal) s l f .words k h
 
-  behind-after : Behind (word after) z (unrecorded d) (withoutLasts z (st .table))
+  behind-after : Behind (pageFrames (word after)) z (unrecorded d) (withoutLasts z (st .table))
   behind-after =
       let full : Sixteen (st .table) = D .behind .sixteen in
       let g : Legal z = durable-legal past st img b D in
@@ -84,7 +85,7 @@ module _ (past : List ℕ) (st : State) (img : List ℕ) (b : Reference) (D : Du
         slot-same =
             λ s l.
             ⊎-elim inl
-            (λ (q : TakenOnly (word img) z d (st .table) s).
+            (λ (q : TakenOnly (pageFrames (word img)) z d (st .table) s).
             inr (record { page-low = q .page-low; original = q .original ∙ sym (header-page img z tailWord (st .head) (omega arith) whole (slotIn (st .table) s .page)); bitmap = q .bitmap; was-free = q .was-free; unslotted = q .unslotted }))
             (D .behind .slot-same s l);
       }
@@ -110,6 +111,8 @@ module _ (past : List ℕ) (st : State) (img : List ℕ) (b : Reference) (D : Du
         tail-same = D .head-same;
         count-same = D .count-same;
         behind = behind-after;
+        map-long = D .map-long;
+        own = λ p l. D .own p l ∙ sym (header-home img z tailWord (st .head) (omega arith) whole (st .table) p);
         committed = λ p l low line. header-copy img z tailWord (st .head) (omega arith) whole (st .table) p l ∙ D .committed p l low line;
       }
 
@@ -158,7 +161,7 @@ module _ (past : List ℕ) (st : State) (img : List ℕ) (b : Reference) (B : Bu
   end = store img tailWord (st .head)
 
   all-landed : m ≡ 3 * recorded st → (j : ℕ) → j < 3 * recorded st → word img (checkpointAt st j) ≡ checkpointValue st img j
-  all-landed e j l = subst (λ (o : Op). word img (storeAt st img o j) ≡ storeValue st img o j) is (B .landed j (omega arith))
+  all-landed e j l = subst (λ (o : Op). word img (storeAt st o j) ≡ storeValue st img o j) is (B .landed j (omega arith))
 
   -- the image shows no live record, and the slots that it showed
   pub checkpoint-shows : m ≡ 3 * recorded st → Shows end (emptied (B .durable .view))

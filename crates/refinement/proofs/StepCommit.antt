@@ -20,6 +20,7 @@ use Rattle.journal.specs.declared.Record.{Record}
 use Rattle.replay.specs.declared.Table.{Table}
 use Rattle.journal.specs.Records.{position, wordOfRecord}
 use Rattle.replay.specs.Table.{slotIn, replay, frameNames}
+use Rattle.replay.specs.Map.{pageFrames}
 use Rattle.mount.proofs.Append.{Appendable, Landed, appended, append-view, append-taken}
 use Rattle.replay.proofs.Tables.{Sixteen}
 use Rattle.mount.proofs.Verdict.{Taken, namesIn}
@@ -44,9 +45,9 @@ use Rattle.refinement.specs.Reference.{Reference, Cell, laidOver, idle, 
 use Rattle.refinement.proofs.Invariant.{Behind, Durable, holds, Writing, Never, Changing, Quiet, Busy, Related, Narrow, not-wide}
 use Rattle.refinement.proofs.CommitCopies.{names-kept, frame-held, frame-other, other-after, closed-none, others-keep, not-both}
 use Rattle.refinement.proofs.CommitMid.{ownView, own-shows, own-mounts, commit-pending, count, commit-names, commit-right, at-record, value-record, at-head, value-head, commit-needs, commit-doing, commit-on}
-use Rattle.refinement.proofs.CommitNames.{behind-shapes, behind-apart, behind-more, once-more}
+use Rattle.refinement.proofs.CommitNames.{behind-shapes, behind-apart, behind-more, once-more, same-home}
 use Rattle.refinement.proofs.Copies.{names-once, durable-fits}
-use Rattle.refinement.proofs.HeaderStore.{header-fits, header-page, header-line, header-copy}
+use Rattle.refinement.proofs.HeaderStore.{header-fits, header-page, header-line, header-copy, header-home}
 use Rattle.refinement.proofs.CallMounted.{view-sixteen}
 use Rattle.refinement.proofs.StoreKept.{behind-ext}
 use Rattle.refinement.proofs.Records.{Stored}
@@ -80,8 +81,8 @@ module _ (past : List ℕ) (st : State) (img : List ℕ) (b : Reference) (ok : s
   sixteen : Sixteen d
   sixteen = view-sixteen img (D .view) (D .shows)
 
-  behind : Behind (word img) z (replay z (st .head) n new d) (commitTable st w)
-  behind = behind-more (word img) z (st .head) n new d (st .table) legal sixteen (D .behind) (good st ok .pages) (commit-names st w)
+  behind : Behind (pageFrames (word img)) z (replay z (st .head) n new d) (commitTable st w)
+  behind = behind-more (pageFrames (word img)) z (st .head) n new d (st .table) legal sixteen (D .behind) (good st ok .pages) (commit-names st w)
 
   can-append : Appendable before n new
   can-append = record { legal = legal; positions = valid st ok .positions; room = T .fits; right = commit-right st w ok T }
@@ -99,7 +100,7 @@ module _ (past : List ℕ) (st : State) (img : List ℕ) (b : Reference) (ok : s
     names : Once (frames z) (namesIn now)
     unfolding frameNames
     names =
-        once-more (word img) z (st .head) n new d (st .table) legal sixteen (D .behind) (good st ok .pages) (commit-names st w)
+        once-more (pageFrames (word img)) z (st .head) n new d (st .table) legal sixteen (D .behind) (good st ok .pages) (commit-names st w)
         (names-kept st w ok (D .behind .sixteen) T) (good (completed st (Commit w)) ok′ .pages) (names-once st img ok D)
 
     takes : Taken (length img) now
@@ -107,12 +108,12 @@ module _ (past : List ℕ) (st : State) (img : List ℕ) (b : Reference) (ok : s
         let t : Table = commitTable st w in
         let e : Table = replay z (st .head) n new d in
         append-taken img before (own-shows past st img b D) n new can-append (own-mounts past st img b D)
-        (behind-shapes (word img) z e t behind (good (completed st (Commit w)) ok′ .shapes))
-        (behind-apart (word img) z e t behind (good (completed st (Commit w)) ok′ .pages))
+        (behind-shapes (pageFrames (word img)) z e t behind (good (completed st (Commit w)) ok′ .shapes))
+        (behind-apart (pageFrames (word img)) z e t behind (good (completed st (Commit w)) ok′ .pages))
         names
 
     -- the copies are where they should be
-    module _ (machine : Reference) (copies : (p l : ℕ) → p < z .pages → l < 64 → lineBytes img z (frameOf (word img) z (commitTable st w) p l) l ≡ recallLine machine p l) where
+    module _ (machine : Reference) (copies : (p l : ℕ) → p < z .pages → l < 64 → lineBytes img z (frameOf (pageFrames (word img)) z (commitTable st w) p l) l ≡ recallLine machine p l) where
       pub committed-durable : Durable past (completed st (Commit w)) headStored machine
       committed-durable =
           let x : ℕ = position z (st .head) n in
@@ -128,8 +129,14 @@ module _ (past : List ℕ) (st : State) (img : List ℕ) (b : Reference) (ok : s
             tail-same = refl;
             count-same = D .count-same;
             behind =
-                behind-ext (word img) (word headStored) z (replay z (st .head) n new d) (commitTable st w) legal behind
+                behind-ext (pageFrames (word img)) (pageFrames (word headStored)) z (replay z (st .head) n new d) (commitTable st w) legal behind
                 (λ p _ _. header-page img z headWord x (omega arith) whole p);
+            map-long = D .map-long;
+            own =
+                λ p l.
+                D .own p l
+                ∙ sym (header-home img z headWord x (omega arith) whole (commitTable st w) p
+                ∙ same-home (pageFrames (word img)) z (st .table) (commitTable st w) (names-kept st w ok (D .behind .sixteen) T) p);
             committed = λ p l lp ll. header-copy img z headWord x (omega arith) whole (commitTable st w) p l ∙ copies p l lp ll;
           }
 
@@ -181,14 +188,14 @@ module _ (past : List ℕ) (st : State) (img : List ℕ) (b : Reference) (ok : s
   none-laid p l lp ll h i m = ap (λ (c : Cell). laidOver c (b .pages p l i)) (writing .no-writes w p l i (can .writer-low) lp ll m h)
 
   copies : (p l : ℕ) → p < st .sizes .pages → l < 64
-      → lineBytes img (st .sizes) (frameOf (word img) (st .sizes) (commitTable st w) p l) l ≡ recallLine machine p l
+      → lineBytes img (st .sizes) (frameOf (pageFrames (word img)) (st .sizes) (commitTable st w) p l) l ≡ recallLine machine p l
   copies p l lp ll =
       caseOn (holds st w p l)
       (λ h.
-      ap (λ (f : ℕ). lineBytes img (st .sizes) f l) (frame-held st w ok (D₀ .behind .sixteen) can (word img) p l h)
+      ap (λ (f : ℕ). lineBytes img (st .sizes) f l) (frame-held st w ok (D₀ .behind .sixteen) can (pageFrames (word img)) p l h)
       ∙ writing .own-copy w p l (can .writer-low) lp ll (λ x. x) h)
       (λ h.
-      ap (λ (f : ℕ). lineBytes img (st .sizes) f l) (frame-other st w ok (D₀ .behind .sixteen) can (word img) p l h)
+      ap (λ (f : ℕ). lineBytes img (st .sizes) f l) (frame-other st w ok (D₀ .behind .sixteen) can (pageFrames (word img)) p l h)
       ∙ D₀ .committed p l lp ll
       ∙ pages-same (withWork idle b) w p l (none-laid p l lp ll h))
 
@@ -245,7 +252,7 @@ module _ (past : List ℕ) (st : State) (img : List ℕ) (b : Reference) (ok : s
 module _ (past : List ℕ) (st : State) (img : List ℕ) (b : Reference) (B : Busy past st img b) (w : ℕ) (e : st .pending .op ≡ Commit w)
     (last : st .pending .made ≡ 4 * count st w) where
   pub records-there : Stored st img w
-  records-there i l = subst (λ (q : Op). (j : ℕ) → j < st .pending .made → word img (storeAt st img q j) ≡ storeValue st img q j) e (B .landed) i (omega arith)
+  records-there i l = subst (λ (q : Op). (j : ℕ) → j < st .pending .made → word img (storeAt st q j) ≡ storeValue st img q j) e (B .landed) i (omega arith)
 
   pub image-is : storeMade st img (Commit w) (st .pending .made) ≡ store img headWord (commitHead st w)
   image-is =

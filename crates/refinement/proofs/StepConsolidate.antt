@@ -10,7 +10,7 @@ use lib.ListN.{length}
 use borrow.Author.Tests.{ltb-true, ltb-false, eqb-true, eqb-false}
 use Rattle.bounded.specs.Rows.{refusal}
 use Rattle.bounded.proofs.Tests.{caseOn, and-left}
-use Rattle.layout.specs.Layout.{headWord, pageWord, imageLength}
+use Rattle.layout.specs.Layout.{headWord, imageLength}
 use Rattle.image.specs.Lines.{lineBytes}
 use Rattle.words.specs.Words.{word, store}
 use Rattle.journal.specs.declared.Slot.{Slot}
@@ -27,7 +27,7 @@ use Rattle.state.specs.Held.{heldAt}
 use Rattle.operations.specs.Operations.{slotFor, slotted, opRows, needs}
 use Rattle.operations.proofs.Taken.{ConsolidateTaken, consolidate-taken}
 use Rattle.refinement.specs.Frames.{pageSlot, otherFrame}
-use Rattle.refinement.specs.Consolidate.{copyTo, copyFrom, copyStoreCount, freeingRecord, consolidateAt, consolidateValue, consolidateTable}
+use Rattle.refinement.specs.Consolidate.{copyFrom, copyStoreCount, freeingRecord, consolidateAt, consolidateValue, consolidateTable}
 use Rattle.refinement.specs.Stores.{stepped, completed, storeAt, storeValue, storeMade}
 use Rattle.refinement.proofs.Pending.{Pends, pends}
 use Rattle.refinement.proofs.ConsolidateValid.{consolidate-valid}
@@ -39,7 +39,7 @@ use Rattle.refinement.proofs.Copies.{durable-fits}
 use Rattle.refinement.proofs.ConsolidateStores.{Part, part-of, at-head, value-head}
 use Rattle.refinement.proofs.ConsolidateSlot.{Freed, freed}
 use Rattle.refinement.proofs.ConsolidateMid.{held-other, consolidate-mid}
-use Rattle.refinement.proofs.ConsolidateLast.{frees-state, frees-mounted, page-landed, freed-shows, consolidated-durable}
+use Rattle.refinement.proofs.ConsolidateLast.{frees-state, freed-shows, consolidated-durable}
 use Rattle.refinement.proofs.FreeNames.{Frees, slot-gone, slot-kept, slot-in-kept}
 use Rattle.refinement.proofs.HeaderStore.{header-line}
 use Rattle.refinement.proofs.Stepping.{Mid, needs-made, step-mid}
@@ -114,7 +114,7 @@ module _ (past : List ℕ) (st : State) (img : List ℕ) (b : Reference) (B : Bu
   under-way : Pends st (Consolidate p)
   under-way = pends st (Consolidate p) (B .valid) is refl
 
-  no-row : refusal (opRows st (Consolidate p) (st .pending .frame)) ≡ 0
+  no-row : refusal (opRows st (Consolidate p)) ≡ 0
   no-row = under-way .taken
 
   taken : ConsolidateTaken st p
@@ -149,7 +149,7 @@ module _ (past : List ℕ) (st : State) (img : List ℕ) (b : Reference) (B : Bu
   after = store img headWord (position (st .sizes) (st .head) 1)
 
   all-landed : m ≡ copyStoreCount t + 5 → (j : ℕ) → j < copyStoreCount t + 5 → word img (consolidateAt st p j) ≡ consolidateValue st img p j
-  all-landed e j l = subst (λ (o : Op). word img (storeAt st img o j) ≡ storeValue st img o j) is (B .landed j (omega arith))
+  all-landed e j l = subst (λ (o : Op). word img (storeAt st o j) ≡ storeValue st img o j) is (B .landed j (omega arith))
 
   sixteen : Sixteen (B .durable .view .table)
   sixteen = view-sixteen img (B .durable .view) (B .durable .shows)
@@ -158,17 +158,11 @@ module _ (past : List ℕ) (st : State) (img : List ℕ) (b : Reference) (B : Bu
   pub consolidate-shows : m ≡ copyStoreCount t + 5 → Shows after (appended (word img) (B .durable .view) 1 (freeingRecord st p))
   consolidate-shows e = freed-shows past st img b (B .valid) (B .durable) p F (all-landed e) sixteen
 
-  pub consolidate-page : m ≡ copyStoreCount t + 5 → word img (pageWord p) ≡ copyTo t
-  consolidate-page e = page-landed past st img b (B .valid) (B .durable) p F (all-landed e)
-
-  pub consolidate-frees : Frees (st .sizes) (st .head) (freeingRecord st p) (B .durable .view .table) (slotFor st p) p (copyFrom t)
-  consolidate-frees = frees-mounted past st img b (B .valid) (B .durable) p F sixteen
-
   complete : m ≡ copyStoreCount t + 5 → Quiet past (completed st (Consolidate p)) after (withWork idle b)
   complete e =
       let full : Sixteen (st .table) = B .durable .behind .sixteen in
       record {
-        valid = consolidate-valid st p (B .valid) full no-row;
+        valid = consolidate-valid st p (B .valid) full (B .durable .map-long) no-row;
         pending = refl;
         durable = consolidated-durable past st img b (B .valid) (B .durable) p F (all-landed e) sixteen;
         writers =

@@ -34,7 +34,7 @@ use Rattle.refinement.proofs.CallAsked.{needs-asked}
 use Rattle.refinement.proofs.CommitMid.{commit-mid}
 use Rattle.refinement.proofs.EventReference.{rows-keep, moved-quiet}
 use Rattle.refinement.proofs.EventKept.{durable-beside}
-use Rattle.refinement.proofs.EventReady.{Ready, Wrote, write-row, first-wrote, second-wrote, lines-wrote, wrote-frame, one-slot, commit-five, commit-row}
+use Rattle.refinement.proofs.EventReady.{Ready, Wrote, write-row, first-wrote, second-wrote, lines-wrote, one-slot, commit-five, commit-row}
 use Rattle.refinement.proofs.EventRows.{event-needs, first-sizes, lines-sizes, done-sizes}
 use Rattle.refinement.proofs.EventStores.{lines-eight, at-first, value-first, at-second, value-second, at-commit, value-commit}
 use Rattle.refinement.proofs.Invariant.{Durable, Quiet, Busy, not-wide}
@@ -54,9 +54,9 @@ write-eight : (s : State) (w p l o n : ℕ) → needs s (Write w p l o n) ≡ 8
 unfolding needs
 write-eight s w p l o n = refl
 
-done-is : (s : State) (l : ℕ) (words : List ℕ) (f : ℕ) → completed (lineAsked s l words f) (Write 1 0 l 0 8) ≡ lineDone s l words f
+done-is : (s : State) (l : ℕ) (words : List ℕ) → completed (lineAsked s l words) (Write 1 0 l 0 8) ≡ lineDone s l words
 unfolding lineDone
-done-is s l words f = refl
+done-is s l words = refl
 
 event-is : (st : State) (k m : ℕ) → completed (commitAsked st k m) (Commit 1) ≡ eventDone st k m
 unfolding eventDone commitRecordOf
@@ -81,9 +81,6 @@ module _ (past : List ℕ) (st : State) (img : List ℕ) (b : Reference) (M : Mo
   abbrev n : ℕ
   n = st .pending .made
 
-  abbrev f : ℕ
-  f = st .pending .frame
-
   abbrev event : Op
   event = Event (M .kind) (M .meter) (M .amount)
 
@@ -91,13 +88,13 @@ module _ (past : List ℕ) (st : State) (img : List ℕ) (b : Reference) (M : Mo
   abbrev base : Reference
   base = withWork idle b
 
-  E : EventTaken st k m f
-  E = event-taken st k m a f (pends st event (M .valid) (M .event) refl .taken)
+  E : EventTaken st k m
+  E = event-taken st k m a (pends st event (M .valid) (M .event) refl .taken)
 
-  W₁ : Wrote (firstDone st k m) k m f
+  W₁ : Wrote (firstDone st k m) k m
   W₁ = first-wrote st k m a (M .valid) (M .durable .behind .sixteen) (M .sixty-four) (M .four) E
 
-  pub W : Wrote (linesDone st k m) k m f
+  pub W : Wrote (linesDone st k m) k m
   W = lines-wrote st k m a (M .valid) (M .durable .behind .sixteen) (M .sixty-four) (M .four) E
 
   -- ---- what a step of it comes to
@@ -178,19 +175,19 @@ module _ (past : List ℕ) (st : State) (img : List ℕ) (b : Reference) (M : Mo
       record {
         low = omega arith;
         busy =
-            asked-busy s i (firstReference ms k m a base) (Write 1 0 o 0 8) (st .pending .second) f (secondTask ms k m a base) Q (ap not (not-wide s (firstReference ms k m a base) 1 (Q .narrow) (omega arith))) (omega arith)
-            (write-row s k m f o (st .pending .second) (W₁ .ready) (omega (arith, own-range k m (E .known) .1)) (W₁ .ready .own-free))
-            (bytes, bytes-bytesOf 8 _, omega (arith, length-bytes 8 (rolled ms o (meterOn b o) a)), all-left s (Write 1 0 o 0 8) (st .pending .second) f (secondTask ms k m a base), second-words t, wrote-frame s k m f W₁ i o (st .pending .second), second-bytes t);
+            asked-busy s i (firstReference ms k m a base) (Write 1 0 o 0 8) (st .pending .second) (secondTask ms k m a base) Q (ap not (not-wide s (firstReference ms k m a base) 1 (Q .narrow) (omega arith))) (omega arith)
+            (write-row s k m o (st .pending .second) (W₁ .ready) (omega (arith, own-range k m (E .known) .1)) (W₁ .ready .own-free))
+            (bytes, bytes-bytesOf 8 _, omega (arith, length-bytes 8 (rolled ms o (meterOn b o) a)), all-left s (Write 1 0 o 0 8) (st .pending .second) (secondTask ms k m a base), second-words t, second-bytes t);
       }
 
   -- the commit
   commit-under : (i : List ℕ) → Quiet past (linesDone st k m) i (linesReference ms k m a base) → Under past (commitAsked st k m) i (committing 1) (linesReference ms k m a base) 0
   commit-under i Q =
       let s = linesDone st k m in
-      let some : 0 < needs s (Commit 1) = omega (arith, commit-five s k m f W) in
-      let e = all-left s (Commit 1) (replicate 8 0) 0 (committing 1) in
-      let B = asked-busy s i (linesReference ms k m a base) (Commit 1) (replicate 8 0) 0 (committing 1) Q (ap not (not-wide s (linesReference ms k m a base) 1 (Q .narrow) (omega arith))) some (commit-row s k m f W) e in
-      record { low = rw (needs-asked s (replicate 8 0) 0 (Commit 1) (Commit 1)) some; busy = subst (λ (w : Work). Busy past (withMade (commitAsked st k m) 0) i (withWork w (linesReference ms k m a base))) e B }
+      let some : 0 < needs s (Commit 1) = omega (arith, commit-five s k m W) in
+      let e = all-left s (Commit 1) (replicate 8 0) (committing 1) in
+      let B = asked-busy s i (linesReference ms k m a base) (Commit 1) (replicate 8 0) (committing 1) Q (ap not (not-wide s (linesReference ms k m a base) 1 (Q .narrow) (omega arith))) some (commit-row s k m W) e in
+      record { low = rw (needs-asked s (replicate 8 0) (Commit 1) (Commit 1)) some; busy = subst (λ (w : Work). Busy past (withMade (commitAsked st k m) 0) i (withWork w (linesReference ms k m a base))) e B }
 
   -- ---- a store of an operation of the transaction
 
@@ -221,7 +218,7 @@ module _ (past : List ℕ) (st : State) (img : List ℕ) (b : Reference) (M : Mo
 
     done₁ : j + 1 ≡ 8 → Quiet past (firstDone st k m) i₁ (firstReference ms k m a base)
     done₁ q =
-        subst (λ (s : State). Quiet past s i₁ (firstReference ms k m a base)) (done-is (withOpen st 1) (firstMeter k m) (st .pending .line) f)
+        subst (λ (s : State). Quiet past s i₁ (firstReference ms k m a base)) (done-is (withOpen st 1) (firstMeter k m) (st .pending .line))
         (under-ends past (firstAsked st k m) img (firstTask ms k m a base) base j U refl (q ∙ sym (write-eight (firstAsked st k m) 1 0 (firstMeter k m) 0 8)) refl)
 
     step₁ : Result
@@ -269,7 +266,7 @@ module _ (past : List ℕ) (st : State) (img : List ℕ) (b : Reference) (M : Mo
 
     done₂ : j + 1 ≡ 8 → Quiet past (secondDone st k m) i₂ (secondReference ms k m a base)
     done₂ q =
-        subst (λ (s : State). Quiet past s i₂ (secondReference ms k m a base)) (done-is (firstDone st k m) (ownMeter k m) (st .pending .second) f)
+        subst (λ (s : State). Quiet past s i₂ (secondReference ms k m a base)) (done-is (firstDone st k m) (ownMeter k m) (st .pending .second))
         (under-ends past (secondAsked st k m) img (secondTask ms k m a base) (firstReference ms k m a base) j U refl (q ∙ sym (write-eight (secondAsked st k m) 1 0 (ownMeter k m) 0 8)) refl)
 
     step₂ : Result
@@ -292,7 +289,7 @@ module _ (past : List ℕ) (st : State) (img : List ℕ) (b : Reference) (M : Mo
     i₃ = storeMade (commitAsked st k m) img (Commit 1) j
 
     five : needs (commitAsked st k m) (Commit 1) ≡ 5
-    five = needs-asked (linesDone st k m) (replicate 8 0) 0 (Commit 1) (Commit 1) ∙ commit-five (linesDone st k m) k m f W
+    five = needs-asked (linesDone st k m) (replicate 8 0) (Commit 1) (Commit 1) ∙ commit-five (linesDone st k m) k m W
 
     pub low₃ : j < 5
     low₃ = omega (arith, U .low, five)
@@ -303,7 +300,7 @@ module _ (past : List ℕ) (st : State) (img : List ℕ) (b : Reference) (M : Mo
     durable₃ : j < 4 → Durable past st i₃ b
     durable₃ l =
         beside (commitAsked st k m) (committing 1) (linesReference ms k m a base) j U (lines-sizes st k m)
-        (commit-mid past (withMade (commitAsked st k m) j) img _ (U .busy) 1 refl j (omega (arith, l, one-slot (linesDone st k m) k m f W)))
+        (commit-mid past (withMade (commitAsked st k m) j) img _ (U .busy) 1 refl j (omega (arith, l, one-slot (linesDone st k m) k m W)))
 
     done₃ : j + 1 ≡ 5 → Quiet past (eventDone st k m) i₃ (moved ms k m a (withWork idle b))
     done₃ q =

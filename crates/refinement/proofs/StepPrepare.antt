@@ -60,7 +60,7 @@ module _ (past : List ℕ) (st : State) (img : List ℕ) (b : Reference) (B : Bu
       let M = prepare-mid past st img b B w e m prepare-left in
       let D = mid-durable past st img b (B .durable) (Prepare w) m M in
       let W : Writing st after b Never = mid-writing past st img b (B .durable) (Prepare w) m M (subst (λ (o : Op). Writing st img b (Changing o)) e (B .writers)) in
-      let landed = subst (λ (o : Op). (j : ℕ) → j < m → word img (storeAt st img o j) ≡ storeValue st img o j) e (B .landed) in
+      let landed = subst (λ (o : Op). (j : ℕ) → j < m → word img (storeAt st o j) ≡ storeValue st img o j) e (B .landed) in
       now-prepared st after (withWork idle b) w (B .valid) (prepare-taken st w (pends st (Prepare w) (B .valid) e refl .taken))
       (durable-kept st after b (withWork idle b) (st .next) (st .writers) (st .pending) (λ p l h k. refl) D)
       (record { four = W .four; sixty-four = W .sixty-four; held-low = W .held-low; own-copy = W .own-copy; no-writes = W .no-writes; ready = W .ready })

@@ -18,15 +18,16 @@ use Rattle.image.proofs.LineLaws.{line-words, flat-line}
 use Rattle.words.proofs.Runs.{words-tab}
 use Rattle.journal.specs.declared.Slot.{Slot}
 use Rattle.replay.specs.Table.{slotIn, pagesApart}
+use Rattle.replay.specs.Map.{pageFrames}
 use Rattle.masks.specs.Lines.{inMask}
-use Rattle.state.specs.State.{State}
+use Rattle.state.specs.State.{State, ownFrame}
 use Rattle.state.specs.declared.Op.{Op}
 use Rattle.state.specs.declared.Op.the-variants.{Write}
 use Rattle.state.specs.Held.{heldAt}
 use Rattle.operations.specs.Operations.{slotFor, slotted, needs}
 use Rattle.validity.specs.Validity.{stateOk}
 use Rattle.operations.proofs.Taken.{WriteTaken}
-use Rattle.refinement.specs.Frames.{otherFrame, pageFrame}
+use Rattle.refinement.specs.Frames.{otherFrame}
 use Rattle.refinement.specs.Write.{writeSlot, writeTable}
 use Rattle.refinement.specs.Stores.{stepped, completed, storeAt, storeValue, storeMade}
 use Rattle.refinement.proofs.Pending.{pends}
@@ -39,8 +40,8 @@ use Rattle.refinement.proofs.StoreKept.{unslotted-durable}
 use Rattle.refinement.proofs.Stepping.{Mid, mid-durable, mid-writing, mid-landed}
 use Rattle.refinement.proofs.StepLast.{step-last}
 use Rattle.refinement.proofs.Valid.{good}
-use Rattle.refinement.proofs.WriteTable.{Own, Takes, own-or-takes, page-slot, slot-whole, other-kept, frame-kept, write-behind}
-use Rattle.refinement.proofs.WriteMid.{at-work, write-pending, target-low, given, newLine, new-length, new-bytes, value-is, write-doing, write-mid, page-frame-kept, write-on}
+use Rattle.refinement.proofs.WriteTable.{Own, Takes, own-or-takes, page-slot, slot-whole, other-kept, frame-kept, write-behind, home-kept}
+use Rattle.refinement.proofs.WriteMid.{at-work, write-pending, target-low, given, newLine, new-length, new-bytes, value-is, write-doing, write-mid, write-on}
 use Rattle.refinement.proofs.WriteHeld.{same-or-not, holds-new, holds-kept, mask-other, held-slot-kept, held-low-kept, writes-kept, line-same}
 
 module _ (past : List ℕ) (st : State) (img : List ℕ) (b : Reference) (B : Busy past st img b) (w p l o n : ℕ) (e : st .pending .op ≡ Write w p l o n)
@@ -69,7 +70,7 @@ module _ (past : List ℕ) (st : State) (img : List ℕ) (b : Reference) (B : Bu
   abbrev target : ℕ
   target = otherFrame (slotIn (st .table) (writeSlot st p)) l
 
-  T : WriteTaken st w p l o n (st .pending .frame)
+  T : WriteTaken st w p l o n
   T = write-pending st w p l o n (B .valid) e
 
   M : Mid past st img b (B .durable) op m
@@ -85,7 +86,7 @@ module _ (past : List ℕ) (st : State) (img : List ℕ) (b : Reference) (B : Bu
   landed : (j : ℕ) → j < 8 → word image (lineWord z target l + j) ≡ getD (st .pending .line) j 0
   landed j h =
       mid-landed past st img b (B .durable) op m M
-      (subst (λ (q : Op). (i : ℕ) → i < m → word img (storeAt st img q i) ≡ storeValue st img q i) e (B .landed)) j (omega arith)
+      (subst (λ (q : Op). (i : ℕ) → i < m → word img (storeAt st q i) ≡ storeValue st img q i) e (B .landed)) j (omega arith)
 
   -- the line is there, whole
   line-there : lineBytes image z target l ≡ readLine machine w p l
@@ -111,11 +112,9 @@ module _ (past : List ℕ) (st : State) (img : List ℕ) (b : Reference) (B : Bu
   legal : Legal z
   legal = durable-legal past st image b D
 
-  home : slotFor st p ≡ z .slots → st .pending .frame ≡ word image (pageWord p)
-  unfolding pageFrame
+  home : slotFor st p ≡ z .slots → ownFrame st p ≡ word image (pageWord p)
   home un =
-      write-doing past st img b B w p l o n e .5
-      ∙ sym (page-frame-kept past st img b B w p l o n e m (getD (st .pending .line) m 0) (omega arith))
+      D .own p (T .args .page-low)
       ∙ ap (λ (c : Bool). cond c (slotIn (st .table) (slotFor st p) .original) (word image (pageWord p))) (le-ltb (slotFor st p) (z .slots) (omega arith))
 
   durable : Durable past after image machine
@@ -131,11 +130,13 @@ module _ (past : List ℕ) (st : State) (img : List ℕ) (b : Reference) (B : Bu
         tail-same = D .tail-same;
         count-same = D .count-same;
         behind =
-            write-behind st p legal (D .behind .sixteen) (T .args .page-low) apart cases (word image) (D .view .table) home
-            (λ un. unslotted-durable (word image) z (D .view .table) (st .table) legal (D .behind) p (T .args .page-low) un) (D .behind);
+            write-behind st p legal (D .behind .sixteen) (T .args .page-low) apart cases (pageFrames (word image)) (D .view .table) home
+            (λ un. unslotted-durable (pageFrames (word image)) z (D .view .table) (st .table) legal (D .behind) p (T .args .page-low) un) (D .behind);
+        map-long = D .map-long;
+        own = λ q lq. D .own q lq ∙ sym (home-kept st p legal (D .behind .sixteen) (T .args .page-low) apart cases (pageFrames (word image)) home q lq);
         committed =
             λ q i lq li.
-            ap (λ (f : ℕ). lineBytes image z f i) (frame-kept st p legal (D .behind .sixteen) (T .args .page-low) apart cases (word image) home q i lq)
+            ap (λ (f : ℕ). lineBytes image z f i) (frame-kept st p legal (D .behind .sixteen) (T .args .page-low) apart cases (pageFrames (word image)) home q i lq)
             ∙ D .committed q i lq li;
       }
 

@@ -36,13 +36,13 @@ use Rattle.refinement.proofs.StoreKept.{Uncommitted, store-fits, durabl
 -- what does not say how many stores are made
 pub durable-made : (past : List ℕ) (st : State) (img : List ℕ) (b : Reference) (n : ℕ) (k : _) → Durable past st img b → Durable past (withMade st n) img (withWork k b)
 durable-made past st img b n k D =
-    record { bytes = D .bytes; past-kept = D .past-kept; view = D .view; shows = D .shows; mounts = D .mounts; sizes-same = D .sizes-same; head-same = D .head-same; tail-same = D .tail-same; count-same = D .count-same; behind = D .behind; committed = D .committed }
+    record { bytes = D .bytes; past-kept = D .past-kept; view = D .view; shows = D .shows; mounts = D .mounts; sizes-same = D .sizes-same; head-same = D .head-same; tail-same = D .tail-same; count-same = D .count-same; behind = D .behind; map-long = D .map-long; own = D .own; committed = D .committed }
 
 pub writing-made : (st : State) (img : List ℕ) (b : Reference) (Being : ℕ → ℕ → ℕ → Type 0) (n : ℕ) (k : _) → Writing st img b Being → Writing (withMade st n) img (withWork k b) Being
 writing-made st img b Being n k W = record { four = W .four; sixty-four = W .sixty-four; held-low = W .held-low; own-copy = W .own-copy; no-writes = W .no-writes; ready = W .ready }
 
 module _ (st : State) (n : ℕ) where
-  pub at-made : (img : List ℕ) (op : Op) (j : ℕ) → storeAt (withMade st n) img op j ≡ storeAt st img op j
+  pub at-made : (img : List ℕ) (op : Op) (j : ℕ) → storeAt (withMade st n) op j ≡ storeAt st op j
   unfolding writeSlot commitAtOf consolidateAt checkpointAtOf eventAt
   at-made img Idle j = refl
   at-made img (Write w p l o k) j = refl
@@ -71,7 +71,7 @@ module _ (st : State) (n : ℕ) where
   value-made img Format j = refl
 
 -- where a store goes is found in the state, but for a wide commit's
-pub at-steady : (st : State) (img img′ : List ℕ) (op : Op) (j : ℕ) → isCopy op ≡ false → storeAt st img op j ≡ storeAt st img′ op j
+pub at-steady : (st : State) (img img′ : List ℕ) (op : Op) (j : ℕ) → isCopy op ≡ false → storeAt st op j ≡ storeAt st op j
 at-steady st img img′ Idle j c = refl
 at-steady st img img′ (Write w p l o n) j c = refl
 at-steady st img img′ (Commit w) j c = refl
@@ -125,11 +125,11 @@ pub record Aside (past : List ℕ) (st : State) (img : List ℕ) (b : Reference)
 
 pub record Mid (past : List ℕ) (st : State) (img : List ℕ) (b : Reference) (D : Durable past st img b) (op : Op) (m : ℕ) : Type 0 where
   pub in-place : isCopy op ≡ false
-  pub inside : 8 * storeAt st img op m + 8 ≤ imageLength (st .sizes)
+  pub inside : 8 * storeAt st op m + 8 ≤ imageLength (st .sizes)
   pub low : storeValue st img op m < 2 ^ 64
-  pub apart : (j : ℕ) → j < m → storeAt st img op m ≡ storeAt st img op j → ⊥
+  pub apart : (j : ℕ) → j < m → storeAt st op m ≡ storeAt st op j → ⊥
   pub stable : (j : ℕ) → j ≤ m → storeValue st (storeMade st img op m) op j ≡ storeValue st img op j
-  pub harmless : (storeValue st img op m ≡ word img (storeAt st img op m)) ⊎ Aside past st img b D op (storeAt st img op m)
+  pub harmless : (storeValue st img op m ≡ word img (storeAt st op m)) ⊎ Aside past st img b D op (storeAt st op m)
 
 -- a word before the frames is no word of a line
 pub aside-before : (past : List ℕ) (st : State) (img : List ℕ) (b : Reference) (D : Durable past st img b) (op : Op) (a : ℕ) → a < frameWord (st .sizes) → Off st img b (Changing op) a → Dead (D .view) a
@@ -139,7 +139,7 @@ aside-before past st img b D op a early off dead =
 
 module _ (past : List ℕ) (st : State) (img : List ℕ) (b : Reference) (D : Durable past st img b) (op : Op) (m : ℕ) (M : Mid past st img b D op m) where
   abbrev a : ℕ
-  a = storeAt st img op m
+  a = storeAt st op m
 
   abbrev w : ℕ
   w = storeValue st img op m
@@ -161,14 +161,14 @@ module _ (past : List ℕ) (st : State) (img : List ℕ) (b : Reference) (D : Du
       (λ (s : Aside past st img b D op a). writing-kept st img b (Changing op) (durable-legal past st img b D) a w (store-fits past st img b D a w (M .inside)) (s .unowned) (s .off) W)
       (M .harmless)
 
-  pub mid-landed : ((j : ℕ) → j < m → word img (storeAt st img op j) ≡ storeValue st img op j) → (j : ℕ) → j < m + 1 → word after (storeAt st after op j) ≡ storeValue st after op j
+  pub mid-landed : ((j : ℕ) → j < m → word img (storeAt st op j) ≡ storeValue st img op j) → (j : ℕ) → j < m + 1 → word after (storeAt st op j) ≡ storeValue st after op j
   mid-landed h j l =
       let fits = store-fits past st img b D a w (M .inside) in
       let n : j < suc m = omega arith in
       ap (word after) (at-steady st after img op j (M .in-place))
       ∙ split-below n
       (λ q. rw q (word-store img a w fits (M .low) ∙ sym (M .stable m (omega arith))))
-      (λ lt. word-store-other img a w (storeAt st img op j) fits (M .apart j lt) ∙ h j lt ∙ sym (M .stable j (omega arith)))
+      (λ lt. word-store-other img a w (storeAt st op j) fits (M .apart j lt) ∙ h j lt ∙ sym (M .stable j (omega arith)))
 
 module _ (past : List ℕ) (st : State) (img : List ℕ) (b : Reference) (B : Busy past st img b) (t : Task) where
   -- facts about the pending operation, where it is op

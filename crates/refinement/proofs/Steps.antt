@@ -175,7 +175,7 @@ module _ (v : World) (e : stateOk (v .st) ≡ true) (i : isIdle (v .st .pending 
       let st = v .st in
       let p = pends st (st .pending .op) e refl i in
       after-steps (λ (x : State). stateOk x ≡ true)
-      (completed-valid st (st .pending .op) e (h .table .sixteen) (h .writers .sixty-four) (h .writers .four) (h .keys) (p .fits) (p .taken)) (λ m l. made-valid st m e i l)
+      (completed-valid st (st .pending .op) e (h .table .sixteen) (h .map) (h .writers .sixty-four) (h .writers .four) (h .keys) (p .fits) (p .taken)) (λ m l. made-valid st m e i l)
 
   pub run-sized : Sized (v .st) → (n : ℕ) → n ≤ left (v .st) → Sized (steppedBy n v .st)
   run-sized h =

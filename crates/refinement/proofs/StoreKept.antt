@@ -18,7 +18,8 @@ use Rattle.words.proofs.Parts.{part-over-other}
 use Rattle.words.proofs.WordLaws.{word-store-other, length-store, bytes-store, drop-store}
 use Rattle.replay.specs.declared.Table.{Table}
 use Rattle.journal.specs.Slots.{noPage}
-use Rattle.replay.specs.Table.{slotIn, slotOf}
+use Rattle.replay.specs.Table.{slotIn, slotOf, homeOf}
+use Rattle.replay.specs.Map.{pageFrames}
 use Rattle.mount.proofs.View.{Read, page, slot-none}
 use Rattle.mount.proofs.Verdict.{Taken}
 use Rattle.mount.proofs.Dead.{Dead, dead-view, store-old}
@@ -66,9 +67,9 @@ unslotted-durable r z d t g h p low none =
     (λ (q : TakenOnly r z d t s). let m : slotIn d s .page ≡ noPage = ap (λ u. u .page) (q .was-free) in omega (arith, g .pages-high))
     (h .slot-same s l))
 
--- the frames of committed lines and the slots that were only taken, by the page words of pages without a slot alone
+-- the homes, the frames of committed lines and the slots that were only taken, by the own frames of pages without a slot alone
 module _ (r r′ : ℕ → ℕ) (z : Sizes) (d t : Table) (g : Legal z) (h : Behind r z d t)
-    (same : (p : ℕ) → p < z .pages → slotOf z d p ≡ z .slots → r′ (pageWord p) ≡ r (pageWord p)) where
+    (same : (p : ℕ) → p < z .pages → slotOf z d p ≡ z .slots → r′ p ≡ r p) where
   pub behind-ext : Behind r′ z d t
   behind-ext =
       record {
@@ -81,6 +82,12 @@ module _ (r r′ : ℕ → ℕ) (z : Sizes) (d t : Table) (g : Legal z) (h : Beh
             inr (record { page-low = q .page-low; original = q .original ∙ sym (same (slotIn t s .page) (q .page-low) (q .unslotted)); bitmap = q .bitmap; was-free = q .was-free; unslotted = q .unslotted }))
             (h .slot-same s l);
       }
+
+  pub home-ext : (p : ℕ) → p < z .pages → homeOf r′ z t p ≡ homeOf r z t p
+  home-ext p low =
+      caseOn (ltb (slotOf z t p) (z .slots))
+      (λ e. rw e)
+      (λ e. rw e (same p low (unslotted-durable r z d t g h p low (slot-none z t p e))))
 
   pub frame-ext : (p l : ℕ) → p < z .pages → frameOf r′ z t p l ≡ frameOf r z t p l
   frame-ext p l low =
@@ -97,7 +104,7 @@ module _ (past : List ℕ) (st : State) (img : List ℕ) (b : Reference) (D : Du
 
   -- word a is no word of a committed line
   abbrev pub Uncommitted : ℕ → Type 0
-  Uncommitted a = (p l k : ℕ) → p < st .sizes .pages → l < 64 → k < 8 → lineWord (st .sizes) (frameOf (word img) (st .sizes) (st .table) p l) l + k ≡ a → ⊥
+  Uncommitted a = (p l k : ℕ) → p < st .sizes .pages → l < 64 → k < 8 → lineWord (st .sizes) (frameOf (pageFrames (word img)) (st .sizes) (st .table) p l) l + k ≡ a → ⊥
 
   module _ (a w : ℕ) (inside : 8 * a + 8 ≤ imageLength (st .sizes)) where
     pub store-fits : 8 * a + 8 ≤ length img
@@ -111,7 +118,7 @@ module _ (past : List ℕ) (st : State) (img : List ℕ) (b : Reference) (D : Du
 
     -- the image after a store to a dead word, against a reference machine whose pages are what its committed copies hold
     pub durable-stored : (c : Reference) → Dead (D .view) a
-        → ((p l : ℕ) → p < st .sizes .pages → l < 64 → lineBytes (store img a w) (st .sizes) (frameOf (word img) (st .sizes) (st .table) p l) l ≡ recallLine c p l)
+        → ((p l : ℕ) → p < st .sizes .pages → l < 64 → lineBytes (store img a w) (st .sizes) (frameOf (pageFrames (word img)) (st .sizes) (st .table) p l) l ≡ recallLine c p l)
         → Durable past st (store img a w) c
     durable-stored c dead lines =
         let z : Sizes = st .sizes in
@@ -126,11 +133,16 @@ module _ (past : List ℕ) (st : State) (img : List ℕ) (b : Reference) (D : Du
           head-same = D .head-same;
           tail-same = D .tail-same;
           count-same = D .count-same;
-          behind = behind-ext (word img) (word (store img a w)) z (D .view .table) (st .table) (durable-legal past st img b D) (D .behind) same;
+          behind = behind-ext (pageFrames (word img)) (pageFrames (word (store img a w))) z (D .view .table) (st .table) (durable-legal past st img b D) (D .behind) same;
+          map-long = D .map-long;
+          own =
+              λ p low.
+              D .own p low
+              ∙ sym (home-ext (pageFrames (word img)) (pageFrames (word (store img a w))) z (D .view .table) (st .table) (durable-legal past st img b D) (D .behind) same p low);
           committed =
               λ p l low line.
               ap (λ (f : ℕ). lineBytes (store img a w) z f l)
-              (frame-ext (word img) (word (store img a w)) z (D .view .table) (st .table) (durable-legal past st img b D) (D .behind) same p l low)
+              (frame-ext (pageFrames (word img)) (pageFrames (word (store img a w))) z (D .view .table) (st .table) (durable-legal past st img b D) (D .behind) same p l low)
               ∙ lines p l low line;
         }
 
@@ -138,7 +150,7 @@ module _ (past : List ℕ) (st : State) (img : List ℕ) (b : Reference) (D : Du
     durable-kept dead free =
         durable-stored b dead
         (λ p l low line.
-        line-kept img a w (st .sizes) (frameOf (word img) (st .sizes) (st .table) p l) l store-fits (λ k m. free p l k low line m) ∙ D .committed p l low line)
+        line-kept img a w (st .sizes) (frameOf (pageFrames (word img)) (st .sizes) (st .table) p l) l store-fits (λ k m. free p l k low line m) ∙ D .committed p l low line)
 
     -- of the value that is there
     pub store-none : w ≡ word img a → store img a w ≡ img

@@ -14,12 +14,12 @@ use Rattle.refinement.proofs.Reached.{Reached, past-same, always}
 use Rattle.refinement.proofs.Cases.{standing-of}
 
 inside : {past : List ℕ} (z : Sizes) (v : World) (b : Reference) → Reached z past v b → (i : ℕ) → i < needs (v .st) (v .st .pending .op)
-    → 8 * storeAt (v .st) (v .image) (v .st .pending .op) i + 8 ≤ imageLength z
+    → 8 * storeAt (v .st) (v .st .pending .op) i + 8 ≤ imageLength z
 inside z v b h i l =
     let st = v .st in
     let s = standing-of v b (h .related) in
-    subst (λ (y : Sizes). 8 * storeAt st (v .image) (st .pending .op) i + 8 ≤ imageLength y) (h .sizes)
-    (store-in-range st (s .valid) (needing st (st .pending .op) i l) (v .image) i l)
+    subst (λ (y : Sizes). 8 * storeAt st (st .pending .op) i + 8 ≤ imageLength y) (h .sizes)
+    (store-in-range st (s .valid) (needing st (st .pending .op) i l) i l)
 
 pub stores-inside : StoresInside
 stores-inside = always _ (λ z buffer v b h. inside z v b h)

@@ -13,7 +13,6 @@ use Rattle.bounded.proofs.Tests.{contradicts, row-keeps, row-yes}
 use Rattle.meters.specs.Meters.{modulusOf, eventNeeds}
 use Rattle.operations.specs.Operations.{isIdle}
 use Rattle.operations.proofs.Taken.{event-taken}
-use Rattle.refinement.specs.Frames.{pageFrame}
 use Rattle.refinement.specs.Stores.{World}
 use Rattle.refinement.specs.Calls.{commitCallRows, commitOf, prepareCallRows, prepareOf, confirmCallRows, confirmOf, withdrawOf, consolidateCallRows, consolidateOf, freeCallRows, freeOf, checkpointCallRows, checkpointOf, writeOf, eventCallRows, eventOf, loadRows, loadOf}
 use Rattle.refinement.specs.Run.{Call, mount, checkpoint, free, step, begin, beginWide, abort, commit, prepare, confirm, withdraw, consolidate, run, write, read, recall, event, load, exec}
@@ -86,7 +85,7 @@ module _ {past : List ℕ} (v : World) (b : Reference) (h : Account) (R : Invari
   event-tally ms k m a s e =
       let st = v .st in
       let img = v .image in
-      let E = event-taken st k m a (pageFrame st img 0) (event-op-row st img ms k m a e) in
+      let E = event-taken st k m a (event-op-row st img ms k m a e) in
       let q = standing-of v b R .quiet (none-apply (eventCallRows st img ms k m a) (omega arith) e .1 .1 .0) (λ l. contradicts (lt-ltb (st .wide .writer) 4 l) (E .none-wide)) in
       let machine = withWork (under (moving ms k m a) (eventNeeds k)) b in
       let T′ : Tally machine h =

@@ -16,7 +16,7 @@ use Rattle.journal.specs.Records.{liveCount}
 use Rattle.replay.specs.Table.{noPosition}
 use Rattle.journal.proofs.SlotWords.{or-cases}
 use Rattle.validity.specs.Validity.{isLive, lastOk, lastsOk}
-use Rattle.refinement.proofs.ValidSlots.{either-way, differ}
+use Rattle.refinement.proofs.ValidWriters.{either-way, differ}
 
 abbrev pub lastAt : Table → ℕ → ℕ
 lastAt t s = getD (t .last) s 0

@@ -1,142 +1,90 @@
--- Row 8 of the slots, as facts: their shapes, and that no two name the same page or frame; from the test and back.
+-- Row 8 of the slots and the map, as facts: the slots' shapes, that no two have one page, that spares and the pages' own frames, h, name each frame once, and
+-- that a slotted page's own frame is its slot's original; from the test and back.
 use Prim.Native.Nat.{ℕ, _<_}
-use mathlib.Core.Bool.{Bool, true, _||_, not, or-true}
-use mathlib.Core.List.{List, [], _∷_}
+use mathlib.Core.Bool.{Bool, true, _||_}
+use mathlib.Core.List.{_++_}
 use mathlib.Core.Logic.{⊎-elim}
-use mathlib.Core.Path.{_≡_, sym, ap, _∙_}
+use mathlib.Core.Path.{_≡_, sym, ap, _∙_, subst}
 use native.Mathlib.Omega.{arith}
 use lib.Dec.{ltb, eqb}
-use borrow.Author.Tests.{eqb-true, eqb-false, ne-eqb, ltb-true, ltb-false, not-true}
-use Rattle.bounded.specs.Below.{allBelow}
+use borrow.Author.Tests.{eqb-true, eqb-false, eq-eqb, ltb-true, ltb-false}
+use Rattle.bounded.specs.Count.{Once, eachOnce}
+use Rattle.bounded.specs.Tab.{tab}
 use Rattle.bounded.proofs.Below.{all-at, all-made}
-use Rattle.bounded.proofs.Tests.{caseOn, every-held, held-every}
+use Rattle.bounded.proofs.Pigeonhole.{once-true, true-once}
+use Rattle.bounded.proofs.Tests.{caseOn}
 use Rattle.layout.specs.declared.Sizes.{Sizes}
-use Rattle.layout.specs.Layout.{Legal}
+use Rattle.layout.specs.Layout.{Legal, frames}
 use Rattle.journal.specs.declared.Slot.{Slot}
 use Rattle.replay.specs.declared.Table.{Table}
 use Rattle.journal.specs.Slots.{noPage, shaped}
-use Rattle.replay.specs.Table.{slotIn, slotsShaped, pageApart, pagesApart}
-use Rattle.journal.proofs.SlotWords.{Owning, Free, shape, or-cases}
-use Rattle.state.specs.Slots.{freeAt, slotsApart, framesApart}
+use Rattle.replay.specs.Table.{slotIn, slotsShaped, pagesApart, frameNames}
+use Rattle.replay.specs.Map.{originalKept, originalsKept, namesKept}
+use Rattle.replay.proofs.Maps.{names-kept}
+use Rattle.journal.proofs.SlotWords.{or-cases}
+use Rattle.refinement.proofs.PageSlots.{apart-at}
+use Rattle.refinement.proofs.PagesApart.{apart-made}
 
--- what holds of each two of which the second is lower, and goes both ways, holds of each two
-pub either-way : (P : ℕ → ℕ → Type 0) (n : ℕ) → ((s k : ℕ) → P s k → P k s) → ((s k : ℕ) → s < n → k < s → P s k) → (s k : ℕ) → s < n → k < n → (s ≡ k → ⊥) → P s k
-either-way P n swap low s k l m d =
-    caseOn (ltb k s)
-    (λ t. low s k l (ltb-true k s t))
-    (λ t. swap k s (low k s m (omega (arith, d, ltb-false k s t))))
+-- the spares, then the pages' own frames
+abbrev pub Named : Sizes → (ℕ → ℕ) → (ℕ → Slot) → Type 0
+Named z h f = Once (frames z) (tab (z .slots) (λ s. f s .spare) ++ tab (z .pages) h)
 
-pub differ : (a b : ℕ) → not (eqb a b) ≡ true → a ≡ b → ⊥
-differ a b e = eqb-false a b (not-true (eqb a b) e)
-
--- slots a and b name no page and no frame both (a free slot's original is none)
-pub record Apart (a b : Slot) : Type 0 where
-  pub pages : (a .page ≡ noPage → ⊥) → a .page ≡ b .page → ⊥
-  pub spares : a .spare ≡ b .spare → ⊥
-  pub forth : a .original ≡ b .spare → ⊥
-  pub back : a .spare ≡ b .original → ⊥
-  pub originals : (a .page ≡ noPage → ⊥) → (b .page ≡ noPage → ⊥) → a .original ≡ b .original → ⊥
-
-pub apart-sym : (a b : Slot) → Apart a b → Apart b a
-apart-sym a b h =
-    record { pages = λ n e. h .pages (λ q. n (e ∙ q)) (sym e); spares = λ e. h .spares (sym e); forth = λ e. h .back (sym e); back = λ e. h .forth (sym e); originals = λ n m e. h .originals m n (sym e) }
-
-pub record SlotsFine (z : Sizes) (f : ℕ → Slot) : Type 0 where
+pub record SlotsFine (z : Sizes) (h : ℕ → ℕ) (f : ℕ → Slot) : Type 0 where
   pub shapes : (s : ℕ) → s < z .slots → shaped z (f s) ≡ true
-  pub apart : (s k : ℕ) → s < z .slots → k < z .slots → (s ≡ k → ⊥) → Apart (f s) (f k)
+  pub pages : (s k : ℕ) → s < z .slots → k < z .slots → (s ≡ k → ⊥) → (f s .page ≡ noPage → ⊥) → f s .page ≡ f k .page → ⊥
+  pub named : Named z h f
+  pub kept : (s : ℕ) → s < z .slots → (f s .page ≡ noPage → ⊥) → h (f s .page) ≡ f s .original
 
--- the tests of `slotsApart`
-abbrev apartTests : Table → ℕ → ℕ → List Bool
-apartTests t s k =
-    not (eqb (slotIn t s .spare) (slotIn t k .spare))
-    ∷ not (eqb (slotIn t s .original) (slotIn t k .spare))
-    ∷ not (eqb (slotIn t s .spare) (slotIn t k .original))
-    ∷ (freeAt (t .page) s || not (eqb (slotIn t s .original) (slotIn t k .original)))
-    ∷ []
-
-module _ (z : Sizes) (t : Table) where
-  pages-below : pagesApart z (t .page) ≡ true → (s k : ℕ) → s < z .slots → k < s → (slotIn t s .page ≡ noPage → ⊥) → slotIn t s .page ≡ slotIn t k .page → ⊥
-  pages-below e s k l m n =
+module _ (z : Sizes) (h : ℕ → ℕ) (t : Table) where
+  -- from the tests
+  kept-at : originalsKept h z t ≡ true → (s : ℕ) → s < z .slots → (slotIn t s .page ≡ noPage → ⊥) → h (slotIn t s .page) ≡ slotIn t s .original
+  kept-at e s l n =
       ⊎-elim
       (λ q. absurd (n (eqb-true (slotIn t s .page) noPage q)))
-      (λ q. differ (slotIn t s .page) (slotIn t k .page) (all-at (λ k. not (eqb (slotIn t s .page) (slotIn t k .page))) s k m q))
-      (or-cases (eqb (slotIn t s .page) noPage) (allBelow s (λ k. not (eqb (slotIn t s .page) (slotIn t k .page)))) (all-at (pageApart (t .page)) (z .slots) s l e))
+      (λ q. eqb-true (h (slotIn t s .page)) (slotIn t s .original) q)
+      (or-cases (eqb (slotIn t s .page) noPage) (eqb (h (slotIn t s .page)) (slotIn t s .original)) (all-at (originalKept h t) (z .slots) s l e))
 
-  frames-below : framesApart z (t .page) (t .original) (t .spare) ≡ true → (s k : ℕ) → s < z .slots → k < s → slotsApart (t .page) (t .original) (t .spare) s k ≡ true
-  unfolding framesApart
-  frames-below e s k l m =
-      all-at (slotsApart (t .page) (t .original) (t .spare) s) s k m
-      (all-at (λ s. allBelow s (slotsApart (t .page) (t .original) (t .spare) s)) (z .slots) s l e)
+  pub kept-made : ((s : ℕ) → s < z .slots → (slotIn t s .page ≡ noPage → ⊥) → h (slotIn t s .page) ≡ slotIn t s .original) → originalsKept h z t ≡ true
+  kept-made kept =
+      all-made (originalKept h t) (z .slots)
+      (λ s l.
+      caseOn (eqb (slotIn t s .page) noPage)
+      (λ e. ap (λ (b : Bool). b || eqb (h (slotIn t s .page)) (slotIn t s .original)) e)
+      (λ e. rw e (eq-eqb (h (slotIn t s .page)) (slotIn t s .original) (kept s l (eqb-false (slotIn t s .page) noPage e)))))
 
-  apart-below : pagesApart z (t .page) ≡ true → framesApart z (t .page) (t .original) (t .spare) ≡ true
-      → (s k : ℕ) → s < z .slots → k < s → Apart (slotIn t s) (slotIn t k)
-  apart-below p q s k l m =
-      let h = every-held (apartTests t s k) (frames-below q s k l m) in
+  pages-at : pagesApart z (t .page) ≡ true → (s k : ℕ) → s < z .slots → k < z .slots → (s ≡ k → ⊥) → (slotIn t s .page ≡ noPage → ⊥) → slotIn t s .page ≡ slotIn t k .page → ⊥
+  pages-at e s k l m d n q =
+      caseOn (ltb k s)
+      (λ b. apart-at z t e s k l (ltb-true k s b) n q)
+      (λ b. apart-at z t e k s m (omega (arith, d, ltb-false k s b)) (λ x. n (q ∙ x)) (sym q))
+
+  pub names-once : Legal z → originalsKept h z t ≡ true → Once (frames z) (frameNames h z t) → Named z h (slotIn t)
+  unfolding namesKept
+  names-once legal e once = subst (Once (frames z)) (sym (names-kept h z t legal e)) once
+
+  pub slots-fine : Legal z → slotsShaped z t ≡ true → pagesApart z (t .page) ≡ true → eachOnce (frames z) (frameNames h z t) ≡ true → originalsKept h z t ≡ true → SlotsFine z h (slotIn t)
+  slots-fine legal shapes pages once kept =
       record {
-        pages = pages-below p s k l m;
-        spares = differ (slotIn t s .spare) (slotIn t k .spare) (h .0);
-        forth = differ (slotIn t s .original) (slotIn t k .spare) (h .1 .0);
-        back = differ (slotIn t s .spare) (slotIn t k .original) (h .1 .1 .0);
-        originals =
-            λ n o.
-            ⊎-elim
-            (λ e. absurd (n (eqb-true (slotIn t s .page) noPage e)))
-            (λ e. differ (slotIn t s .original) (slotIn t k .original) e)
-            (or-cases (freeAt (t .page) s) (not (eqb (slotIn t s .original) (slotIn t k .original))) (h .1 .1 .1 .0));
+        shapes = λ s l. all-at (λ s. shaped z (slotIn t s)) (z .slots) s l shapes;
+        pages = pages-at pages;
+        named = names-once legal kept (once-true (frames z) (frameNames h z t) once);
+        kept = kept-at kept;
       }
 
-  pub slots-fine : slotsShaped z t ≡ true → pagesApart z (t .page) ≡ true → framesApart z (t .page) (t .original) (t .spare) ≡ true → SlotsFine z (slotIn t)
-  slots-fine e p q =
-      record {
-        shapes = λ s l. all-at (λ s. shaped z (slotIn t s)) (z .slots) s l e;
-        apart = either-way (λ s k. Apart (slotIn t s) (slotIn t k)) (z .slots) (λ s k. apart-sym (slotIn t s) (slotIn t k)) (apart-below p q);
-      }
-
-  module _ (g : Legal z) (h : SlotsFine z (slotIn t)) where
+  -- and back
+  module _ (legal : Legal z) (fine : SlotsFine z h (slotIn t)) where
     pub shapes-ok : slotsShaped z t ≡ true
-    shapes-ok = all-made (λ s. shaped z (slotIn t s)) (z .slots) (h .shapes)
+    shapes-ok = all-made (λ s. shaped z (slotIn t s)) (z .slots) (fine .shapes)
 
     pub pages-ok : pagesApart z (t .page) ≡ true
-    pages-ok =
-        all-made (pageApart (t .page)) (z .slots)
-        (λ s l.
-        caseOn (eqb (slotIn t s .page) noPage)
-        (λ e. rw e)
-        (λ e.
-        rw e
-        (all-made (λ k. not (eqb (slotIn t s .page) (slotIn t k .page))) s
-        (λ k m.
-        ap not (ne-eqb (slotIn t s .page) (slotIn t k .page) (h .apart s k l (omega arith) (λ q. omega arith) .pages (eqb-false (slotIn t s .page) noPage e)))))))
+    pages-ok = apart-made z t (λ s k l m n. fine .pages s k l (omega arith) (λ q. omega arith) n)
 
-    -- an owning slot's original is no free one's
-    originals-differ : (s k : ℕ) → s < z .slots → k < z .slots → (s ≡ k → ⊥) → (slotIn t s .page ≡ noPage → ⊥) → slotIn t s .original ≡ slotIn t k .original → ⊥
-    originals-differ s k l m d n e =
-        ⊎-elim
-        (λ (o : Owning z (slotIn t k)). h .apart s k l m d .originals n (λ q. omega arith) e)
-        (λ (f : Free z (slotIn t k)).
-        ⊎-elim (λ (o : Owning z (slotIn t s)). omega arith) (λ (f : Free z (slotIn t s)). n (f .page-none)) (shape z (slotIn t s) (h .shapes s l)))
-        (shape z (slotIn t k) (h .shapes k m))
+    pub kept-ok : originalsKept h z t ≡ true
+    kept-ok = kept-made (fine .kept)
 
-    apart-ok : (s k : ℕ) → s < z .slots → k < s → slotsApart (t .page) (t .original) (t .spare) s k ≡ true
-    apart-ok s k l m =
-        let a : Apart (slotIn t s) (slotIn t k) = h .apart s k l (omega arith) (λ q. omega arith) in
-        let o : freeAt (t .page) s || not (eqb (slotIn t s .original) (slotIn t k .original)) ≡ true =
-        caseOn (freeAt (t .page) s)
-        (λ e. ap (λ (b : Bool). b || not (eqb (slotIn t s .original) (slotIn t k .original))) e)
-        (λ e.
-        ap (λ (b : Bool). freeAt (t .page) s || b)
-        (ap not (ne-eqb (slotIn t s .original) (slotIn t k .original) (originals-differ s k l (omega arith) (λ q. omega arith) (eqb-false (slotIn t s .page) noPage e))))
-        ∙ or-true (freeAt (t .page) s)) in
-        held-every (apartTests t s k) (
-          ap not (ne-eqb (slotIn t s .spare) (slotIn t k .spare) (a .spares)),
-          (
-            ap not (ne-eqb (slotIn t s .original) (slotIn t k .spare) (a .forth)),
-            (ap not (ne-eqb (slotIn t s .spare) (slotIn t k .original) (a .back)), (o, tt)),
-          ),
-        )
+    pub once-names : Once (frames z) (frameNames h z t)
+    unfolding namesKept
+    once-names = subst (Once (frames z)) (names-kept h z t legal kept-ok) (fine .named)
 
-    pub frames-ok : framesApart z (t .page) (t .original) (t .spare) ≡ true
-    unfolding framesApart
-    frames-ok =
-        all-made (λ s. allBelow s (slotsApart (t .page) (t .original) (t .spare) s)) (z .slots)
-        (λ s l. all-made (slotsApart (t .page) (t .original) (t .spare) s) s (λ k m. apart-ok s k l m))
+    pub names-ok : eachOnce (frames z) (frameNames h z t) ≡ true
+    names-ok = true-once (frames z) (frameNames h z t) once-names

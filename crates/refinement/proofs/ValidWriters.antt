@@ -28,7 +28,16 @@ use Rattle.entries.specs.Entries.{entriesOk}
 use Rattle.entries.proofs.EntryLaws.{Right, entries-right, right-entries}
 use Rattle.operations.specs.Operations.{journalFullOf}
 use Rattle.validity.specs.Validity.{preparedOk}
-use Rattle.refinement.proofs.ValidSlots.{either-way, differ}
+
+-- what holds of each two of which the second is lower, and goes both ways, holds of each two
+pub either-way : (P : ℕ → ℕ → Type 0) (n : ℕ) → ((s k : ℕ) → P s k → P k s) → ((s k : ℕ) → s < n → k < s → P s k) → (s k : ℕ) → s < n → k < n → (s ≡ k → ⊥) → P s k
+either-way P n swap low s k l m d =
+    caseOn (ltb k s)
+    (λ t. low s k l (ltb-true k s t))
+    (λ t. swap k s (low k s m (omega (arith, d, ltb-false k s t))))
+
+pub differ : (a b : ℕ) → not (eqb a b) ≡ true → a ≡ b → ⊥
+differ a b e = eqb-false a b (not-true (eqb a b) e)
 
 -- ---- held lines
 

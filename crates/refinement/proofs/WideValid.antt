@@ -46,11 +46,11 @@ entry-right z d p l r long low line room =
     (subst (λ (i : ℕ). Right z (set (d .keys) i k) (n + 1)) (sym m)
     (right-more z (d .keys) n r (leb-false (z .entries) n full) long k (subst (λ (i : ℕ). i < z .pages) (sym (page-of-key p l line)) low) m)))
 
-pub logged-valid : (st : State) (p l o n : ℕ) → stateOk st ≡ true → length (st .wide .keys) ≡ 64 → refusal (opRows st (Log p l o n) (st .pending .frame)) ≡ 0
+pub logged-valid : (st : State) (p l o n : ℕ) → stateOk st ≡ true → length (st .wide .keys) ≡ 64 → refusal (opRows st (Log p l o n)) ≡ 0
     → stateOk (completed st (Log p l o n)) ≡ true
 logged-valid st p l o n e keys r =
     let v = valid st e in
-    let h : LogTaken st p l o n (st .pending .frame) = log-taken st p l o n (st .pending .frame) r in
+    let h : LogTaken st p l o n = log-taken st p l o n r in
     valid-ok (completed st (Log p l o n))
     (record {
       legal = v .legal;
@@ -70,7 +70,7 @@ copied-prepared : (st : State) → completed st Copy .writers .prepared < 4 → 
 unfolding closedWriter
 copied-prepared st l = l
 
-pub copied-valid : (st : State) → stateOk st ≡ true → refusal (opRows st Copy (st .pending .frame)) ≡ 0 → stateOk (completed st Copy) ≡ true
+pub copied-valid : (st : State) → stateOk st ≡ true → refusal (opRows st Copy) ≡ 0 → stateOk (completed st Copy) ≡ true
 copied-valid st e r =
     let v = valid st e in
     valid-ok (completed st Copy)
@@ -81,7 +81,7 @@ copied-valid st e r =
       held = closed-fine (st .sizes) (v .legal) (st .writers) (st .wide .writer) (slotIn (st .table)) (v .held);
       next-low = v .next-low;
       lasts = v .lasts;
-      prepared = λ l. contradicts (lt-ltb (st .writers .prepared) 4 (copied-prepared st l)) (copy-taken st (st .pending .frame) r);
+      prepared = λ l. contradicts (lt-ltb (st .writers .prepared) 4 (copied-prepared st l)) (copy-taken st r);
       entries = none-right (st .sizes) noKeys;
       wide = λ l. absurd (omega arith);
       pending = idle-ok (completed st Copy) refl;

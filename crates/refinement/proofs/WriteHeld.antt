@@ -34,7 +34,7 @@ use Rattle.refinement.proofs.WriteTable.{Own, Takes, own-or-takes, writ
 
 -- ---- who holds which line afterwards
 
-module _ (st : State) (w p l o n : ℕ) (ok : stateOk st ≡ true) (T : WriteTaken st w p l o n (st .pending .frame)) (full : Sixteen (st .table))
+module _ (st : State) (w p l o n : ℕ) (ok : stateOk st ≡ true) (T : WriteTaken st w p l o n) (full : Sixteen (st .table))
     (lines : length (st .writers .held) ≡ 64) (apart : pagesApart (st .sizes) (writeTable st p .page) ≡ true) where
   abbrev z : Sizes
   z = st .sizes

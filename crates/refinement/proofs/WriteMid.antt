@@ -13,14 +13,15 @@ use Rattle.bounded.proofs.Below.{none-at}
 use Rattle.bounded.proofs.Tab.{length-tab, getD-tab}
 use Rattle.bounded.proofs.Tests.{caseOn, contradicts, and-left, and-right}
 use Rattle.layout.specs.declared.Sizes.{Sizes}
-use Rattle.layout.specs.Layout.{frames, pageWord, lineWord, imageLength}
+use Rattle.layout.specs.Layout.{frames, lineWord, imageLength}
 use Rattle.image.specs.Lines.{lineWords}
-use Rattle.words.specs.Words.{Bytes, word, wordAt, store}
+use Rattle.words.specs.Words.{Bytes, word, wordAt}
 use Rattle.layout.proofs.LayoutLaws.{line-apart}
 use Rattle.words.proofs.Runs.{words-tab}
-use Rattle.words.proofs.WordLaws.{word-lt, word-store-other}
+use Rattle.words.proofs.WordLaws.{word-lt}
 use Rattle.journal.specs.declared.Slot.{Slot}
 use Rattle.replay.specs.Table.{slotIn}
+use Rattle.replay.specs.Map.{pageFrames}
 use Rattle.mount.proofs.Dead.{Dead, dead-line}
 use Rattle.masks.specs.Lines.{inMask}
 use Rattle.state.specs.State.{State}
@@ -29,25 +30,25 @@ use Rattle.state.specs.Held.{heldAt, othersHold}
 use Rattle.operations.specs.Operations.{slotFor, slotted, needs}
 use Rattle.validity.specs.Validity.{stateOk}
 use Rattle.operations.proofs.Taken.{WriteTaken, write-taken}
-use Rattle.refinement.specs.Frames.{otherFrame, pageFrame}
+use Rattle.refinement.specs.Frames.{otherFrame}
 use Rattle.refinement.specs.Write.{writeSlot}
 use Rattle.refinement.specs.Stores.{stepped}
 use Rattle.refinement.proofs.Pending.{pends}
 use Rattle.refinement.specs.Recall.{frameOf}
 use Rattle.refinement.specs.Reference.{Reference, Cell, byte, laidOver, writing, under, advances, written, readLine}
 use Rattle.refinement.proofs.Invariant.{Durable, holds, Doing, Busy, Related}
-use Rattle.refinement.proofs.Copies.{other-low, slot-spare-low, copy-apart, others-apart, free-apart, free-other-apart, durable-fits}
+use Rattle.refinement.proofs.Copies.{other-low, slot-spare-low, copy-apart, others-apart, free-apart, free-other-apart}
 use Rattle.refinement.proofs.Stepping.{Aside, Mid, step-mid}
 use Rattle.refinement.proofs.WriteTable.{Own, Takes, own-or-takes, other-none}
 
 -- no row turns back a write that is pending
-pub write-pending : (st : State) (w p l o n : ℕ) → stateOk st ≡ true → st .pending .op ≡ Write w p l o n → WriteTaken st w p l o n (st .pending .frame)
-write-pending st w p l o n valid e = write-taken st w p l o n (st .pending .frame) (pends st (Write w p l o n) valid e refl .taken)
+pub write-pending : (st : State) (w p l o n : ℕ) → stateOk st ≡ true → st .pending .op ≡ Write w p l o n → WriteTaken st w p l o n
+write-pending st w p l o n valid e = write-taken st w p l o n (pends st (Write w p l o n) valid e refl .taken)
 
 -- ---- the frame that is written
 
 module _ (past : List ℕ) (st : State) (img : List ℕ) (b : Reference) (valid : stateOk st ≡ true) (D : Durable past st img b) (w p l o n : ℕ)
-    (T : WriteTaken st w p l o n (st .pending .frame)) where
+    (T : WriteTaken st w p l o n) where
   abbrev pub target : ℕ
   target = otherFrame (slotIn (st .table) (writeSlot st p)) l
 
@@ -67,7 +68,7 @@ module _ (past : List ℕ) (st : State) (img : List ℕ) (b : Reference) (valid 
       (λ (h : Takes st p). subst (λ (f : ℕ). f < frames (st .sizes)) (sym (free-target h)) (slot-spare-low st img valid D (writeSlot st p) (h .slot-low)))
       cases
 
-  target-committed : (q : ℕ) → q < st .sizes .pages → target ≡ frameOf (word img) (st .sizes) (st .table) q l → ⊥
+  target-committed : (q : ℕ) → q < st .sizes .pages → target ≡ frameOf (pageFrames (word img)) (st .sizes) (st .table) q l → ⊥
   target-committed q lq e =
       ⊎-elim
       (λ (h : Own st p). copy-apart st img valid D p l q (T .args .page-low) lq (h .has) (sym (own-target h) ∙ e))
@@ -110,8 +111,8 @@ module _ (past : List ℕ) (st : State) (img : List ℕ) (b : Reference) (valid 
         dead = subst (λ (z : Sizes). Dead (D .view) (lineWord z target l + k)) (D .sizes-same) (dead-line (D .view) (D .mounts .legal) target l k (rw (D .sizes-same) target-low) (T .args .line-low) m);
         uncommitted =
             λ q i j lq li lj e.
-            let a = line-apart (st .sizes) (frameOf (word img) (st .sizes) (st .table) q i) i j target l k li (T .args .line-low) lj m e in
-            target-committed q lq (sym (a .0) ∙ ap (frameOf (word img) (st .sizes) (st .table) q) (a .1));
+            let a = line-apart (st .sizes) (frameOf (pageFrames (word img)) (st .sizes) (st .table) q i) i j target l k li (T .args .line-low) lj m e in
+            target-committed q lq (sym (a .0) ∙ ap (frameOf (pageFrames (word img)) (st .sizes) (st .table) q) (a .1));
         unowned =
             λ v q i j lv lq li lj out h e.
             let a = line-apart (st .sizes) (otherFrame (slotIn (st .table) (slotFor st q)) i) i j target l k li (T .args .line-low) lj m e in
@@ -155,7 +156,7 @@ module _ (st : State) (img : List ℕ) (b : Reference) (w p l o n : ℕ) (doing 
       caseOn (ltb i 64)
       (λ t.
       let m : i < 64 = ltb-true i 64 t in
-      let old : laidOver (b .writes w p l i) (b .pages p l i) < 256 = subst (λ (x : ℕ). x < 256) (getD-tab 64 (λ j. laidOver (b .writes w p l j) (b .pages p l j)) i 0 m) (doing .6 i) in
+      let old : laidOver (b .writes w p l i) (b .pages p l i) < 256 = subst (λ (x : ℕ). x < 256) (getD-tab 64 (λ j. laidOver (b .writes w p l j) (b .pages p l j)) i 0 m) (doing .5 i) in
       subst (λ (x : ℕ). x < 256) (sym (getD-tab 64 (λ j. laidOver (written w p l o n given b .writes w p l j) (b .pages p l j)) i 0 m))
       (over-byte (eqb w w && eqb p p && eqb l l && leb o i && ltb i (o + n)) (getD given (i - o) 0) (b .pages p l i) (b .writes w p l i) (doing .1 (i - o)) old))
       (λ t. subst (λ (x : ℕ). x < 256) (sym (List·getD-eq-default newLine 0 (omega (arith, ltb-false i 64 t, new-length)))) (omega arith))
@@ -185,20 +186,10 @@ module _ (past : List ℕ) (st : State) (img : List ℕ) (b : Reference) (B : Bu
         harmless = inr (target-aside past st img b (B .valid) (B .durable) w p l o n T m k);
       }
 
-  -- the page's frame is read from a word before the frames
-  pub page-frame-kept : (m v : ℕ) → m < 8 → pageFrame st (store img (lineWord (st .sizes) (otherFrame (slotIn (st .table) (writeSlot st p)) l) l + m) v) p ≡ pageFrame st img p
-  unfolding pageFrame
-  page-frame-kept m v k =
-      let T = write-pending st w p l o n (B .valid) e in
-      let i = target-inside past st img b (B .valid) (B .durable) w p l o n T m k in
-      let x = word-store-other img (lineWord (st .sizes) (otherFrame (slotIn (st .table) (writeSlot st p)) l) l + m) v (pageWord p)
-      (omega (arith, i, durable-fits past st img b (B .durable))) (λ q. omega (arith, q, T .args .page-low)) in
-      ap (cond (slotted st p) (slotIn (st .table) (slotFor st p) .original)) x
-
   pub write-on : st .pending .made + 1 < 8 → Related past (stepped (record { st = st; image = img })) (advances 1 (b .work) b)
-  unfolding needs pageFrame
+  unfolding needs
   write-on h =
       let d = write-doing in
       let m : ℕ = st .pending .made in
       step-mid past st img b B (writing w p l o n (d .0)) (Write w p l o n) e refl (d .3) h (write-mid m (omega arith))
-      (d .0, d .1, d .2, refl, d .4, d .5 ∙ sym (page-frame-kept m (getD (st .pending .line) m 0) (omega arith)), d .6)
+      (d .0, d .1, d .2, refl, d .4, d .5)

@@ -1,6 +1,6 @@
 -- The slot that a write goes to: the page's own, or a free one that the page takes. No committed copy of a line moves by it.
 use Prim.Native.Nat.{ℕ, _+_, _<_}
-use mathlib.Core.Bool.{true, false}
+use mathlib.Core.Bool.{true, false, cond}
 use mathlib.Core.Logic.{_⊎_, inl, inr, ⊎-elim}
 use mathlib.Core.Path.{_≡_, refl, sym, ap, _∙_, subst}
 use native.Mathlib.Omega.{arith}
@@ -11,16 +11,16 @@ use borrow.Author.Tests.{ltb-true, lt-ltb, le-ltb, leb-false, le-leb, eqb-true, 
 use Rattle.bounded.proofs.Below.{all-at, first-holds}
 use Rattle.bounded.proofs.Tests.{caseOn}
 use Rattle.layout.specs.declared.Sizes.{Sizes}
-use Rattle.layout.specs.Layout.{Legal, pageWord}
+use Rattle.layout.specs.Layout.{Legal}
 use Rattle.journal.specs.declared.Slot.{Slot}
 use Rattle.replay.specs.declared.Table.{Table}
 use Rattle.journal.specs.Slots.{noPage, freeSlot, shaped}
-use Rattle.replay.specs.Table.{slotIn, withSlot, lastIn, slotOf, pagesApart}
+use Rattle.replay.specs.Table.{slotIn, withSlot, lastIn, slotOf, homeOf, pagesApart}
 use Rattle.journal.proofs.SlotWords.{Owning, shape, free-is}
 use Rattle.replay.proofs.Tables.{Sixteen, sixteen-slot, slot-same, slot-other}
 use Rattle.mount.proofs.View.{slot-none}
 use Rattle.masks.proofs.Members.{in-none}
-use Rattle.state.specs.State.{State}
+use Rattle.state.specs.State.{State, ownFrame}
 use Rattle.state.specs.Slots.{freeAt, roundSlot, freeAfter}
 use Rattle.operations.specs.Operations.{slotFor, slotted, noneFree}
 use Rattle.validity.specs.Validity.{stateOk}
@@ -37,19 +37,29 @@ pub taken-only-kept : (r : ℕ → ℕ) (z : Sizes) (d t d′ t′ : Table) (s :
 taken-only-kept r z d t d′ t′ s e q none h =
     record {
       page-low = subst (λ (v : Slot). v .page < z .pages) (sym e) (h .page-low);
-      original = subst (λ (v : Slot). v .original ≡ r (pageWord (v .page))) (sym e) (h .original);
+      original = subst (λ (v : Slot). v .original ≡ r (v .page)) (sym e) (h .original);
       bitmap = subst (λ (v : Slot). v .bitmap ≡ 0) (sym e) (h .bitmap);
       was-free = q ∙ subst (λ (v : Slot). slotIn d s ≡ freeSlot (v .spare)) (sym e) (h .was-free);
       unslotted = subst (λ (v : Slot). slotOf z d′ (v .page) ≡ z .slots) (sym e) (none (h .unslotted));
     }
 
--- where a page's committed line is, by whether the page has a slot
-module _ (r : ℕ → ℕ) (z : Sizes) (t : Table) (p l : ℕ) where
-  pub frame-slotted : slotOf z t p < z .slots → frameOf r z t p l ≡ committedFrame (slotIn t (slotOf z t p)) l
-  frame-slotted m = rw (lt-ltb (slotOf z t p) (z .slots) m)
+-- what a page has, g of its slot, or of its own frame where it has none
+abbrev bySlot : (Slot → ℕ) → (ℕ → ℕ) → Sizes → Table → ℕ → ℕ
+bySlot g r z t p = cond (ltb (slotOf z t p) (z .slots)) (g (slotIn t (slotOf z t p))) (r p)
 
-  pub frame-unslotted : slotOf z t p ≡ z .slots → frameOf r z t p l ≡ r (pageWord p)
-  frame-unslotted e = rw (le-ltb (slotOf z t p) (z .slots) (omega arith))
+module _ (g : Slot → ℕ) (r : ℕ → ℕ) (z : Sizes) (t : Table) (p : ℕ) where
+  slot-has : slotOf z t p < z .slots → bySlot g r z t p ≡ g (slotIn t (slotOf z t p))
+  slot-has m = rw (lt-ltb (slotOf z t p) (z .slots) m)
+
+  slot-lacks : slotOf z t p ≡ z .slots → bySlot g r z t p ≡ r p
+  slot-lacks e = rw (le-ltb (slotOf z t p) (z .slots) (omega arith))
+
+-- where a page's committed line is, by whether the page has a slot
+pub frame-slotted : (r : ℕ → ℕ) (z : Sizes) (t : Table) (p l : ℕ) → slotOf z t p < z .slots → frameOf r z t p l ≡ committedFrame (slotIn t (slotOf z t p)) l
+frame-slotted r z t p l m = slot-has (λ v. committedFrame v l) r z t p m
+
+pub frame-unslotted : (r : ℕ → ℕ) (z : Sizes) (t : Table) (p l : ℕ) → slotOf z t p ≡ z .slots → frameOf r z t p l ≡ r p
+frame-unslotted r z t p l e = slot-lacks (λ v. committedFrame v l) r z t p e
 
 -- the copies of a slot without lines in the spare
 module _ (v : Slot) (l : ℕ) (e : v .bitmap ≡ 0) where
@@ -61,7 +71,7 @@ module _ (v : Slot) (l : ℕ) (e : v .bitmap ≡ 0) where
 
 -- the slot that the page takes
 abbrev pub takenSlot : State → ℕ → Slot
-takenSlot st p = record { page = p; original = st .pending .frame; spare = slotIn (st .table) (writeSlot st p) .spare; bitmap = 0 }
+takenSlot st p = record { page = p; original = ownFrame st p; spare = slotIn (st .table) (writeSlot st p) .spare; bitmap = 0 }
 
 -- the page has a slot
 pub record Own (st : State) (p : ℕ) : Type 0 where
@@ -177,36 +187,44 @@ module _ (st : State) (p : ℕ) (g : Legal (st .sizes)) (full : Sixteen (st .tab
         ∙ sym (other-none (slotIn t s) l (ap (λ (u : Slot). u .bitmap) (T .free))))
         C
 
-    -- committed copies stay where they are
-    pub frame-kept : (r : ℕ → ℕ) → (slotFor st p ≡ z .slots → st .pending .frame ≡ r (pageWord p)) → (q l : ℕ) → q < z .pages → frameOf r z (writeTable st p) q l ≡ frameOf r z t q l
-    frame-kept r home q l lq =
+    -- what a page has of its slot, by g, or of its own frame where it has none, stays: the slot taken has the same
+    by-slot-kept : (g : Slot → ℕ) (r : ℕ → ℕ) → g (takenSlot st p) ≡ ownFrame st p → (slotFor st p ≡ z .slots → ownFrame st p ≡ r p)
+        → (q : ℕ) → q < z .pages → bySlot g r z (writeTable st p) q ≡ bySlot g r z t q
+    by-slot-kept g r new home q lq =
         ⊎-elim
         (λ (o : Own st p). rw (o .table))
         (λ (T : Takes st p).
         let u : Table = writeTable st p in
         caseOn (eqb q p)
         (λ c.
-        subst (λ (x : ℕ). frameOf r z u x l ≡ frameOf r z t x l) (sym (eqb-true q p c))
-        (frame-slotted r z u p l (subst (λ (x : ℕ). x < z .slots) (sym (taken-page T)) (T .slot-low))
-        ∙ ap (λ (k : ℕ). committedFrame (slotIn u k) l) (taken-page T)
-        ∙ ap (λ (v : Slot). committedFrame v l) (taken-slot T)
-        ∙ committed-none (takenSlot st p) l refl
+        subst (λ (x : ℕ). bySlot g r z u x ≡ bySlot g r z t x) (sym (eqb-true q p c))
+        (slot-has g r z u p (subst (λ (x : ℕ). x < z .slots) (sym (taken-page T)) (T .slot-low))
+        ∙ ap (λ (k : ℕ). g (slotIn u k)) (taken-page T)
+        ∙ ap g (taken-slot T)
+        ∙ new
         ∙ home (T .none)
-        ∙ sym (frame-unslotted r z t p l (T .none))))
+        ∙ sym (slot-lacks g r z t p (T .none))))
         (λ c.
         let n : q ≡ p → ⊥ = eqb-false q p c in
         let k : slotOf z u q ≡ slotOf z t q = slot-kept q lq n in
         caseOn (ltb (slotOf z t q) (z .slots))
         (λ e.
         let m : slotOf z t q < z .slots = ltb-true (slotOf z t q) (z .slots) e in
-        frame-slotted r z u q l (subst (λ (x : ℕ). x < z .slots) (sym k) m)
-        ∙ ap (λ (i : ℕ). committedFrame (slotIn u i) l) k
-        ∙ ap (λ (v : Slot). committedFrame v l) (slot-in-kept q lq n m)
-        ∙ sym (frame-slotted r z t q l m))
+        slot-has g r z u q (subst (λ (x : ℕ). x < z .slots) (sym k) m)
+        ∙ ap (λ (i : ℕ). g (slotIn u i)) k
+        ∙ ap g (slot-in-kept q lq n m)
+        ∙ sym (slot-has g r z t q m))
         (λ e.
         let m : slotOf z t q ≡ z .slots = slot-none z t q e in
-        frame-unslotted r z u q l (k ∙ m) ∙ sym (frame-unslotted r z t q l m))))
+        slot-lacks g r z u q (k ∙ m) ∙ sym (slot-lacks g r z t q m))))
         C
+
+    -- committed copies and homes stay where they are
+    pub frame-kept : (r : ℕ → ℕ) → (slotFor st p ≡ z .slots → ownFrame st p ≡ r p) → (q l : ℕ) → q < z .pages → frameOf r z (writeTable st p) q l ≡ frameOf r z t q l
+    frame-kept r home q l lq = by-slot-kept (λ v. committedFrame v l) r (committed-none (takenSlot st p) l refl) home q lq
+
+    pub home-kept : (r : ℕ → ℕ) → (slotFor st p ≡ z .slots → ownFrame st p ≡ r p) → (q : ℕ) → q < z .pages → homeOf r z (writeTable st p) q ≡ homeOf r z t q
+    home-kept r home q lq = by-slot-kept (λ v. v .original) r refl home q lq
 
     -- a page with a slot keeps it as it is
     pub slot-whole : (q : ℕ) → q < z .pages → slotOf z t q < z .slots → slotIn (writeTable st p) (slotOf z (writeTable st p) q) ≡ slotIn t (slotOf z t q)
@@ -228,7 +246,7 @@ module _ (st : State) (p : ℕ) (g : Legal (st .sizes)) (full : Sixteen (st .tab
         ∙ slot-page z u p (subst (λ (k : ℕ). k < z .slots) (sym page-slot) h))
 
     -- the image has still the slots that it had
-    pub write-behind : (r : ℕ → ℕ) (d : Table) → (slotFor st p ≡ z .slots → st .pending .frame ≡ r (pageWord p)) → (slotFor st p ≡ z .slots → slotOf z d p ≡ z .slots)
+    pub write-behind : (r : ℕ → ℕ) (d : Table) → (slotFor st p ≡ z .slots → ownFrame st p ≡ r p) → (slotFor st p ≡ z .slots → slotOf z d p ≡ z .slots)
         → Behind r z d t → Behind r z d (writeTable st p)
     write-behind r d home none h =
         ⊎-elim
@@ -257,13 +275,13 @@ module _ (st : State) (p : ℕ) (g : Legal (st .sizes)) (full : Sixteen (st .tab
             (λ (q : TakenOnly r z d t s). let f : slotIn t s .page ≡ noPage = ap (λ (v : Slot). v .page) (T .free) in absurd (omega (arith, q .page-low, g .pages-high)))
             (h .slot-same s (T .slot-low))
 
-        takes-only : (r : ℕ → ℕ) (d : Table) → (slotFor st p ≡ z .slots → st .pending .frame ≡ r (pageWord p)) → (slotFor st p ≡ z .slots → slotOf z d p ≡ z .slots)
+        takes-only : (r : ℕ → ℕ) (d : Table) → (slotFor st p ≡ z .slots → ownFrame st p ≡ r p) → (slotFor st p ≡ z .slots → slotOf z d p ≡ z .slots)
             → Behind r z d t → (T : Takes st p) → TakenOnly r z d (writeTable st p) s
         takes-only r d home none h T =
             let e : slotIn (writeTable st p) s ≡ takenSlot st p = taken-slot T in
             record {
               page-low = subst (λ (v : Slot). v .page < z .pages) (sym e) low;
-              original = subst (λ (v : Slot). v .original ≡ r (pageWord (v .page))) (sym e) (home (T .none));
+              original = subst (λ (v : Slot). v .original ≡ r (v .page)) (sym e) (home (T .none));
               bitmap = ap (λ (v : Slot). v .bitmap) e;
               was-free = subst (λ (v : Slot). slotIn d s ≡ freeSlot (v .spare)) (sym e) (was-free r d h T);
               unslotted = subst (λ (v : Slot). slotOf z d (v .page) ≡ z .slots) (sym e) (none (T .none));

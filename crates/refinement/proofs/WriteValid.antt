@@ -1,16 +1,20 @@
--- A write keeps the state valid: a page without a slot takes a free one, with a frame that no slot names, and the line
+-- A write keeps the state valid: a page without a slot takes a free one, with its own frame for original, and the line
 -- that becomes held is held by no other writer.
 use Prim.Native.Nat.{ℕ, _+_, _%_, _<_}
-use mathlib.Core.Bool.{Bool, true, false, _&&_, _||_, not, cond}
+use mathlib.Core.Bool.{Bool, true, false, _&&_, not}
 use mathlib.Core.Logic.{⊎-elim}
-use mathlib.Core.Path.{_≡_, refl, sym, ap, _∙_}
+use mathlib.Core.List.{List, _++_}
+use mathlib.Core.Path.{_≡_, refl, sym, ap, _∙_, subst}
 use native.Mathlib.Nat.{mod-lt}
 use native.Mathlib.Omega.{arith}
 use lib.Dec.{leb, eqb}
 use lib.ListN.{length}
 use borrow.Author.Tests.{eqb-true, eqb-false, ne-eqb, ltb-true, ltb-false, leb-false, le-leb, not-true}
+use Rattle.bounded.specs.Count.{Once}
+use Rattle.bounded.specs.Tab.{tab}
+use Rattle.bounded.proofs.Tab.{tab-ext}
 use Rattle.bounded.proofs.Below.{first-holds, first-before, none-at}
-use Rattle.bounded.proofs.Tests.{caseOn, or-left, or-right}
+use Rattle.bounded.proofs.Tests.{caseOn}
 use Rattle.layout.specs.declared.Sizes.{Sizes}
 use Rattle.layout.specs.Layout.{frames}
 use Rattle.journal.specs.declared.Slot.{Slot}
@@ -22,9 +26,9 @@ use Rattle.replay.proofs.Tables.{Sixteen, slot-same, slot-other}
 use Rattle.mount.proofs.View.{slot-none}
 use Rattle.masks.specs.Lines.{inMask, withLine}
 use Rattle.masks.proofs.Members.{in-none}
-use Rattle.state.specs.State.{State}
+use Rattle.state.specs.State.{State, ownFrame}
 use Rattle.state.specs.declared.Op.the-variants.{Write}
-use Rattle.state.specs.Slots.{freeAt, roundSlot, freeAfter, frameOfSlot}
+use Rattle.state.specs.Slots.{freeAt, roundSlot, freeAfter}
 use Rattle.state.specs.Held.{heldAt, othersHold}
 use Rattle.state.specs.Wide.{isWide}
 use Rattle.operations.specs.Operations.{slotFor, slotted}
@@ -32,7 +36,9 @@ use Rattle.validity.specs.Validity.{stateOk}
 use Rattle.operations.proofs.Taken.{WriteTaken, write-taken}
 use Rattle.refinement.specs.Stores.{completed}
 use Rattle.refinement.specs.Write.{writeSlot, writeTable, writeNext, writeWriters}
-use Rattle.refinement.proofs.ValidSlots.{Apart, SlotsFine}
+use Rattle.refinement.proofs.NamesOnce.{spare-home}
+use Rattle.refinement.proofs.Valid.{map-names, map-home, map-low}
+use Rattle.refinement.proofs.ValidSlots.{SlotsFine}
 use Rattle.refinement.proofs.ValidWriters.{HeldFine}
 use Rattle.refinement.proofs.ValidLasts.{LastsFine, lastAt}
 use Rattle.refinement.proofs.StateValid.{narrow, valid, valid-ok}
@@ -45,13 +51,13 @@ use Rattle.refinement.proofs.Records.{slots-same}
 pub record Target (st : State) (w l s next : ℕ) (t : Table) : Type 0 where
   pub slot-low : s < st .sizes .slots
   pub next-low : next < st .sizes .slots
-  pub slots : SlotsFine (st .sizes) (slotIn t)
+  pub slots : SlotsFine (st .sizes) (ownFrame st) (slotIn t)
   pub held : HeldFine (st .sizes) (slotIn t) (st .writers .opened) (st .writers .held)
   pub lasts : LastsFine (st .sizes) (st .head) (st .tail) (lastAt t)
   pub owned : slotIn t s .page ≡ noPage → ⊥
   pub line-free : (v : ℕ) → v < 4 → (v ≡ w → ⊥) → inMask (heldAt (st .writers .held) v s) l ≡ false
 
-module _ (st : State) (w p l o n : ℕ) (e : stateOk st ≡ true) (full : Sixteen (st .table)) (h : WriteTaken st w p l o n (st .pending .frame)) where
+module _ (st : State) (w p l o n : ℕ) (e : stateOk st ≡ true) (full : Sixteen (st .table)) (h : WriteTaken st w p l o n) where
   abbrev z : Sizes
   z = st .sizes
 
@@ -107,37 +113,16 @@ module _ (st : State) (w p l o n : ℕ) (e : stateOk st ≡ true) (full : Sixtee
     no-slot k m =
         eqb-false (f k .page) p (first-before (λ s. eqb (f s .page) p) (z .slots) k (omega (arith, slot-none z (st .table) p y)))
 
-    frame-row : leb (frames z) (st .pending .frame) || frameOfSlot z (st .table .page) (st .table .original) (st .table .spare) (st .pending .frame) ≡ false
-    frame-row =
-        ap (λ (b : Bool). cond b (not (eqb (f (slotFor st p) .original) (st .pending .frame))) (leb (frames z) (st .pending .frame) || frameOfSlot z (st .table .page) (st .table .original) (st .table .spare) (st .pending .frame))) (sym y)
-        ∙ h .frame-good
+    -- the page's frame is below F and no slot's spare
+    pub frame-low : ownFrame st p < frames z
+    frame-low = map-low st e p (h .args .page-low)
 
-    pub frame-low : st .pending .frame < frames z
-    frame-low =
-        leb-false (frames z) (st .pending .frame)
-        (or-left (leb (frames z) (st .pending .frame)) (frameOfSlot z (st .table .page) (st .table .original) (st .table .spare) (st .pending .frame)) frame-row)
-
-    frame-tests : (k : ℕ) → k < z .slots → eqb (f k .spare) (st .pending .frame) || (not (freeAt (st .table .page) k) && eqb (f k .original) (st .pending .frame)) ≡ false
-    unfolding frameOfSlot
-    frame-tests k m =
-        none-at (λ s. eqb (f s .spare) (st .pending .frame) || (not (freeAt (st .table .page) s) && eqb (f s .original) (st .pending .frame))) (z .slots) k m
-        (or-right (leb (frames z) (st .pending .frame)) (frameOfSlot z (st .table .page) (st .table .original) (st .table .spare) (st .pending .frame)) frame-row)
-
-    -- the page's frame is no slot's spare, and no original of a slot with a page
-    pub frame-spare : (k : ℕ) → k < z .slots → st .pending .frame ≡ f k .spare → ⊥
+    pub frame-spare : (k : ℕ) → k < z .slots → ownFrame st p ≡ f k .spare → ⊥
     frame-spare k m q =
-        eqb-false (f k .spare) (st .pending .frame)
-        (or-left (eqb (f k .spare) (st .pending .frame)) (not (freeAt (st .table .page) k) && eqb (f k .original) (st .pending .frame)) (frame-tests k m)) (sym q)
-
-    pub frame-original : (k : ℕ) → k < z .slots → (f k .page ≡ noPage → ⊥) → st .pending .frame ≡ f k .original → ⊥
-    frame-original k m d q =
-        eqb-false (f k .original) (st .pending .frame)
-        (ap (λ (b : Bool). not b && eqb (f k .original) (st .pending .frame)) (sym (ne-eqb (f k .page) noPage d))
-        ∙ or-right (eqb (f k .spare) (st .pending .frame)) (not (freeAt (st .table .page) k) && eqb (f k .original) (st .pending .frame)) (frame-tests k m))
-        (sym q)
+        spare-home (ownFrame st) z (st .table) (map-names st e) k p m (h .args .page-low) (sym (map-home st e p (h .args .page-low) ∙ q))
 
     abbrev pub takenSlot : Slot
-    takenSlot = record { page = p; original = st .pending .frame; spare = f (writeSlot st p) .spare; bitmap = 0 }
+    takenSlot = record { page = p; original = ownFrame st p; spare = f (writeSlot st p) .spare; bitmap = 0 }
 
     taken-shaped : shaped z takenSlot ≡ true
     taken-shaped =
@@ -147,17 +132,6 @@ module _ (st : State) (w p l o n : ℕ) (e : stateOk st ≡ true) (full : Sixtee
         ⊎-elim (λ (x : Owning z (f s)). x .spare-low) (λ (x : Free z (f s)). x .spare-low) (shape z (f s) (v .slots .shapes s taken-low)) in
         owning-shaped z takenSlot
         (record { page-low = h .args .page-low; original-low = frame-low; spare-low = low; apart = frame-spare s taken-low })
-
-    taken-apart : (k : ℕ) → k < z .slots → (k ≡ writeSlot st p → ⊥) → Apart takenSlot (f k)
-    taken-apart k m d =
-        let a = valid st e .slots .apart (writeSlot st p) k taken-low m (λ x. d (sym x)) in
-        record {
-          pages = λ x q. no-slot k m (sym q);
-          spares = a .spares;
-          forth = frame-spare k m;
-          back = a .back;
-          originals = λ x. frame-original k m;
-        }
 
     -- nobody holds lines of a free slot
     pub taken-unheld : (v : ℕ) → v < 4 → heldAt (st .writers .held) v (writeSlot st p) ≡ 0
@@ -175,10 +149,18 @@ module _ (st : State) (w p l o n : ℕ) (e : stateOk st ≡ true) (full : Sixtee
         let same : slotIn t s ≡ takenSlot = slot-same (st .table) s takenSlot full low in
         let others = slot-other (st .table) s takenSlot in
         let page : p ≡ noPage → ⊥ = λ x. omega (arith, h .args .page-low) in
+        let spare-kept : (k : ℕ) → slotIn t k .spare ≡ f k .spare =
+        λ k.
+        caseOn (eqb k s)
+        (λ c. ap (λ (i : ℕ). slotIn t i .spare) (eqb-true k s c) ∙ ap (λ (x : Slot). x .spare) same ∙ ap (λ (i : ℕ). f i .spare) (sym (eqb-true k s c)))
+        (λ c. ap (λ (x : Slot). x .spare) (others k (eqb-false k s c))) in
         record {
           slot-low = taken-low;
           next-low = mod-lt (s + 1) (omega arith);
-          slots = slots-changed z f (slotIn t) s takenSlot same others (v .slots) taken-shaped taken-apart;
+          slots =
+              slots-changed z f (slotIn t) s takenSlot same others (ownFrame st) (ownFrame st) (v .slots) taken-shaped (λ k m d n q. no-slot k m (sym q))
+              (subst (λ (l : List ℕ). Once (frames z) (l ++ tab (z .pages) (ownFrame st))) (tab-ext (z .slots) (λ k. f k .spare) (λ k. slotIn t k .spare) (λ k m. sym (spare-kept k))) (v .slots .named))
+              (λ n. refl) (λ k m d n. refl);
           held = held-changed z f (slotIn t) s takenSlot same others (st .writers .opened) (st .writers .held) (v .held) (λ u j x. page);
           lasts = v .lasts;
           owned = λ x. page (sym (ap (λ (u : Slot). u .page) same) ∙ x);
@@ -217,4 +199,4 @@ module _ (st : State) (w p l o n : ℕ) (e : stateOk st ≡ true) (full : Sixtee
 
 pub write-valid : (st : State) (w p l o n : ℕ) → stateOk st ≡ true → Sixteen (st .table) → length (st .writers .held) ≡ 64 → st .pending .op ≡ Write w p l o n → stateOk (completed st (Write w p l o n)) ≡ true
 write-valid st w p l o n e full lines q =
-    written-valid st w p l o n e full (write-taken st w p l o n (st .pending .frame) (pends st (Write w p l o n) e q refl .taken)) (not-true _ (pends st (Write w p l o n) e q refl .fits)) lines
+    written-valid st w p l o n e full (write-taken st w p l o n (pends st (Write w p l o n) e q refl .taken)) (not-true _ (pends st (Write w p l o n) e q refl .fits)) lines

@@ -19,7 +19,7 @@ use Rattle.state.specs.Wide.{isWide, someWide}
 use Rattle.operations.specs.Operations.{writeRows, logRows, commitRows, opRows}
 use Rattle.operations.proofs.Taken.{ArgsGood, write-taken, log-taken, commit-alone}
 use Rattle.validity.specs.Validity.{opFits, isFresh}
-use Rattle.refinement.specs.Frames.{pageFrame, seenFrame, holds}
+use Rattle.refinement.specs.Frames.{seenFrame, holds}
 use Rattle.refinement.specs.Calls.{rowState, rowShort, rowPending, quietRows, seenLine, finishedLine, changesNothing, writeOp, commitOp, writeCallRows}
 
 -- where there is no wide transaction, no writer is a wide one
@@ -28,7 +28,7 @@ unwide st w e l = ne-eqb (st .wide .writer) w (λ q. omega (arith, q, ltb-false 
 
 -- the line in the frame that the writer sees, and the rows of a narrow write
 abbrev pub frameLine : State → List ℕ → ℕ → ℕ → ℕ → List ℕ
-frameLine st img w p l = lineBytes img (st .sizes) (seenFrame st w p l (pageFrame st img p)) l
+frameLine st img w p l = lineBytes img (st .sizes) (seenFrame st w p l) l
 
 module _ (st : State) (img : List ℕ) (w : ℕ) (other : isWide (st .wide) w ≡ false) where
   pub seen-narrow : (p l : ℕ) → seenLine st img w p l ≡ frameLine st img w p l
@@ -74,8 +74,8 @@ module _ (st : State) (w : ℕ) where
   pub commit-fits : opFits (st .wide .writer) (isFresh st) (commitOp st w) ≡ true
   commit-fits = caseOn (isWide (st .wide) w) (λ t. rw t) (λ t. rw t (ap not t))
 
-  pub commit-op-row : (f : ℕ) → refusal (commitRows st w) ≡ 0 → refusal (opRows st (commitOp st w) f) ≡ 0
-  commit-op-row f r = caseOn (isWide (st .wide) w) (λ t. rw (t, commit-alone st w r)) (λ t. rw t r)
+  pub commit-op-row : refusal (commitRows st w) ≡ 0 → refusal (opRows st (commitOp st w)) ≡ 0
+  commit-op-row r = caseOn (isWide (st .wide) w) (λ t. rw (t, commit-alone st w r)) (λ t. rw t r)
 
 -- of a write the rows after the first four; what these say; and its arguments
 module _ (st : State) (img : List ℕ) (w p l o n : ℕ) (bytes : List ℕ) (r : refusal (writeCallRows st img w p l o n bytes) ≡ 0) where
@@ -83,9 +83,9 @@ module _ (st : State) (img : List ℕ) (w p l o n : ℕ) (bytes : List ℕ) (r :
   first = quietRows st (length img) ++ ((ltb (length bytes) n, 11) ∷ [])
 
   abbrev rest : List Row
-  rest = cond (isWide (st .wide) w) (logRows st p l o n (pageFrame st img p)) (writeRows st w p l o n (pageFrame st img p))
+  rest = cond (isWide (st .wide) w) (logRows st p l o n) (writeRows st w p l o n)
 
-  pub write-op-row : refusal (opRows st (writeOp st w p l o n) (pageFrame st img p)) ≡ 0
+  pub write-op-row : refusal (opRows st (writeOp st w p l o n)) ≡ 0
   write-op-row =
       let e : refusal rest ≡ 0 = past-rows first rest (omega arith) r in
       caseOn (isWide (st .wide) w) (λ t. rw t (rw t at e)) (λ t. rw t (rw t at e))
@@ -96,7 +96,6 @@ module _ (st : State) (img : List ℕ) (w p l o n : ℕ) (bytes : List ℕ) (r :
   pub write-args : ArgsGood (st .sizes) w p l o n
   write-args =
       let e : refusal rest ≡ 0 = past-rows first rest (omega arith) r in
-      let f = pageFrame st img p in
       caseOn (isWide (st .wide) w)
-      (λ t. subst (λ (x : ℕ). ArgsGood (st .sizes) x p l o n) (eqb-true (st .wide .writer) w t) (log-taken st p l o n f (rw t at e) .args))
-      (λ t. write-taken st w p l o n f (rw t at e) .args)
+      (λ t. subst (λ (x : ℕ). ArgsGood (st .sizes) x p l o n) (eqb-true (st .wide .writer) w t) (log-taken st p l o n (rw t at e) .args))
+      (λ t. write-taken st w p l o n (rw t at e) .args)

@@ -10,7 +10,6 @@ use Rattle.words.specs.Words.{Bytes}
 use Rattle.layout.specs.declared.Sizes.{Sizes}
 use Rattle.layout.specs.Layout.{sizesOk, imageLength}
 use Rattle.state.specs.State.{State}
-use Rattle.refinement.specs.Frames.{pageFrame}
 use Rattle.refinement.specs.Outcome.{Outcome}
 use Rattle.refinement.specs.Stores.{World}
 use Rattle.refinement.specs.Calls.{asked, finishedLine, writeOp, writeCallRows}
@@ -21,7 +20,7 @@ use Rattle.refinement.specs.Statement.{Lent}
 -- the write before this change: every taken one needs its stores
 unfoldable pub writeBefore : State → List ℕ → ℕ → ℕ → ℕ → ℕ → ℕ → List ℕ → Outcome
 writeBefore st img w p l o n bytes =
-    asked (refusal (writeCallRows st img w p l o n bytes)) st (writeOp st w p l o n) (finishedLine st img w p l o n bytes) (pageFrame st img p)
+    asked (refusal (writeCallRows st img w p l o n bytes)) st (writeOp st w p l o n) (finishedLine st img w p l o n bytes)
 
 -- the calls before this change
 unfoldable pub execBefore : Call → World → Result

@@ -1,18 +1,18 @@
 -- What stands beside demand 3, over the same lists: sentences on the world that a list of calls reaches on a freshly formatted buffer,
 -- and on the reference machine fed the same calls. A list may end anywhere, so each holds before and after every call of a list.
 use Prim.Native.Nat.{ℕ, _+_, _*_, _<_, _≤_, min}
-use mathlib.Core.Bool.{Bool, true, false, _&&_, _||_, cond}
+use mathlib.Core.Bool.{Bool, true, false, _&&_, cond}
 use mathlib.Core.List.{List, [], _∷_}
 use mathlib.Core.Logic.{_⊎_}
 use mathlib.Core.Path.{_≡_}
-use lib.Dec.{ltb, leb, eqb}
+use lib.Dec.{ltb, leb}
 use lib.ListN.{length, drop}
 use Rattle.words.specs.Words.{Bytes, word}
 use Rattle.layout.specs.declared.Sizes.{Sizes}
 use Rattle.layout.specs.Layout.{sizesOk, imageLength, pageWord}
 use Rattle.journal.specs.Slots.{freeSlot}
 use Rattle.replay.specs.Table.{slotIn, lastIn}
-use Rattle.state.specs.State.{State}
+use Rattle.state.specs.State.{State, ownFrame}
 use Rattle.state.specs.declared.Op.the-variants.{Checkpoint}
 use Rattle.operations.specs.Operations.{needs}
 use Rattle.refinement.specs.Stores.{World, storeAt, left}
@@ -42,7 +42,7 @@ counted st = cond (isCopy (st .pending .op) && ltb 0 (st .pending .made)) (st .w
 
 -- line l of page p in the image, where a state says that its committed line lies
 abbrev pub lineOf : List ℕ → State → ℕ → ℕ → List ℕ
-lineOf img st p l = shownLine img (st .sizes) (st .table) (counted st) (st .wide .keys) p l
+lineOf img st p l = shownLine img (ownFrame st) (st .sizes) (st .table) (counted st) (st .wide .keys) p l
 
 -- a mount (which stands for a power cut) is taken and finds these lines, by page and line
 pub record Finds (z : Sizes) (v : World) (lines : ℕ → ℕ → List ℕ) : Type 0 where
@@ -57,13 +57,14 @@ pub record Uncommitted (img : List ℕ) (st m : State) (s : ℕ) : Type 0 where
   pub bitmap : slotIn (st .table) s .bitmap ≡ 0
   pub free : slotIn (m .table) s ≡ freeSlot (slotIn (st .table) s .spare)
 
--- the mounted state m has the sizes, head, tail, last positions and committed slots of the state st, and finds its committed lines
+-- the mounted state m has the sizes, head, tail, last positions, committed slots and map of the state st, and finds its committed lines
 pub record ReadsBack (img : List ℕ) (st m : State) : Type 0 where
   pub sizes : m .sizes ≡ st .sizes
   pub head : m .head ≡ st .head
   pub tail : m .tail ≡ st .tail
   pub last : (s : ℕ) → s < st .sizes .slots → lastIn (m .table) s ≡ lastIn (st .table) s
   pub slot : (s : ℕ) → s < st .sizes .slots → (slotIn (m .table) s ≡ slotIn (st .table) s) ⊎ Uncommitted img st m s
+  pub map : (p : ℕ) → p < st .sizes .pages → ownFrame m p ≡ ownFrame st p
   pub line : (p l : ℕ) → p < st .sizes .pages → l < 64 → lineOf img m p l ≡ lineOf img st p l
 
 -- after any list a mount is taken, finds the reference machine's pages, and reads the state back
@@ -72,9 +73,9 @@ MountReadsBack = Always (λ z buffer v b. Finds z v (recallLine b) × ReadsBack 
 
 -- ---- no call is turned back for a broken image, buffer or state
 
--- the numbers 1 to 8 and 16
+-- the numbers 1 to 8
 abbrev pub broken : ℕ → Bool
-broken n = (leb 1 n && leb n 8) || eqb n 16
+broken n = leb 1 n && leb n 8
 
 -- whatever call comes next, it is not answered one of these
 abbrev pub NeverRefused : Type 0
@@ -85,7 +86,7 @@ NeverRefused = Always (λ z buffer v b. (c : Call) → broken (exec c v .number)
 -- the eight bytes of each store of the operation that is pending lie inside the image
 abbrev pub StoresInside : Type 0
 StoresInside =
-    Always (λ z buffer v b. (i : ℕ) → i < needs (v .st) (v .st .pending .op) → 8 * storeAt (v .st) (v .image) (v .st .pending .op) i + 8 ≤ imageLength z)
+    Always (λ z buffer v b. (i : ℕ) → i < needs (v .st) (v .st .pending .op) → 8 * storeAt (v .st) (v .st .pending .op) i + 8 ≤ imageLength z)
 
 -- the bytes past the image are those of the buffer
 abbrev pub PastKept : Type 0

@@ -8,21 +8,21 @@ use Rattle.bounded.specs.Below.{someBelow}
 use Rattle.bounded.specs.Rows.{Row, refusal}
 use Rattle.layout.specs.Layout.{imageLength}
 use Rattle.image.specs.Lines.{lineBytes, merged, mergeChanges, lineWords}
-use Rattle.words.specs.Words.{over, bytesOf, word, wordAt}
+use Rattle.words.specs.Words.{over, bytesOf, wordAt}
 use Rattle.meters.specs.Meters.{moduliOk, modulusOf, eventKnown, movesCredit, firstMeter, ownMeter, eventNeeds, rolled, firstNumber, amountBad}
 use Rattle.moduli_text.specs.Text.{textRow, moduliIn}
-use Rattle.state.specs.State.{State, Writers}
+use Rattle.state.specs.State.{State, Writers, ownFrame}
 use Rattle.state.specs.declared.Op.{Op}
 use Rattle.state.specs.declared.Op.the-variants.{Idle, Write, Commit, Consolidate, Checkpoint, Event, Prepare, Confirm, Log, Copy}
 use Rattle.state.specs.Held.{isOpen, noWriter, somePrepared}
 use Rattle.state.specs.Wide.{someWide, isWide, begunWide, dropped, entryFor, hasEntry, someOpen}
-use Rattle.operations.specs.Operations.{isIdle, slotFor, frameBad, journalFull, writeRows, logRows, commitRows, prepareRows, confirmRows, consolidateRows}
+use Rattle.operations.specs.Operations.{isIdle, journalFull, writeRows, logRows, commitRows, prepareRows, confirmRows, consolidateRows}
 use Rattle.operations.specs.Operations.{needs, eventNextRows}
 use Rattle.validity.specs.Validity.{stateOk}
 use Rattle.refinement.specs.Wide.{entryBytes}
 use Rattle.refinement.specs.Settled.{withPrepared, withLines}
 use Rattle.refinement.specs.Commit.{closedWriter}
-use Rattle.refinement.specs.Frames.{pageFrame, seenFrame, holds}
+use Rattle.refinement.specs.Frames.{seenFrame, holds}
 use Rattle.refinement.specs.Recall.{frameOf}
 use Rattle.refinement.specs.Freeing.{freedSlot, freedPage}
 use Rattle.refinement.specs.Stores.{World, completed, stepped, steppedBy, left}
@@ -85,15 +85,15 @@ abortOf st w =
 
 -- ---- operations asked for: complete where no store is needed, else pending
 
-abbrev pub asked : ℕ → State → Op → List ℕ → ℕ → Outcome
-asked row st op line frame =
-    answered row st (needs st op) (cond (eqb (needs st op) 0) (completed st op) (withPending st op line frame))
+abbrev pub asked : ℕ → State → Op → List ℕ → Outcome
+asked row st op line =
+    answered row st (needs st op) (cond (eqb (needs st op) 0) (completed st op) (withPending st op line))
 
 -- the line as the writer reads it, a wide writer its own entry first; and with the data's first n bytes laid over
 abbrev pub seenLine : State → List ℕ → ℕ → ℕ → ℕ → List ℕ
 seenLine st img w p l =
     cond (isWide (st .wide) w && hasEntry (st .wide) p l) (entryBytes img (st .sizes) (entryFor (st .wide) p l))
-    (lineBytes img (st .sizes) (seenFrame st w p l (pageFrame st img p)) l)
+    (lineBytes img (st .sizes) (seenFrame st w p l) l)
 
 abbrev pub finishedLine : State → List ℕ → ℕ → ℕ → ℕ → ℕ → ℕ → List ℕ → List ℕ
 finishedLine st img w p l o n bytes = lineWords (merged (seenLine st img w p l) o n bytes)
@@ -101,7 +101,7 @@ finishedLine st img w p l o n bytes = lineWords (merged (seenLine st img w p l) 
 abbrev pub writeCallRows : State → List ℕ → ℕ → ℕ → ℕ → ℕ → ℕ → List ℕ → List Row
 writeCallRows st img w p l o n bytes =
     rowState st ∷ rowShort st (length img) ∷ rowPending st ∷ (ltb (length bytes) n, 11)
-    ∷ cond (isWide (st .wide) w) (logRows st p l o n (pageFrame st img p)) (writeRows st w p l o n (pageFrame st img p))
+    ∷ cond (isWide (st .wide) w) (logRows st p l o n) (writeRows st w p l o n)
 
 -- the writer holds the line, a wide one as an entry, and the data change none of its bytes (document 02, L3)
 unfoldable pub changesNothing : State → List ℕ → ℕ → ℕ → ℕ → ℕ → ℕ → List ℕ → Bool
@@ -118,7 +118,7 @@ unfoldable pub writeOf : State → List ℕ → ℕ → ℕ → ℕ → ℕ → 
 writeOf st img w p l o n bytes =
     let idle = changesNothing st img w p l o n bytes in
     answered (refusal (writeCallRows st img w p l o n bytes)) st (cond idle 0 (cond (isWide (st .wide) w) 9 8))
-    (cond idle st (withPending st (writeOp st w p l o n) (finishedLine st img w p l o n bytes) (pageFrame st img p)))
+    (cond idle st (withPending st (writeOp st w p l o n) (finishedLine st img w p l o n bytes)))
 
 abbrev pub commitCallRows : State → List ℕ → ℕ → List Row
 commitCallRows st img w = rowState st ∷ rowShort st (length img) ∷ rowPending st ∷ commitRows st w
@@ -128,20 +128,20 @@ abbrev pub commitOp : State → ℕ → Op
 commitOp st w = cond (isWide (st .wide) w) Copy (Commit w)
 
 unfoldable pub commitOf : State → List ℕ → ℕ → Outcome
-commitOf st img w = asked (refusal (commitCallRows st img w)) st (commitOp st w) (replicate 8 0) 0
+commitOf st img w = asked (refusal (commitCallRows st img w)) st (commitOp st w) (replicate 8 0)
 
 -- prepare, confirm and withdraw (document 02, L8): a commit in two parts. A withdraw needs no stores: no writer is prepared, and the transaction goes on
 abbrev pub prepareCallRows : State → List ℕ → ℕ → List Row
 prepareCallRows st img w = rowState st ∷ rowShort st (length img) ∷ rowPending st ∷ prepareRows st w
 
 unfoldable pub prepareOf : State → List ℕ → ℕ → Outcome
-prepareOf st img w = asked (refusal (prepareCallRows st img w)) st (Prepare w) (replicate 8 0) 0
+prepareOf st img w = asked (refusal (prepareCallRows st img w)) st (Prepare w) (replicate 8 0)
 
 abbrev pub confirmCallRows : State → List ℕ → ℕ → List Row
 confirmCallRows st img w = rowState st ∷ rowShort st (length img) ∷ rowPending st ∷ confirmRows st w
 
 unfoldable pub confirmOf : State → List ℕ → ℕ → Outcome
-confirmOf st img w = asked (refusal (confirmCallRows st img w)) st (Confirm w) (replicate 8 0) 0
+confirmOf st img w = asked (refusal (confirmCallRows st img w)) st (Confirm w) (replicate 8 0)
 
 unfoldable pub withdrawOf : State → List ℕ → ℕ → Outcome
 withdrawOf st img w = answered (refusal (confirmCallRows st img w)) st 0 (withWriters st (withPrepared (st .writers) noWriter))
@@ -150,7 +150,7 @@ abbrev pub consolidateCallRows : State → List ℕ → ℕ → List Row
 consolidateCallRows st img p = rowState st ∷ rowShort st (length img) ∷ rowPending st ∷ consolidateRows st p
 
 unfoldable pub consolidateOf : State → List ℕ → ℕ → Outcome
-consolidateOf st img p = asked (refusal (consolidateCallRows st img p)) st (Consolidate p) (replicate 8 0) 0
+consolidateOf st img p = asked (refusal (consolidateCallRows st img p)) st (Consolidate p) (replicate 8 0)
 
 -- a slot freed: the consolidation of the slot chosen. 23: a writer is prepared; 22: every taken slot has a held line, or none is taken
 abbrev pub freeCallRows : State → List ℕ → List Row
@@ -164,13 +164,13 @@ freeCallRows st img =
     ∷ []
 
 unfoldable pub freeOf : State → List ℕ → Outcome
-freeOf st img = asked (refusal (freeCallRows st img)) st (Consolidate (freedPage st)) (replicate 8 0) 0
+freeOf st img = asked (refusal (freeCallRows st img)) st (Consolidate (freedPage st)) (replicate 8 0)
 
 abbrev pub checkpointCallRows : State → List ℕ → List Row
 checkpointCallRows st img = rowState st ∷ rowShort st (length img) ∷ rowPending st ∷ []
 
 unfoldable pub checkpointOf : State → List ℕ → Outcome
-checkpointOf st img = asked (refusal (checkpointCallRows st img)) st Checkpoint (replicate 8 0) 0
+checkpointOf st img = asked (refusal (checkpointCallRows st img)) st Checkpoint (replicate 8 0)
 
 -- ---- events (document 02, L2 and L10), lent the moduli ms
 
@@ -189,34 +189,33 @@ abbrev pub eventSecond : State → List ℕ → List ℕ → ℕ → ℕ → ℕ
 eventSecond st img ms k m a =
     cond (movesCredit k) (meterLine st img (ownMeter k m) (rolled ms (ownMeter k m) (meterIn st img (ownMeter k m)) a)) (replicate 8 0)
 
--- 29, 20, 26 (not 24 moduli in the range), 12, 23, 14, 15, 16, then 21, then 19
+-- 29, 20, 26 (not 24 moduli in the range), 12, 23, 14, 15, then 21, then 19
 abbrev pub eventCallRows : State → List ℕ → List ℕ → ℕ → ℕ → ℕ → List Row
 eventCallRows st img ms k m a =
     rowState st ∷ rowShort st (length img) ∷ rowPending st
     ∷ (someWide (st .wide .writer), 29)
     ∷ (not (eventKnown k m), 20)
     ∷ (not (moduliOk ms), 26)
-    ∷ (eventNextRows st k m (pageFrame st img 0) ++ ((amountBad ms k m (meterIn st img (firstMeter k m)) a, 21) ∷ (journalFull st 1, 19) ∷ []))
+    ∷ (eventNextRows st k m ++ ((amountBad ms k m (meterIn st img (firstMeter k m)) a, 21) ∷ (journalFull st 1, 19) ∷ []))
 
 -- an event needs stores always
 unfoldable pub eventOf : State → List ℕ → List ℕ → ℕ → ℕ → ℕ → Outcome
 eventOf st img ms k m a =
     answered (refusal (eventCallRows st img ms k m a)) st (eventNeeds k)
-    (withLines st (Event k m a) (eventLine st img ms k m a) (eventSecond st img ms k m a) (pageFrame st img 0))
+    (withLines st (Event k m a) (eventLine st img ms k m a) (eventSecond st img ms k m a))
 
 -- ---- load (document 02, L10): a text's moduli, for events to be lent
 
 -- the stored number of meter m: that of its line's committed copy
 abbrev pub meterStored : State → List ℕ → ℕ → ℕ
-meterStored st img m = wordAt (lineBytes img (st .sizes) (frameOf (word img) (st .sizes) (st .table) 0 m) m) 0
+meterStored st img m = wordAt (lineBytes img (st .sizes) (frameOf (ownFrame st) (st .sizes) (st .table) 0 m) m) 0
 
--- 25 and 26 line by line; 16: page 0, whose meters are read then; 27: a stored meter is not below its new modulus
+-- 25 and 26 line by line; 27: a stored meter is not below its new modulus
 abbrev pub loadRows : State → List ℕ → List ℕ → List Row
 loadRows st img text =
     rowState st ∷ rowShort st (length img) ∷ rowPending st
     ∷ (eqb (textRow text) 25, 25)
     ∷ (eqb (textRow text) 26, 26)
-    ∷ (frameBad (st .sizes) (st .table .page) (st .table .original) (st .table .spare) (slotFor st 0) (pageFrame st img 0), 16)
     ∷ (someBelow 24 (λ m. leb (modulusOf (moduliIn text) m) (meterStored st img m)), 27)
     ∷ []
 
@@ -235,7 +234,6 @@ abbrev pub readRows : State → List ℕ → ℕ → ℕ → ℕ → List ℕ �
 readRows st img w p l target =
     rowState st ∷ rowShort st (length img) ∷ rowPending st
     ∷ (ltb 3 w || leb (st .sizes .pages) p || ltb 63 l || ltb (length target) 64, 11)
-    ∷ (frameBad (st .sizes) (st .table .page) (st .table .original) (st .table .spare) (slotFor st p) (pageFrame st img p), 16)
     ∷ []
 
 unfoldable pub readRow : State → List ℕ → ℕ → ℕ → ℕ → List ℕ → ℕ

@@ -1,12 +1,12 @@
 -- Consolidate: k is the number of ones in the bitmap. If k ≤ 32, those k lines go from spare to original; otherwise the
 -- 64 − k others go from original to spare and the two frames change roles. Then the page-table word, a record that frees
--- the slot, and head.
+-- the slot, and head. The map changes with the last store (document 02, L5).
 use Prim.Native.Nat.{ℕ, _+_, _-_, _*_, _/_, _%_, _<_}
 use mathlib.Core.Bool.{Bool, true, cond}
 use mathlib.Core.List.{List}
 use mathlib.Core.Path.{_≡_}
 use lib.Dec.{ltb, leb, eqb}
-use lib.ListN.{getD}
+use lib.ListN.{getD, set}
 use Rattle.bounded.specs.Below.{upTo}
 use Rattle.layout.specs.declared.Sizes.{Sizes}
 use Rattle.layout.specs.Layout.{Legal, headWord, pageWord, recordWord, lineWord}
@@ -21,6 +21,7 @@ use Rattle.masks.specs.Lines.{countLines, linesIn, linesNotIn}
 use Rattle.state.specs.State.{State}
 use Rattle.operations.specs.Operations.{copyCount}
 use Rattle.refinement.specs.Frames.{pageSlotIn, pageSlot}
+use Rattle.refinement.specs.Settled.{settled, withMap}
 
 -- k ≤ 32
 abbrev pub isFew : Slot → Bool
@@ -86,3 +87,12 @@ consolidateStores z head t p from n img = consolidationStores z head (pageSlotIn
 
 abbrev pub consolidateTable : State → ℕ → Table
 consolidateTable st p = replay (st .sizes) (st .head) 1 (freeingRecord st p) (st .table)
+
+-- the page's frame is then the one that the lines went to: the original, or the spare where the two change roles
+abbrev pub consolidateMap : State → ℕ → List ℕ
+consolidateMap st p = set (st .map) p (copyTo (pageSlot st p))
+
+-- the state when its last store is made
+abbrev pub consolidateDone : State → ℕ → State
+consolidateDone st p =
+    withMap (settled st (position (st .sizes) (st .head) 1) (st .tail) (st .next) (consolidateTable st p) (st .writers)) (consolidateMap st p)

@@ -11,7 +11,6 @@ use Rattle.state.specs.State.{State}
 use Rattle.state.specs.declared.Op.the-variants.{Event}
 use Rattle.state.specs.Wide.{someWide}
 use Rattle.operations.specs.Operations.{journalFull, eventNextRows}
-use Rattle.refinement.specs.Frames.{pageFrame}
 use Rattle.refinement.specs.Outcome.{Outcome, answered}
 use Rattle.refinement.specs.Settled.{withLines}
 use Rattle.refinement.specs.Calls.{rowState, rowShort, rowPending, meterIn, meterLine, eventOf}
@@ -31,13 +30,13 @@ abbrev pub fixedAmountBad : ℕ → ℕ → ℕ → ℕ → Bool
 fixedAmountBad kind meter stored amount =
     leb (fixedModulus (ownMeter kind meter)) amount || (movesCredit kind && fixedCreditBad kind stored amount)
 
--- 29 (document 02, L14), 20, 12, 14, 15, 16, 21, 19
+-- 29 (document 02, L14), 20, 12, 14, 15, 21, 19
 abbrev pub fixedEventRows : State → List ℕ → ℕ → ℕ → ℕ → List Row
 fixedEventRows st img k m a =
     rowState st ∷ rowShort st (length img) ∷ rowPending st
     ∷ (someWide (st .wide .writer), 29)
     ∷ (not (eventKnown k m), 20)
-    ∷ (eventNextRows st k m (pageFrame st img 0) ++ ((fixedAmountBad k m (meterIn st img (firstMeter k m)) a, 21) ∷ (journalFull st 1, 19) ∷ []))
+    ∷ (eventNextRows st k m ++ ((fixedAmountBad k m (meterIn st img (firstMeter k m)) a, 21) ∷ (journalFull st 1, 19) ∷ []))
 
 abbrev pub fixedLine : State → List ℕ → ℕ → ℕ → ℕ → List ℕ
 fixedLine st img k m a = meterLine st img (firstMeter k m) (fixedFirst k m (meterIn st img (firstMeter k m)) a)
@@ -49,7 +48,7 @@ fixedSecond st img k m a =
 abbrev pub fixedEventOf : State → List ℕ → ℕ → ℕ → ℕ → Outcome
 fixedEventOf st img k m a =
     answered (refusal (fixedEventRows st img k m a)) st (eventNeeds k)
-    (withLines st (Event k m a) (fixedLine st img k m a) (fixedSecond st img k m a) (pageFrame st img 0))
+    (withLines st (Event k m a) (fixedLine st img k m a) (fixedSecond st img k m a))
 
 -- on any state and any bytes
 abbrev pub EventAsFixed : Type 0

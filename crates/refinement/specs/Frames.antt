@@ -6,13 +6,11 @@ use mathlib.Core.List.{List}
 use lib.Dec.{ltb}
 use lib.ListN.{getD}
 use Rattle.layout.specs.declared.Sizes.{Sizes}
-use Rattle.layout.specs.Layout.{pageWord}
-use Rattle.words.specs.Words.{word}
 use Rattle.journal.specs.declared.Slot.{Slot}
 use Rattle.replay.specs.declared.Table.{Table}
 use Rattle.replay.specs.Table.{slotIn, slotOf}
 use Rattle.masks.specs.Lines.{inMask}
-use Rattle.state.specs.State.{State}
+use Rattle.state.specs.State.{State, ownFrame}
 use Rattle.state.specs.Held.{heldAt}
 use Rattle.operations.specs.Operations.{slotFor, slotted}
 
@@ -34,25 +32,18 @@ committedFrame t l = cond (inMask (t .bitmap) l) (t .spare) (t .original)
 abbrev pub otherFrame : Slot → ℕ → ℕ
 otherFrame t l = cond (inMask (t .bitmap) l) (t .original) (t .spare)
 
--- the frame with the committed copy of line l of page p, page-table words read through r
+-- the frame with the committed copy of line l of page p, h p being the page's own frame
 abbrev pub frameOf : (ℕ → ℕ) → Sizes → Table → ℕ → ℕ → ℕ
-frameOf r z t p l = cond (ltb (slotOf z t p) (z .slots)) (committedFrame (slotIn t (slotOf z t p)) l) (r (pageWord p))
+frameOf h z t p l = cond (ltb (slotOf z t p) (z .slots)) (committedFrame (slotIn t (slotOf z t p)) l) (h p)
 
--- page p's frame, s being its slot, S where it has none: a slotted page's original, else its page-table word
-abbrev pub frameAt : Sizes → List ℕ → List ℕ → ℕ → ℕ → ℕ
-frameAt z original img p s = cond (ltb s (z .slots)) (getD original s 0) (word img (pageWord p))
-
-unfoldable pub pageFrame : State → List ℕ → ℕ → ℕ
-pageFrame st img p = frameAt (st .sizes) (st .table .original) img p (slotFor st p)
-
--- the frame that a line l is read from, f being the page's frame, s its slot, S where it has none, t that slot, and
+-- the frame that a line l is read from, f being the page's own frame, s its slot, S where it has none, t that slot, and
 -- mine the lines that the reader holds of it: a held line shows the writer's own copy, any other the committed one
 abbrev pub seenAt : Sizes → Slot → ℕ → ℕ → ℕ → ℕ → ℕ
 seenAt z t mine s l f = cond (ltb s (z .slots)) (cond (inMask mine l) (otherFrame t l) (committedFrame t l)) f
 
--- the frame that writer w reads line l of page p from
-unfoldable pub seenFrame : State → ℕ → ℕ → ℕ → ℕ → ℕ
-seenFrame st w p l f = seenAt (st .sizes) (pageSlot st p) (heldAt (st .writers .held) w (slotFor st p)) (slotFor st p) l f
+-- the frame that writer w reads line l of page p from: no word of the image tells it
+unfoldable pub seenFrame : State → ℕ → ℕ → ℕ → ℕ
+seenFrame st w p l = seenAt (st .sizes) (pageSlot st p) (heldAt (st .writers .held) w (slotFor st p)) (slotFor st p) l (ownFrame st p)
 
 -- whether writer w holds line l of page p
 abbrev pub holds : State → ℕ → ℕ → ℕ → Bool

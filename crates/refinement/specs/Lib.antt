@@ -13,6 +13,7 @@ pub mod Calls
 pub mod Mount
 pub mod Recall
 pub mod Run
+pub mod PageMap
 pub mod Reference
 pub mod Statement
 pub mod Beside

@@ -6,6 +6,7 @@ use lib.Dec.{ltb, leb, eqb}
 use lib.ListN.{length}
 use Rattle.bounded.specs.Rows.{Row, refusal}
 use Rattle.words.specs.Words.{word, over}
+use Rattle.replay.specs.Map.{pageFrames}
 use Rattle.mount.specs.Mount.{sizesFrom, tableAfter, countFrom, keysAfter, mountRows}
 use Rattle.refinement.specs.Wide.{shownLine}
 pub use Rattle.refinement.specs.Frames.{frameOf}
@@ -20,5 +21,5 @@ recallRow img p l target = refusal (recallRows img p l target)
 
 unfoldable pub recallBytes : List ℕ → ℕ → ℕ → List ℕ → List ℕ
 recallBytes img p l target =
-    let z = sizesFrom (word img) in
-    cond (eqb (recallRow img p l target) 0) (over target 0 (shownLine img z (tableAfter (word img)) (countFrom (word img)) (keysAfter (word img)) p l)) target
+    let r = word img in
+    cond (eqb (recallRow img p l target) 0) (over target 0 (shownLine img (pageFrames r) (sizesFrom r) (tableAfter r) (countFrom r) (keysAfter r) p l)) target

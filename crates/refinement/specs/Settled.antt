@@ -11,22 +11,57 @@ use Rattle.state.specs.declared.Op.the-variants.{Idle}
 
 -- no operation pending
 abbrev pub noPending : Pending
-noPending = record { op = Idle; made = 0; line = replicate 8 0; second = replicate 8 0; frame = 0 }
+noPending = record { op = Idle; made = 0; line = replicate 8 0; second = replicate 8 0 }
 
--- the state with other head, tail, next slot, slots and writers, and no operation pending
+-- the state with other head, tail, next slot, slots and writers, and no operation pending; the map and the wide transaction stay
 abbrev pub settled : State → ℕ → ℕ → ℕ → Table → Writers → State
 settled st head tail next t ws =
-    record { sizes = st .sizes; head = head; tail = tail; next = next; table = t; writers = ws; wide = st .wide; pending = noPending }
+    record { sizes = st .sizes; head = head; tail = tail; next = next; table = t; map = st .map; writers = ws; wide = st .wide; pending = noPending }
 
 -- the state with writers ws
 abbrev pub withWriters : State → Writers → State
 withWriters st ws =
-    record { sizes = st .sizes; head = st .head; tail = st .tail; next = st .next; table = st .table; writers = ws; wide = st .wide; pending = st .pending }
+    record {
+      sizes = st .sizes;
+      head = st .head;
+      tail = st .tail;
+      next = st .next;
+      table = st .table;
+      map = st .map;
+      writers = ws;
+      wide = st .wide;
+      pending = st .pending;
+    }
 
 -- the state with the wide transaction d
 abbrev pub withWide : State → Wide → State
 withWide st d =
-    record { sizes = st .sizes; head = st .head; tail = st .tail; next = st .next; table = st .table; writers = st .writers; wide = d; pending = st .pending }
+    record {
+      sizes = st .sizes;
+      head = st .head;
+      tail = st .tail;
+      next = st .next;
+      table = st .table;
+      map = st .map;
+      writers = st .writers;
+      wide = d;
+      pending = st .pending;
+    }
+
+-- the state with the map m
+abbrev pub withMap : State → List ℕ → State
+withMap st m =
+    record {
+      sizes = st .sizes;
+      head = st .head;
+      tail = st .tail;
+      next = st .next;
+      table = st .table;
+      map = m;
+      writers = st .writers;
+      wide = st .wide;
+      pending = st .pending;
+    }
 
 -- the writers with writer w prepared
 abbrev pub withPrepared : Writers → ℕ → Writers
@@ -42,18 +77,19 @@ withOpen st w =
     })
 
 -- the state with an operation pending, none of its stores made; with two finished lines, and with one
-abbrev pub withLines : State → Op → List ℕ → List ℕ → ℕ → State
-withLines st op line second frame =
+abbrev pub withLines : State → Op → List ℕ → List ℕ → State
+withLines st op line second =
     record {
       sizes = st .sizes;
       head = st .head;
       tail = st .tail;
       next = st .next;
       table = st .table;
+      map = st .map;
       writers = st .writers;
       wide = st .wide;
-      pending = record { op = op; made = 0; line = line; second = second; frame = frame };
+      pending = record { op = op; made = 0; line = line; second = second };
     }
 
-abbrev pub withPending : State → Op → List ℕ → ℕ → State
-withPending st op line frame = withLines st op line (replicate 8 0) frame
+abbrev pub withPending : State → Op → List ℕ → State
+withPending st op line = withLines st op line (replicate 8 0)

@@ -6,7 +6,6 @@ use lib.Dec.{eqb}
 use Rattle.bounded.specs.Below.{upTo}
 use Rattle.words.specs.Words.{store}
 use Rattle.layout.specs.Layout.{headWord}
-use Rattle.journal.specs.Records.{position}
 use Rattle.fresh.specs.Fresh.{formatAt, formatValue}
 use Rattle.state.specs.State.{State}
 use Rattle.state.specs.declared.Op.{Op}
@@ -15,24 +14,24 @@ use Rattle.operations.specs.Operations.{needs}
 use Rattle.refinement.specs.Settled.{settled}
 use Rattle.refinement.specs.Write.{writeAt, writeValue, writeDone}
 use Rattle.refinement.specs.Commit.{commitAt, commitValue, commitHead, commitDone, prepareDone}
-use Rattle.refinement.specs.Consolidate.{consolidateAt, consolidateValue, consolidateTable}
+use Rattle.refinement.specs.Consolidate.{consolidateAt, consolidateValue, consolidateDone}
 use Rattle.refinement.specs.Checkpoint.{checkpointAt, checkpointValue, withoutLasts}
 use Rattle.refinement.specs.Event.{eventAt, eventValue, eventDone}
 use Rattle.refinement.specs.Wide.{logAt, logValue, logDone, copyAt, copyValue, copyDone}
 
--- the word that store i goes to, and its value; of a wide commit the word, too, is found in the image as it then is
-abbrev pub storeAt : State → List ℕ → Op → ℕ → ℕ
-storeAt st img Idle i = 0
-storeAt st img (Write w p l o n) i = writeAt st p l i
-storeAt st img (Commit w) i = commitAt st w i
-storeAt st img (Consolidate p) i = consolidateAt st p i
-storeAt st img Checkpoint i = checkpointAt st i
-storeAt st img (Event k m a) i = eventAt st k m i
-storeAt st img (Prepare w) i = commitAt st w i
-storeAt st img (Confirm w) i = headWord
-storeAt st img (Log p l o n) i = logAt st p l i
-storeAt st img Copy i = copyAt st img i
-storeAt st img Format i = formatAt (st .sizes) i
+-- the word that store i goes to, which the state alone tells, and its value
+abbrev pub storeAt : State → Op → ℕ → ℕ
+storeAt st Idle i = 0
+storeAt st (Write w p l o n) i = writeAt st p l i
+storeAt st (Commit w) i = commitAt st w i
+storeAt st (Consolidate p) i = consolidateAt st p i
+storeAt st Checkpoint i = checkpointAt st i
+storeAt st (Event k m a) i = eventAt st k m i
+storeAt st (Prepare w) i = commitAt st w i
+storeAt st (Confirm w) i = headWord
+storeAt st (Log p l o n) i = logAt st p l i
+storeAt st Copy i = copyAt st i
+storeAt st Format i = formatAt (st .sizes) i
 
 abbrev pub storeValue : State → List ℕ → Op → ℕ → ℕ
 storeValue st img Idle i = 0
@@ -49,7 +48,7 @@ storeValue st img Format i = formatValue (st .sizes) i
 
 -- the image after store i
 abbrev pub storeMade : State → List ℕ → Op → ℕ → List ℕ
-storeMade st img op i = store img (storeAt st img op i) (storeValue st img op i)
+storeMade st img op i = store img (storeAt st op i) (storeValue st img op i)
 
 -- the image after the next n stores of the pending operation
 abbrev pub storesMade : State → ℕ → List ℕ → List ℕ
@@ -60,7 +59,7 @@ abbrev pub completed : State → Op → State
 completed st Idle = st
 completed st (Write w p l o n) = writeDone st w p l
 completed st (Commit w) = commitDone st w
-completed st (Consolidate p) = settled st (position (st .sizes) (st .head) 1) (st .tail) (st .next) (consolidateTable st p) (st .writers)
+completed st (Consolidate p) = consolidateDone st p
 completed st Checkpoint = settled st (st .head) (st .head) (st .next) (withoutLasts (st .sizes) (st .table)) (st .writers)
 completed st (Event k m a) = eventDone st k m
 completed st (Prepare w) = prepareDone st w
@@ -78,6 +77,7 @@ withMade st m =
       tail = st .tail;
       next = st .next;
       table = st .table;
+      map = st .map;
       writers = st .writers;
       wide = st .wide;
       pending = record {
@@ -85,7 +85,6 @@ withMade st m =
         made = m;
         line = st .pending .line;
         second = st .pending .second;
-        frame = st .pending .frame;
       };
     }
 

@@ -6,12 +6,12 @@ use mathlib.Core.List.{List}
 use lib.Dec.{ltb, eqb}
 use lib.ListN.{getD}
 use Rattle.layout.specs.declared.Sizes.{Sizes}
-use Rattle.layout.specs.Layout.{frames, countWord, lineWord, entryWord}
+use Rattle.layout.specs.Layout.{countWord, lineWord, entryWord}
 use Rattle.words.specs.Words.{part, word}
 use Rattle.image.specs.Lines.{lineBytes}
 use Rattle.entries.specs.Entries.{keyOf, keyPage, keyLine, entryOf}
 use Rattle.replay.specs.declared.Table.{Table}
-use Rattle.state.specs.State.{State, Wide}
+use Rattle.state.specs.State.{State, Wide, ownFrame}
 use Rattle.state.specs.declared.Op.{Op}
 use Rattle.state.specs.declared.Op.the-variants.{Idle, Write, Commit, Consolidate, Checkpoint, Event, Prepare, Confirm, Log, Copy, Format}
 use Rattle.state.specs.Wide.{noWide, entryFor, withEntry}
@@ -25,11 +25,12 @@ entryBytes img z e = part img (8 * (entryWord z e + 1)) 64
 
 -- ---- what is seen
 
--- line l of page p as a recall shows it, n entries with these keys being committed and not yet copied: that of its entry, else its committed copy
-abbrev pub shownLine : List ℕ → Sizes → Table → ℕ → List ℕ → ℕ → ℕ → List ℕ
-shownLine img z t n keys p l =
+-- line l of page p as a recall shows it, h p being the page's own frame and n entries with these keys being committed and not yet copied: that of its entry,
+-- else its committed copy
+abbrev pub shownLine : List ℕ → (ℕ → ℕ) → Sizes → Table → ℕ → List ℕ → ℕ → ℕ → List ℕ
+shownLine img h z t n keys p l =
     let e = entryOf keys n (keyOf p l) in
-    cond (ltb e n) (entryBytes img z e) (lineBytes img z (frameOf (word img) z t p l) l)
+    cond (ltb e n) (entryBytes img z e) (lineBytes img z (frameOf h z t p l) l)
 
 -- ---- a wide write
 
@@ -59,25 +60,23 @@ isCopy (Confirm w) = false
 isCopy (Log p l o n) = false
 isCopy Format = false
 
--- the frame that the line with key k is copied to: the one of its committed copy. A page-table word that names no frame is none that the calls leave; the
--- remainder keeps the store inside the image
-abbrev pub copiedFrame : Sizes → Table → List ℕ → ℕ → ℕ
-copiedFrame z t img k =
-    frameOf (word img) z t (keyPage k) (keyLine k) % frames z
+-- the frame that the line with key k is copied to: the one of its committed copy
+abbrev pub copiedFrame : (ℕ → ℕ) → Sizes → Table → ℕ → ℕ
+copiedFrame h z t k = frameOf h z t (keyPage k) (keyLine k)
 
 -- store i, of n entries with these keys
-unfoldable pub copyAtOf : Sizes → Table → ℕ → List ℕ → List ℕ → ℕ → ℕ
-copyAtOf z t n keys img i =
+unfoldable pub copyAtOf : (ℕ → ℕ) → Sizes → Table → ℕ → List ℕ → ℕ → ℕ
+copyAtOf h z t n keys i =
     let k = getD keys ((i - 1) / 8) 0 in
-    cond (eqb i 0 || ltb (8 * n) i) countWord (lineWord z (copiedFrame z t img k) (keyLine k) + (i - 1) % 8)
+    cond (eqb i 0 || ltb (8 * n) i) countWord (lineWord z (copiedFrame h z t k) (keyLine k) + (i - 1) % 8)
 
 unfoldable pub copyValueOf : Sizes → ℕ → List ℕ → ℕ → ℕ
 copyValueOf z n img i =
     cond (eqb i 0) n (cond (ltb (8 * n) i) 0 (word img (entryWord z ((i - 1) / 8) + 1 + (i - 1) % 8)))
 
 -- the same of a state
-abbrev pub copyAt : State → List ℕ → ℕ → ℕ
-copyAt st img i = copyAtOf (st .sizes) (st .table) (st .wide .count) (st .wide .keys) img i
+abbrev pub copyAt : State → ℕ → ℕ
+copyAt st i = copyAtOf (ownFrame st) (st .sizes) (st .table) (st .wide .count) (st .wide .keys) i
 
 abbrev pub copyValue : State → List ℕ → ℕ → ℕ
 copyValue st img i = copyValueOf (st .sizes) (st .wide .count) img i

@@ -11,7 +11,7 @@ use Rattle.words.specs.Words.{store}
 use Rattle.replay.specs.declared.Table.{Table}
 use Rattle.replay.specs.Table.{slotIn, withSlot}
 use Rattle.masks.specs.Lines.{withLine}
-use Rattle.state.specs.State.{State, Writers}
+use Rattle.state.specs.State.{State, Writers, ownFrame}
 use Rattle.state.specs.Slots.{roundSlot, freeAfter}
 use Rattle.state.specs.Held.{heldAt}
 use Rattle.operations.specs.Operations.{slotFor, slotted}
@@ -42,11 +42,11 @@ writeValue st i = getD (st .pending .line) i 0
 abbrev pub writeStores : State → ℕ → ℕ → ℕ → ℕ → List ℕ → List ℕ
 writeStores st p l from n img = upTo n (λ i m. store m (writeAt st p l (from + i)) (writeValue st (from + i))) img
 
--- a page without a slot takes it, its frame being the original; the next slot to try is then the one after it
+-- a page without a slot takes it, its frame by the map being the original, so that the map stays; the next slot to try is then the one after it
 abbrev pub writeTable : State → ℕ → Table
 writeTable st p =
     cond (slotted st p) (st .table) (withSlot (st .table) (writeSlot st p)
-    (record { page = p; original = st .pending .frame; spare = slotIn (st .table) (writeSlot st p) .spare; bitmap = 0 }))
+    (record { page = p; original = ownFrame st p; spare = slotIn (st .table) (writeSlot st p) .spare; bitmap = 0 }))
 
 abbrev pub writeNext : State → ℕ → ℕ
 writeNext st p = cond (slotted st p) (st .next) ((writeSlot st p + 1) % st .sizes .slots)

@@ -15,7 +15,7 @@ use Rattle.layout.specs.Layout.{sizesOk, Legal}
 use Rattle.layout.proofs.LayoutLaws.{legal}
 use Rattle.meters.specs.Meters.{eventKnown, firstMeter, ownMeter}
 use Rattle.meters.proofs.MeterLaws.{first-low, own-range}
-use Rattle.state.specs.State.{State}
+use Rattle.state.specs.State.{State, ownFrame}
 use Rattle.state.specs.Held.{othersHold, someHold}
 use Rattle.state.specs.Wide.{isWide}
 use Rattle.operations.specs.Operations.{slotFor, slotted}
@@ -42,7 +42,7 @@ lowest f e = record { writer = low; stands = first-holds f 4 low; lowest = first
 sizes-ok : (st : State) → stateOk st ≡ true → sizesOk (st .sizes) ≡ true
 unfolding stateOk
 sizes-ok st e =
-    slots-good (st .sizes) (st .head) (st .tail) (st .table) (and-left (slotsOk (st .sizes) (st .head) (st .tail) (st .table)) _ e) .sizes
+    slots-good (st .sizes) (st .head) (st .tail) (st .table) (ownFrame st) (and-left (slotsOk (st .sizes) (st .head) (st .tail) (st .table) (ownFrame st)) _ e) .sizes
 
 -- the slot that is met is the page's
 module _ (st : State) (p : ℕ) (ok : not (stateOk st) ≡ false) (has : slotted st p ≡ true) where

@@ -17,7 +17,6 @@ use Rattle.state.specs.State.{State}
 use Rattle.state.specs.Wide.{isWide}
 use Rattle.operations.specs.Operations.{writeRows, logRows}
 use Rattle.refinement.specs.Calls.{beginRows, beginWideRows, abortRows, rowState, rowShort, rowPending, writeCallRows, commitCallRows, prepareCallRows, confirmCallRows, consolidateCallRows, freeCallRows, checkpointCallRows, readRows, stepRows, eventCallRows, loadRows}
-use Rattle.refinement.specs.Frames.{pageFrame}
 use Rattle.refinement.specs.Recall.{recallRows}
 use Rattle.wording.specs.Calls.{format, mount, recall, begin, beginWide, abort, write, commit, consolidate, checkpoint, read, step, run, freeSlot, event, load, prepare, confirm, withdraw, numberCount, places, oneMore, oneOf, standsIn, canReturn}
 
@@ -109,7 +108,7 @@ module _ (st : State) (img : List ℕ) where
   abbrev pub writeTable : ℕ → ℕ → ℕ → ℕ → ℕ → List ℕ → Bool → List Row
   writeTable w p l o n bytes wide =
       rowState st ∷ rowShort st (length img) ∷ rowPending st ∷ (ltb (length bytes) n, 11)
-      ∷ cond wide (logRows st p l o n (pageFrame st img p)) (writeRows st w p l o n (pageFrame st img p))
+      ∷ cond wide (logRows st p l o n) (writeRows st w p l o n)
 
   pub write-table : (w p l o n : ℕ) (bytes : List ℕ) → writeTable w p l o n bytes (isWide (st .wide) w) ≡ writeCallRows st img w p l o n bytes
   write-table w p l o n bytes = refl

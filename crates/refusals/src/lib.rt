@@ -8,9 +8,10 @@ ghost use Rattle.state_words.specs.Decoded.{decoded};
 ghost use Rattle.refusals.specs.Met.{holdsLine, holdsSlot, slotMet, lineHolder, pageHolder, eventHolder, holderMet, reasonMet};
 use layout::Sizes;
 use reasons::Reason;
+use state_words::Words;
 
 // The slot of a page, 16 where it has none or the sizes are out of their ranges.
-fn slot_met(z: Sizes, words: &[u64; 256], p: usize) -> usize
+fn slot_met(z: Sizes, words: &Words, p: usize) -> usize
     ensures { λ r. ⌜ r ≡ slotMet z (decoded (now (words .entry)) .table .page) p ⌝ }
 {
     if !layout::sizes_ok(z) {
@@ -24,7 +25,7 @@ fn slot_met(z: Sizes, words: &[u64; 256], p: usize) -> usize
 }
 
 // The lowest writer other than w that holds line l of slot s, 4 where none does.
-fn first_of_line(words: &[u64; 256], w: usize, s: usize, l: usize) -> usize
+fn first_of_line(words: &Words, w: usize, s: usize, l: usize) -> usize
     requires { ⌜ (s < 16) × (l < 64) ⌝ }
     ensures { λ r. ⌜ r ≡ firstBelow 4 (holdsLine (decoded (now (words .entry)) .writers .held) w s l) ⌝ }
 {
@@ -39,7 +40,7 @@ fn first_of_line(words: &[u64; 256], w: usize, s: usize, l: usize) -> usize
 }
 
 // The lowest writer that holds a line of slot s, 4 where none does.
-fn first_of_slot(words: &[u64; 256], s: usize) -> usize
+fn first_of_slot(words: &Words, s: usize) -> usize
     requires { ⌜ s < 16 ⌝ }
     ensures { λ r. ⌜ r ≡ firstBelow 4 (holdsSlot (decoded (now (words .entry)) .writers .held) s) ⌝ }
 {
@@ -54,7 +55,7 @@ fn first_of_slot(words: &[u64; 256], s: usize) -> usize
 }
 
 // The lowest writer in the way of a write (row 14), 4 where there is none.
-pub fn line_holder(words: &[u64; 256], writer: usize, page: usize, line: usize) -> usize
+pub fn line_holder(words: &Words, writer: usize, page: usize, line: usize) -> usize
     ensures { λ r. ⌜ r ≡ lineHolder (decoded (now (words .entry))) writer page line ⌝ }
 {
     let z = state_words::sizes_in(words);
@@ -69,7 +70,7 @@ pub fn line_holder(words: &[u64; 256], writer: usize, page: usize, line: usize) 
 }
 
 // The lowest writer in the way of a consolidation (row 18), 4 where there is none.
-pub fn page_holder(words: &[u64; 256], page: usize) -> usize
+pub fn page_holder(words: &Words, page: usize) -> usize
     ensures { λ r. ⌜ r ≡ pageHolder (decoded (now (words .entry))) page ⌝ }
 {
     let z = state_words::sizes_in(words);
@@ -81,7 +82,7 @@ pub fn page_holder(words: &[u64; 256], page: usize) -> usize
 }
 
 // The lowest writer in the way of an event (row 14), 4 where there is none. A count has one line, an event that moves credit two.
-pub fn event_holder(words: &[u64; 256], kind: usize, meter: usize) -> usize
+pub fn event_holder(words: &Words, kind: usize, meter: usize) -> usize
     ensures { λ r. ⌜ r ≡ eventHolder (decoded (now (words .entry))) kind meter ⌝ }
 {
     let first = line_holder(words, 1, 0, meters::first_meter(kind, meter));
@@ -91,7 +92,7 @@ pub fn event_holder(words: &[u64; 256], kind: usize, meter: usize) -> usize
 
 // The writer in the way of a call that a number turns back.
 fn holder_met(
-    words: &[u64; 256],
+    words: &Words,
     call: usize,
     number: usize,
     writer: usize,
@@ -123,7 +124,7 @@ fn where_taken(has: bool, v: usize) -> usize
 // The reason of a call that a number turned back, from the state and what the call was given: a writer, a page, a line, or as an event a kind and a
 // meter. What the call does not take may be anything.
 pub fn reason_met(
-    words: &[u64; 256],
+    words: &Words,
     call: usize,
     number: usize,
     writer: usize,

@@ -9,7 +9,7 @@ use Rattle.bounded.specs.Below.{upTo, allBelow, firstBelow}
 use Rattle.bounded.specs.Tab.{tab}
 use Rattle.bounded.specs.Count.{eachOnce}
 use Rattle.layout.specs.declared.Sizes.{Sizes}
-use Rattle.layout.specs.Layout.{frames, pageWord, slotWord}
+use Rattle.layout.specs.Layout.{frames, slotWord}
 use Rattle.journal.specs.declared.Slot.{Slot}
 use Rattle.journal.specs.declared.Record.{Record}
 use Rattle.replay.specs.declared.Table.{Table}
@@ -81,14 +81,14 @@ pagesApart z page = allBelow (z .slots) (pageApart page)
 abbrev pub slotOf : Sizes → Table → ℕ → ℕ
 slotOf z t p = firstBelow (z .slots) (λ s. eqb (slotIn t s .page) p)
 
--- page p's home: its slot's original, or its page-table word, read through r, if it has no slot
+-- page p's home: its slot's original, or its own frame, which is h p, if it has no slot
 abbrev pub homeOf : (ℕ → ℕ) → Sizes → Table → ℕ → ℕ
-homeOf r z t p = cond (ltb (slotOf z t p) (z .slots)) (slotIn t (slotOf z t p) .original) (r (pageWord p))
+homeOf h z t p = cond (ltb (slotOf z t p) (z .slots)) (slotIn t (slotOf z t p) .original) (h p)
 
 -- the names of frames: the spares, then the homes
 unfoldable pub frameNames : (ℕ → ℕ) → Sizes → Table → List ℕ
-frameNames r z t = tab (z .slots) (λ s. slotIn t s .spare) ++ tab (z .pages) (homeOf r z t)
+frameNames h z t = tab (z .slots) (λ s. slotIn t s .spare) ++ tab (z .pages) (homeOf h z t)
 
 -- spares and homes name each frame once
 abbrev pub tableOk : (ℕ → ℕ) → Sizes → Table → Bool
-tableOk r z t = slotsShaped z t && (pagesApart z (t .page) && eachOnce (frames z) (frameNames r z t))
+tableOk h z t = slotsShaped z t && (pagesApart z (t .page) && eachOnce (frames z) (frameNames h z t))

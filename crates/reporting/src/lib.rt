@@ -9,6 +9,7 @@ ghost use Rattle.workbench.specs.Turns.{turnAt};
 use number_text::put_after;
 use printing::Output;
 use state::held::one_if;
+use state_words::Words;
 use workbench::Said;
 
 // The line's number and letter, then answer 0 and a count.
@@ -33,8 +34,8 @@ fn put_counted(out: &mut [u8], at: usize, n: u64, letter: u8, count: u64, last: 
     decimals::put_byte(out, next, b'\n')
 }
 
-fn put_numbered(out: &mut [u8], at: usize, n: u64, letter: u8, words: &[u64; 256]) -> usize
-    requires { ⌜ at + 4811 ≤ length (now out) ⌝ }
+fn put_numbered(out: &mut [u8], at: usize, n: u64, letter: u8, words: &Words) -> usize
+    requires { ⌜ at + 29066 ≤ length (now out) ⌝ }
     ensures { λ r. ⌜ Put (now (out .entry)) at (shownLine n letter 0 (stateField (decoded (now (words .entry))))) (now (out .exit)) r ⌝ }
 {
     let next = put_start(out, at, n, letter, 0);
@@ -42,9 +43,9 @@ fn put_numbered(out: &mut [u8], at: usize, n: u64, letter: u8, words: &[u64; 256
     decimals::put_byte(out, next, b'\n')
 }
 
-// The line that input line n prints, at most 4,811 bytes.
-pub fn print(out: &mut [u8], at: usize, n: u64, letter: u8, said: Said, words: &[u64; 256]) -> usize
-    requires { ⌜ at + 4811 ≤ length (now out) ⌝ }
+// The line that input line n prints, at most 29,066 bytes.
+pub fn print(out: &mut [u8], at: usize, n: u64, letter: u8, said: Said, words: &Words) -> usize
+    requires { ⌜ at + 29066 ≤ length (now out) ⌝ }
     ensures { λ r. ⌜ Put (now (out .entry)) at (printedOf n letter (turnAt said (now (words .entry)))) (now (out .exit)) r ⌝ }
 {
     match said {

@@ -3,10 +3,11 @@
 ghost use Prim.Native.Nat.{_<_};
 use crate::Image;
 use call_round::Room;
+use state_words::Words;
 
 // Plays round r on a pair of pages: one of 24 lines of the first, as meters are, and the next of the 64 of the second, as a history is. Each is filled with
-// one word. Where the journal is full it is emptied; where no slot is free, one is freed. Says how many stores were made.
-pub fn round(image: &mut Image, words: &mut [u64; 256], pair: usize, r: usize) -> u64
+// one word. Where the journal is full it is emptied; where no slot is free, one is freed. Returns how many stores were made.
+pub fn round(image: &mut Image, words: &mut Words, pair: usize, r: usize) -> u64
     requires { ⌜ pair < 8 ⌝ }
 {
     let v = 2 * (r as u64 % 4294967296) + 1;

@@ -5,6 +5,8 @@ mod game;
 
 ghost use Prim.Native.Nat.{_<_};
 use layout::Sizes;
+use state_words::WORD_COUNT;
+use state_words::Words;
 
 // The image of such a store.
 type Image = [u8; 84288];
@@ -24,7 +26,7 @@ fn pair_of(r: usize, stay: usize) -> usize
 }
 
 // Plays n rounds on a fresh store, and says how many stores they made.
-fn play(image: &mut Image, words: &mut [u64; 256], n: usize, stay: usize) -> u64 {
+fn play(image: &mut Image, words: &mut Words, n: usize, stay: usize) -> u64 {
     let z = Sizes {
         pages: 16,
         slots: 4,
@@ -50,7 +52,7 @@ fn main() {
     let n = arguments::at(1, ROUNDS);
     let stay = arguments::at(2, STAY);
     let mut image = [0u8; 84288];
-    let mut words = [0u64; 256];
+    let mut words = [0u64; WORD_COUNT];
     let stores = play(&mut image, &mut words, n, stay);
     number(n as u64, b" rounds, ");
     number(stay as u64, b" to a pair of pages: ");

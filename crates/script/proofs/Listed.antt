@@ -16,12 +16,13 @@ use Rattle.replay.specs.Table.{tableFrom, replay, frameNames}
 use Rattle.masks.specs.Lines.{inMask, withLine, exclusiveOr, disjoint, others, linesIn, countLines, linesNotIn}
 use Rattle.state.specs.Held.{heldOk, othersHold, someHold, heldSlots}
 use Rattle.operations.specs.Operations.{copyCount, recordedSlots, needs}
-use Rattle.state.specs.Slots.{freeAfter, frameOfSlot, framesApart}
+use Rattle.replay.specs.Map.{mapFrom}
+use Rattle.state.specs.Slots.{freeAfter}
 use Rattle.entries.specs.Entries.{entriesOk}
 use Rattle.state.specs.Wide.{wideOk}
 use Rattle.validity.specs.Validity.{slotsOk, lastsOk, preparedOk, pendingOk, stateOk}
 use Rattle.refinement.specs.Commit.{closedWriter, commitRecordOf, commitAtOf, commitValueOf}
-use Rattle.refinement.specs.Frames.{pageFrame, seenFrame}
+use Rattle.refinement.specs.Frames.{seenFrame}
 use Rattle.refinement.specs.Stores.{stepped, steppedBy}
 use Rattle.refinement.specs.Write.{writeSlot}
 use Rattle.refinement.specs.Calls.{beginOf, changesNothing, writeOf, commitOf, readRow, readBytes, runOf, runBytes}
@@ -67,7 +68,7 @@ rest [] = []
 rest (line ∷ lines) = lines
 
 other-lines : outputLine 1 (freshTurn .output) ∷ printed 2 (freshTurn .machine) (freshTurn .image) (rest input) ≡ output
-unfolding allBelow someBelow firstBelow one countBelow those upTo countOf eachOnce tab filled leOf bytesOf part over wordAt putWord wordsAt flat freshWords formatted freshTable mountRead mountOf liveRecord recordsOk tableFrom replay frameNames inMask withLine exclusiveOr disjoint others linesIn countLines linesNotIn heldOk othersHold someHold heldSlots copyCount recordedSlots needs freeAfter frameOfSlot framesApart slotsOk lastsOk preparedOk wideOk entriesOk pendingOk stateOk commitRecordOf commitAtOf commitValueOf closedWriter pageFrame seenFrame stepped steppedBy writeSlot beginOf changesNothing writeOf commitOf readRow readBytes runOf runBytes mountCall exec digitsOf withByte fields allDigits valueFrom allNumbers values lineOf parsed formOf text printed outputLine finished shown turnOf
+unfolding mapFrom allBelow someBelow firstBelow one countBelow those upTo countOf eachOnce tab filled leOf bytesOf part over wordAt putWord wordsAt flat freshWords formatted freshTable mountRead mountOf liveRecord recordsOk tableFrom replay frameNames inMask withLine exclusiveOr disjoint others linesIn countLines linesNotIn heldOk othersHold someHold heldSlots copyCount recordedSlots needs freeAfter slotsOk lastsOk preparedOk wideOk entriesOk pendingOk stateOk commitRecordOf commitAtOf commitValueOf closedWriter seenFrame stepped steppedBy writeSlot beginOf changesNothing writeOf commitOf readRow readBytes runOf runBytes mountCall exec digitsOf withByte fields allDigits valueFrom allNumbers values lineOf parsed formOf text printed outputLine finished shown turnOf
 other-lines = refl
 
 pub listing : printed 1 started memory input ≡ output

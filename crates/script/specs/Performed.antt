@@ -15,7 +15,7 @@ use Rattle.script.specs.Turns.{turnOf}
 
 -- before the first line: every word is 0, and no line looks at the state until a format is taken
 abbrev pub started : Machine
-started = record { st = decoded (replicate 256 0); formatted = false; cut = Unset }
+started = record { st = decoded (replicate 1280 0); formatted = false; cut = Unset }
 
 -- a number has 1 to 9 digits
 abbrev pub lineTurn : Machine → List ℕ → List ℕ → Turn

@@ -8,12 +8,14 @@ use crate::Performed;
 use crate::turns;
 use executing::Cut;
 use executing::Mode;
+use state_words::WORD_COUNT;
+use state_words::Words;
 
 // The machine before the first line: every word is 0.
-pub fn start(words: &mut [u64; 256]) -> Mode
+pub fn start(words: &mut Words) -> Mode
     ensures { λ r. ⌜ machineAt r (now (words .exit)) ≡ started ⌝ }
 {
-    *words = [0u64; 256];
+    *words = [0u64; WORD_COUNT];
     Mode {
         formatted: false,
         cut: Cut::Unset,
@@ -33,7 +35,7 @@ fn has_room(size: usize, at: usize) -> bool
 // Performs line number n, and puts the line that it prints into out from byte at on. Without room for 67 bytes it does nothing.
 pub fn perform(
     image: &mut [u8],
-    words: &mut [u64; 256],
+    words: &mut Words,
     m: Mode,
     n: usize,
     line: &[u8],

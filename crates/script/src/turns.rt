@@ -1,4 +1,4 @@
-// A line's turn.
+// A line of powerhit's script performed: the call that it names, and what is printed of it.
 ghost use mathlib.Core.Path.{_≡_};
 ghost use Rattle.state_words.specs.Decoded.{decoded};
 ghost use Rattle.executing.specs.Called.{machineAt, turnAt};
@@ -12,6 +12,7 @@ use forms::Form;
 use layout::Sizes;
 use op_stores::Until;
 use printing::Output;
+use state_words::Words;
 use text::Line;
 
 // The sizes that a line gives.
@@ -27,7 +28,7 @@ fn sizes_in(numbers: &[u64; 69]) -> Sizes
 }
 
 // F: a format asked for, and its stores; after a refused one the machine stays as it was.
-fn format_turn(image: &mut [u8], words: &mut [u64; 256], m: Mode, z: Sizes) -> Turned
+fn format_turn(image: &mut [u8], words: &mut Words, m: Mode, z: Sizes) -> Turned
     ensures { λ r. ⌜ turnAt r (now (words .exit)) (now (image .exit)) ≡ formats (machineAt m (now (words .entry))) (now (image .entry)) z ⌝ }
 {
     let answer = call_mount::format(image, words, z, Until::Asked);
@@ -47,7 +48,7 @@ fn format_turn(image: &mut [u8], words: &mut [u64; 256], m: Mode, z: Sizes) -> T
 // R: the byte at an offset of a line.
 fn read_byte(
     image: &[u8],
-    words: &[u64; 256],
+    words: &Words,
     writer: usize,
     page: usize,
     line: usize,
@@ -75,7 +76,7 @@ fn read_byte(
     Output::Shown(target[offset])
 }
 
-fn read_shown(image: &[u8], words: &[u64; 256], numbers: &[u64; 69]) -> Output
+fn read_shown(image: &[u8], words: &Words, numbers: &[u64; 69]) -> Output
     ensures { λ r. ⌜ r ≡ shownBy (decoded (now (words .entry))) (now (image .entry)) (now (numbers .entry)) ⌝ }
 {
     read_byte(
@@ -89,7 +90,7 @@ fn read_shown(image: &[u8], words: &[u64; 256], numbers: &[u64; 69]) -> Output
 }
 
 // The machine and the image after a line, and what it prints. A K takes the place of one that waits.
-pub fn turn(image: &mut [u8], words: &mut [u64; 256], m: Mode, line: Line) -> Turned
+pub fn turn(image: &mut [u8], words: &mut Words, m: Mode, line: Line) -> Turned
     ensures { λ r. ⌜ turnAt r (now (words .exit)) (now (image .exit)) ≡ turnOf (machineAt m (now (words .entry))) (now (image .entry)) line ⌝ }
 {
     let letter = line.letter;

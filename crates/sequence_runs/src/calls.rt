@@ -6,15 +6,10 @@ ghost use Rattle.sequence_runs.specs.Turns.{CameOf};
 use answers::Answer;
 use call_write::Span;
 use op_stores::Until;
+use state_words::Words;
 
 // A write of one byte to the start of a line of page 0.
-fn write_first(
-    image: &mut [u8],
-    words: &mut [u64; 256],
-    writer: usize,
-    line: usize,
-    byte: u8,
-) -> Answer
+fn write_first(image: &mut [u8], words: &mut Words, writer: usize, line: usize, byte: u8) -> Answer
     ensures { λ r. ⌜ CameOf (write writer 0 line 0 1 (byte ∷ [])) (now (words .entry)) (now (image .entry)) r (now (words .exit)) (now (image .exit)) ⌝ }
 {
     let bytes = [byte];
@@ -28,7 +23,7 @@ fn write_first(
 }
 
 // The call of number c, its stores not yet made.
-pub fn ask(image: &mut [u8], words: &mut [u64; 256], c: u64) -> Answer
+pub fn ask(image: &mut [u8], words: &mut Words, c: u64) -> Answer
     ensures { λ r. ⌜ CameOf (callOf c) (now (words .entry)) (now (image .entry)) r (now (words .exit)) (now (image .exit)) ⌝ }
 {
     match c {

@@ -7,6 +7,7 @@ ghost use lib.ListN.{length, replicate};
 ghost use Rattle.refinement.specs.Stores.{World};
 ghost use Rattle.sequence_runs.specs.Runs.{start, ran, firstByte, playedOf};
 use layout::Sizes;
+use state_words::WORD_COUNT;
 
 // What comes of a sequence beside its answers: the stores that its last call needs (0 where there is none), and the first bytes of lines 0
 // and 1 of page 0 after a mount.
@@ -39,7 +40,7 @@ pub fn play(numbers: &[u64], k: usize, answers: &mut [u64]) -> Played
     ensures answers { λ _. ⌜ now (answers .exit) ≡ ran k (now (numbers .entry)) start .answers ⌝ }
 {
     let mut image = blank();
-    let mut words = [0u64; 256];
+    let mut words = [0u64; WORD_COUNT];
     let sizes = Sizes {
         pages: 1,
         slots: 1,

@@ -4,6 +4,7 @@ ghost use lib.ListN.{length};
 ghost use Rattle.sequence_runs.specs.Runs.{budget, ran};
 ghost use Rattle.sequence_runs.specs.Turns.{Turned, begun};
 use crate::calls;
+use state_words::Words;
 
 // The number of a call's answer, and the stores that it needs.
 struct Made {
@@ -19,7 +20,7 @@ fn budget_of(last: bool, k: usize, needed: usize) -> usize
 }
 
 // One call, and its stores: all of them, or at most k where it is the last call.
-fn turn(image: &mut [u8], words: &mut [u64; 256], c: u64, last: bool, k: usize) -> Made
+fn turn(image: &mut [u8], words: &mut Words, c: u64, last: bool, k: usize) -> Made
     ensures { λ r. ⌜ Turned last k c (now (words .entry)) (now (image .entry)) r (now (words .exit)) (now (image .exit)) ⌝ }
 {
     let answer = calls::ask(image, words, c);
@@ -32,7 +33,7 @@ fn turn(image: &mut [u8], words: &mut [u64; 256], c: u64, last: bool, k: usize) 
 // The calls of these numbers; gives the stores that the last one needs.
 pub fn perform(
     image: &mut [u8],
-    words: &mut [u64; 256],
+    words: &mut Words,
     numbers: &[u64],
     k: usize,
     answers: &mut [u64],

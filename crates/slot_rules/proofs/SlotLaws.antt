@@ -1,4 +1,4 @@
--- One pass over the slots tests what row 7's three tests do: shapes, pages apart, frames apart.
+-- One pass over the slots, and spares and own frames that name each frame once, are row 8's rules for slots and map.
 use Prim.Native.Nat.{ℕ, zero, suc, _+_, _<_}
 use mathlib.Core.Bool.{Bool, true, false, not, _&&_, _||_, and-true, and-false, or-false}
 use mathlib.Core.Path.{_≡_, refl, sym, ap, ap₂, _∙_}
@@ -7,16 +7,16 @@ use borrow.Author.Tests.{le-ltb, eq-eqb, ne-eqb}
 use lib.Dec.{ltb, eqb}
 use lib.ListN.{getD}
 use Rattle.bounded.specs.Below.{allBelow}
-use Rattle.bounded.proofs.Below.{all-ext}
-use Rattle.bounded.proofs.Tests.{and-stops, and-goes}
+use Rattle.bounded.specs.Count.{eachOnce}
 use Rattle.layout.specs.declared.Sizes.{Sizes}
-use Rattle.layout.specs.Layout.{Legal}
+use Rattle.layout.specs.Layout.{Legal, frames}
 use Rattle.journal.specs.declared.Slot.{Slot}
 use Rattle.journal.specs.Slots.{noPage, noFrame, isOwning, shaped}
 use Rattle.replay.specs.declared.Table.{Table}
-use Rattle.replay.specs.Table.{slotIn, slotsShaped, pageApart, pagesApart}
-use Rattle.state.specs.Slots.{slotsApart, framesApart}
-use Rattle.slot_rules.specs.Slots.{slotFine, freeApart, owningApart}
+use Rattle.replay.specs.Table.{slotIn, slotsShaped, pageApart, pagesApart, frameNames, tableOk}
+use Rattle.replay.specs.Map.{originalKept, originalsKept, namesKept}
+use Rattle.replay.proofs.Maps.{names-kept}
+use Rattle.slot_rules.specs.Slots.{slotFine, slotsFine}
 
 -- two tests of each number below n
 four : (a b c d : Bool) → (a && b) && (c && d) ≡ (a && c) && (b && d)
@@ -30,15 +30,26 @@ all-and f g zero = refl
 all-and f g (suc n) = ap (λ (b : Bool). b && (f n && g n)) (all-and f g n) ∙ four (allBelow n f) (allBelow n g) (f n) (g n)
 
 -- the pass over all slots
-pub fine-all : (z : Sizes) (t : Table)
-    → allBelow (z .slots) (slotFine z t) ≡ slotsShaped z t && (pagesApart z (t .page) && framesApart z (t .page) (t .original) (t .spare))
-unfolding framesApart
-fine-all z t =
-    let apart : ℕ → Bool = λ s. allBelow s (slotsApart (t .page) (t .original) (t .spare) s) in
-    all-and (λ s. shaped z (slotIn t s)) (λ s. pageApart (t .page) s && apart s) (z .slots)
-    ∙ ap (λ (b : Bool). slotsShaped z t && b) (all-and (pageApart (t .page)) apart (z .slots))
+pub fine-all : (h : ℕ → ℕ) (z : Sizes) (t : Table) → allBelow (z .slots) (slotFine h z t) ≡ slotsShaped z t && (pagesApart z (t .page) && originalsKept h z t)
+fine-all h z t =
+    all-and (λ s. shaped z (slotIn t s)) (λ s. pageApart (t .page) s && originalKept h t s) (z .slots)
+    ∙ ap (λ (b : Bool). slotsShaped z t && b) (all-and (pageApart (t .page)) (originalKept h t) (z .slots))
 
--- a free slot's shape, and an owning one's
+turned : (a b k n m : Bool) → (k ≡ true → n ≡ m) → (a && (b && k)) && n ≡ (a && (b && m)) && k
+turned true true true n m e = e refl ∙ sym (and-true m)
+turned true true false n m e = sym (and-false m)
+turned true false k n m e = refl
+turned false b k n m e = refl
+
+-- both tests together
+pub slots-fine : (h : ℕ → ℕ) (z : Sizes) (t : Table) → Legal z → slotsFine h z t ≡ tableOk h z t && originalsKept h z t
+slots-fine h z t legal =
+    let n = eachOnce (frames z) (namesKept h z t) in
+    ap (λ (b : Bool). b && n) (fine-all h z t)
+    ∙ turned (slotsShaped z t) (pagesApart z (t .page)) (originalsKept h z t) n (eachOnce (frames z) (frameNames h z t))
+    (λ kept. ap (eachOnce (frames z)) (names-kept h z t legal kept))
+
+-- a free slot's shape
 abbrev pub freeShape : Sizes → Slot → Bool
 freeShape z t = eqb (t .original) noFrame && eqb (t .bitmap) 0 && ltb (t .spare) (z .pages + z .slots)
 
@@ -51,44 +62,22 @@ shape-owning z t n = rw (ne-eqb (t .page) noPage n) (or-false (isOwning z t))
 and-both : (a b c d : Bool) → a ≡ b → c ≡ d → a && c ≡ b && d
 and-both a b c d e h = ap₂ (λ (x y : Bool). x && y) e h
 
-module _ (z : Sizes) (t : Table) (s : ℕ) where
-  abbrev none : Bool
-  none = eqb (getD (t .page) s 0) noPage
-
-  -- two slots where it is known whether s is free
-  apart-with : (b : Bool) → none ≡ b → (k : ℕ)
-      → slotsApart (t .page) (t .original) (t .spare) s k ≡ freeApart (t .original) (t .spare) s k && (b || not (eqb (getD (t .original) s 0) (getD (t .original) k 0)))
-  apart-with b e k = ap (λ (x : Bool). freeApart (t .original) (t .spare) s k && (x || not (eqb (getD (t .original) s 0) (getD (t .original) k 0)))) e
-
-  free-is : Legal z → getD (t .page) s 0 ≡ noPage → slotFine z t s ≡ freeShape z (slotIn t s) && allBelow s (freeApart (t .original) (t .spare) s)
-  free-is h e =
-      let n : none ≡ true = eq-eqb (getD (t .page) s 0) noPage e in
+-- a slot where it is known whether it is free
+module _ (h : ℕ → ℕ) (z : Sizes) (t : Table) (s : ℕ) where
+  pub free-is : Legal z → getD (t .page) s 0 ≡ noPage → slotFine h z t s ≡ freeShape z (slotIn t s)
+  free-is legal e =
+      let n : eqb (getD (t .page) s 0) noPage ≡ true = eq-eqb (getD (t .page) s 0) noPage e in
       let page : pageApart (t .page) s ≡ true = ap (λ (b : Bool). b || allBelow s (λ k. not (eqb (getD (t .page) s 0) (getD (t .page) k 0)))) n in
-      let frames : allBelow s (slotsApart (t .page) (t .original) (t .spare) s) ≡ allBelow s (freeApart (t .original) (t .spare) s) =
-      all-ext (slotsApart (t .page) (t .original) (t .spare) s) (freeApart (t .original) (t .spare) s) s (λ k l. apart-with true n k ∙ and-true (freeApart (t .original) (t .spare) s k)) in
-      and-both (shaped z (slotIn t s)) (freeShape z (slotIn t s)) _ _ (shape-free z (slotIn t s) h e)
-      (and-both (pageApart (t .page) s) true _ _ page frames)
+      let kept : originalKept h t s ≡ true = ap (λ (b : Bool). b || eqb (h (getD (t .page) s 0)) (getD (t .original) s 0)) n in
+      and-both (shaped z (slotIn t s)) (freeShape z (slotIn t s)) _ true (shape-free z (slotIn t s) legal e) (and-both (pageApart (t .page) s) true _ true page kept)
+      ∙ and-true (freeShape z (slotIn t s))
 
-  owning-is : (getD (t .page) s 0 ≡ noPage → ⊥) → slotFine z t s ≡ isOwning z (slotIn t s) && allBelow s (owningApart (t .page) (t .original) (t .spare) s)
+  pub owning-is : (getD (t .page) s 0 ≡ noPage → ⊥)
+      → slotFine h z t s
+      ≡ isOwning z (slotIn t s) && (allBelow s (λ k. not (eqb (getD (t .page) s 0) (getD (t .page) k 0))) && eqb (h (getD (t .page) s 0)) (getD (t .original) s 0))
   owning-is e =
-      let n : none ≡ false = ne-eqb (getD (t .page) s 0) noPage e in
-      let pages : ℕ → Bool = λ k. not (eqb (getD (t .page) s 0) (getD (t .page) k 0)) in
-      let both : ℕ → Bool = λ k. freeApart (t .original) (t .spare) s k && not (eqb (getD (t .original) s 0) (getD (t .original) k 0)) in
-      let page : pageApart (t .page) s ≡ allBelow s pages = ap (λ (b : Bool). b || allBelow s pages) n in
-      let frames : allBelow s (slotsApart (t .page) (t .original) (t .spare) s) ≡ allBelow s both =
-      all-ext (slotsApart (t .page) (t .original) (t .spare) s) both s (λ k l. apart-with false n k) in
+      let n : eqb (getD (t .page) s 0) noPage ≡ false = ne-eqb (getD (t .page) s 0) noPage e in
+      let pages : Bool = allBelow s (λ k. not (eqb (getD (t .page) s 0) (getD (t .page) k 0))) in
+      let same : Bool = eqb (h (getD (t .page) s 0)) (getD (t .original) s 0) in
       and-both (shaped z (slotIn t s)) (isOwning z (slotIn t s)) _ _ (shape-owning z (slotIn t s) e)
-      (and-both (pageApart (t .page) s) (allBelow s pages) _ _ page frames ∙ sym (all-and pages both s))
-
-  -- the shape fails, or it holds and the slots below decide. r is what the code found
-  pub free-stops : Legal z → getD (t .page) s 0 ≡ noPage → not (freeShape z (slotIn t s)) ≡ true → false ≡ slotFine z t s
-  free-stops h e n = and-stops (freeShape z (slotIn t s)) (allBelow s (freeApart (t .original) (t .spare) s)) (freeShape z (slotIn t s)) refl n ∙ sym (free-is h e)
-
-  pub free-goes : (r : Bool) → Legal z → getD (t .page) s 0 ≡ noPage → not (freeShape z (slotIn t s)) ≡ false → r ≡ allBelow s (freeApart (t .original) (t .spare) s) → r ≡ slotFine z t s
-  free-goes r h e n g = and-goes (freeShape z (slotIn t s)) (allBelow s (freeApart (t .original) (t .spare) s)) (freeShape z (slotIn t s)) r refl n g ∙ sym (free-is h e)
-
-  pub owning-stops : (getD (t .page) s 0 ≡ noPage → ⊥) → not (isOwning z (slotIn t s)) ≡ true → false ≡ slotFine z t s
-  owning-stops e n = and-stops (isOwning z (slotIn t s)) (allBelow s (owningApart (t .page) (t .original) (t .spare) s)) (isOwning z (slotIn t s)) refl n ∙ sym (owning-is e)
-
-  pub owning-goes : (r : Bool) → (getD (t .page) s 0 ≡ noPage → ⊥) → not (isOwning z (slotIn t s)) ≡ false → r ≡ allBelow s (owningApart (t .page) (t .original) (t .spare) s) → r ≡ slotFine z t s
-  owning-goes r e n g = and-goes (isOwning z (slotIn t s)) (allBelow s (owningApart (t .page) (t .original) (t .spare) s)) (isOwning z (slotIn t s)) r refl n g ∙ sym (owning-is e)
+      (and-both (pageApart (t .page) s) pages _ same (ap (λ (b : Bool). b || pages) n) (ap (λ (b : Bool). b || same) n))

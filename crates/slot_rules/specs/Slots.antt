@@ -1,28 +1,20 @@
--- Row 7 for the slots of a state, slot by slot: what one pass tests.
+-- Row 8's rules for the slots of a state, slot by slot: what one pass tests.
 use Prim.Native.Nat.{ℕ}
-use mathlib.Core.Bool.{Bool, _&&_, not}
-use mathlib.Core.List.{List}
-use lib.Dec.{eqb}
-use lib.ListN.{getD}
+use mathlib.Core.Bool.{Bool, _&&_}
 use Rattle.bounded.specs.Below.{allBelow}
+use Rattle.bounded.specs.Count.{eachOnce}
 use Rattle.layout.specs.declared.Sizes.{Sizes}
+use Rattle.layout.specs.Layout.{frames}
 use Rattle.journal.specs.Slots.{shaped}
 use Rattle.replay.specs.declared.Table.{Table}
 use Rattle.replay.specs.Table.{slotIn, pageApart}
-use Rattle.state.specs.Slots.{slotsApart}
+use Rattle.replay.specs.Map.{originalKept}
+pub use Rattle.replay.specs.Map.{namesKept}
 
--- slot s has a shape, and names no page and no frame of a slot below it
-abbrev pub slotFine : Sizes → Table → ℕ → Bool
-slotFine z t s =
-    shaped z (slotIn t s) && (pageApart (t .page) s && allBelow s (slotsApart (t .page) (t .original) (t .spare) s))
+-- slot s has a shape, its page is that of no slot below it, and that page's own frame, by h, is the slot's original
+abbrev pub slotFine : (ℕ → ℕ) → Sizes → Table → ℕ → Bool
+slotFine h z t s = shaped z (slotIn t s) && (pageApart (t .page) s && originalKept h t s)
 
--- the same of two slots, s being free or owning
-abbrev pub freeApart : List ℕ → List ℕ → ℕ → ℕ → Bool
-freeApart original spare s k =
-    not (eqb (getD spare s 0) (getD spare k 0))
-    && not (eqb (getD original s 0) (getD spare k 0))
-    && not (eqb (getD spare s 0) (getD original k 0))
-
-abbrev pub owningApart : List ℕ → List ℕ → List ℕ → ℕ → ℕ → Bool
-owningApart page original spare s k =
-    not (eqb (getD page s 0) (getD page k 0)) && (freeApart original spare s k && not (eqb (getD original s 0) (getD original k 0)))
+-- each slot is fine, and spares and own frames name each frame once
+abbrev pub slotsFine : (ℕ → ℕ) → Sizes → Table → Bool
+slotsFine h z t = allBelow (z .slots) (slotFine h z t) && eachOnce (frames z) (namesKept h z t)

@@ -3,6 +3,7 @@
 use answers::Answer;
 use call_write::Span;
 use op_stores::Until;
+use state_words::Words;
 
 // Calls, by the first digits: 1 begin, 2 abort, 3 write, 4 commit, 5 consolidate, 6 checkpoint, 7 mount, 8 free a slot, 9 the same in a buffer
 // that is a byte too short, 10 an edit of the state, 11 prepare, 12 confirm, 13 withdraw.
@@ -185,7 +186,7 @@ pub fn following(call: usize) -> usize {
 // The write of a byte to the start of a line.
 fn write(
     image: &mut [u8],
-    words: &mut [u64; 256],
+    words: &mut Words,
     writer: usize,
     page: usize,
     line: usize,
@@ -202,20 +203,20 @@ fn write(
 }
 
 // Frees a slot in a buffer that is a byte too short.
-fn free_in_short(words: &mut [u64; 256]) -> Answer {
+fn free_in_short(words: &mut Words) -> Answer {
     let mut short = [0u8; 41407];
     call_consolidate::free_slot(&mut short, words, Until::Asked)
 }
 
 // An edit sets the next slot to try and the number of slots.
-fn edit(words: &mut [u64; 256], next: usize, slots: usize) -> Answer {
+fn edit(words: &mut Words, next: usize, slots: usize) -> Answer {
     words[state_words::NEXT] = next as u64;
     words[state_words::SIZES + 1] = slots as u64;
     Answer::Taken(0)
 }
 
 // Makes a call, its stores not yet made.
-pub fn made(image: &mut [u8], words: &mut [u64; 256], call: usize) -> Answer {
+pub fn made(image: &mut [u8], words: &mut Words, call: usize) -> Answer {
     let writer = call / 1000000000 % 10;
     let page = call / 100000000 % 10;
     let line = call / 1000000 % 100;

@@ -2,6 +2,7 @@
 use crate::calls;
 use crate::out;
 use layout::Sizes;
+use state_words::WORD_COUNT;
 
 // Turns of the table, a line each, and 6,000 of the walk.
 const TURNS: usize = 6294;
@@ -14,7 +15,7 @@ pub fn play(image: &mut [u8]) {
         places: 6,
         entries: 0,
     };
-    let mut words = [0u64; 256];
+    let mut words = [0u64; WORD_COUNT];
     call_mount::format_whole(image, &mut words, z);
     let mut sum = 0;
     let mut call = 0;

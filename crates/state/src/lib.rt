@@ -44,14 +44,13 @@ pub enum Op {
 // What stands for no writer where one is prepared or wide; so does any other number above 3.
 pub const NO_WRITER: usize = 4;
 
-// The pending operation, how many of its stores are made, and for a write the finished line's words and the page's
-// frame. An event has the same of page 0, and the second line's words where it has two.
+// The pending operation, how many of its stores are made, and for a write the finished line's words. An event has the same, and the second line's
+// words where it has two.
 pub struct Pending {
     pub op: Op,
     pub made: usize,
     pub line: [u64; 8],
     pub second: [u64; 8],
-    pub frame: usize,
 }
 
 // Head, tail, the next slot to try, the prepared writer, the wide one, and how many entries it uses.

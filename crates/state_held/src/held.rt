@@ -10,13 +10,14 @@ ghost use Rattle.state.specs.Wide.{wideOf, someOpen, aloneOpen, noneHeld, wideO
 ghost use Rattle.state_words.specs.Decoded.{decoded};
 use layout::Sizes;
 use state::Places;
+use state_words::Words;
 use state_words::held_at;
 use state_words::key_at;
 use state_words::open_at;
 use state_words::page_at;
 
 // Whether a writer is open.
-pub fn some_open(words: &[u64; 256]) -> bool
+pub fn some_open(words: &Words) -> bool
     ensures { λ r. ⌜ r ≡ someOpen (decoded (now (words .entry)) .writers .opened) ⌝ }
 {
     let a = open_at(words, 0);
@@ -27,7 +28,7 @@ pub fn some_open(words: &[u64; 256]) -> bool
 }
 
 // Whether a writer holds a line of slot s: one test of all four, with no branch between them.
-pub fn some_hold(words: &[u64; 256], s: usize) -> bool
+pub fn some_hold(words: &Words, s: usize) -> bool
     requires { ⌜ s < 16 ⌝ }
     ensures { λ r. ⌜ r ≡ someHold (decoded (now (words .entry)) .writers .held) s ⌝ }
 {
@@ -39,7 +40,7 @@ pub fn some_hold(words: &[u64; 256], s: usize) -> bool
 }
 
 // Whether what writer w holds of slot s keeps the rules.
-fn holder_ok(words: &[u64; 256], free: bool, s: usize, w: usize) -> bool
+fn holder_ok(words: &Words, free: bool, s: usize, w: usize) -> bool
     requires { ⌜ (s < 16) × (w < 4) ⌝ }
     ensures { λ r. ⌜ r ≡ holderOk (decoded (now (words .entry)) .writers .opened) (decoded (now (words .entry)) .writers .held) free s w ⌝ }
 {
@@ -59,7 +60,7 @@ fn holder_ok(words: &[u64; 256], free: bool, s: usize, w: usize) -> bool
 }
 
 // The same of the four writers. Of most slots nothing is held.
-fn slot_held_ok(words: &[u64; 256], free: bool, s: usize) -> bool
+fn slot_held_ok(words: &Words, free: bool, s: usize) -> bool
     requires { ⌜ s < 16 ⌝ }
     ensures { λ r. ⌜ r ≡ allBelow 4 (holderOk (decoded (now (words .entry)) .writers .opened) (decoded (now (words .entry)) .writers .held) free s) ⌝ }
 {
@@ -77,7 +78,7 @@ fn slot_held_ok(words: &[u64; 256], free: bool, s: usize) -> bool
 }
 
 // Whether no line is held twice, for a closed writer or in a free slot.
-pub fn held_ok(z: Sizes, words: &[u64; 256]) -> bool
+pub fn held_ok(z: Sizes, words: &Words) -> bool
     requires { ⌜ Legal z ⌝ }
     ensures { λ r. ⌜ r ≡ heldOk z (decoded (now (words .entry)) .table .page) (decoded (now (words .entry)) .writers .opened)
         (decoded (now (words .entry)) .writers .held) ⌝ }
@@ -94,7 +95,7 @@ pub fn held_ok(z: Sizes, words: &[u64; 256]) -> bool
 }
 
 // Whether a writer other than w holds line l of slot s.
-pub fn others_hold(words: &[u64; 256], w: usize, s: usize, l: usize) -> bool
+pub fn others_hold(words: &Words, w: usize, s: usize, l: usize) -> bool
     requires { ⌜ (s < 16) × (l < 64) ⌝ }
     ensures { λ r. ⌜ r ≡ othersHold (decoded (now (words .entry)) .writers .held) w s l ⌝ }
 {
@@ -110,7 +111,7 @@ pub fn others_hold(words: &[u64; 256], w: usize, s: usize, l: usize) -> bool
 }
 
 // How many slots writer w holds lines of.
-pub fn held_count(z: Sizes, words: &[u64; 256], w: usize) -> usize
+pub fn held_count(z: Sizes, words: &Words, w: usize) -> usize
     requires { ⌜ Legal z × (w < 4) ⌝ }
     ensures { λ r. ⌜ r ≡ length (heldSlots z (decoded (now (words .entry)) .writers .held) w) ⌝ }
 {
@@ -125,7 +126,7 @@ pub fn held_count(z: Sizes, words: &[u64; 256], w: usize) -> usize
 }
 
 // Whether writer w is open and no other is.
-fn alone_open(words: &[u64; 256], w: usize) -> bool
+fn alone_open(words: &Words, w: usize) -> bool
     ensures { λ r. ⌜ r ≡ aloneOpen (decoded (now (words .entry)) .writers .opened) w ⌝ }
 {
     let mut v = 0;
@@ -140,7 +141,7 @@ fn alone_open(words: &[u64; 256], w: usize) -> bool
 }
 
 // Whether no line is held.
-fn none_held(z: Sizes, words: &[u64; 256]) -> bool
+fn none_held(z: Sizes, words: &Words) -> bool
     requires { ⌜ Legal z ⌝ }
     ensures { λ r. ⌜ r ≡ noneHeld z (decoded (now (words .entry)) .writers .held) ⌝ }
 {
@@ -155,7 +156,7 @@ fn none_held(z: Sizes, words: &[u64; 256]) -> bool
 }
 
 // The first of n entries with this key, or n where there is none.
-pub fn find_entry(words: &[u64; 256], n: usize, key: u64) -> usize
+pub fn find_entry(words: &Words, n: usize, key: u64) -> usize
     requires { ⌜ n ≤ 64 ⌝ }
     ensures { λ r. ⌜ r ≡ entryOf (decoded (now (words .entry)) .wide .keys) n key ⌝ }
 {
@@ -170,7 +171,7 @@ pub fn find_entry(words: &[u64; 256], n: usize, key: u64) -> usize
 }
 
 // Whether entry e is one of a page, and of a line that no entry before it has.
-fn key_right(z: Sizes, words: &[u64; 256], e: usize) -> bool
+fn key_right(z: Sizes, words: &Words, e: usize) -> bool
     requires { ⌜ e < 64 ⌝ }
     ensures { λ r. ⌜ r ≡ keyRight z (decoded (now (words .entry)) .wide .keys) e ⌝ }
 {
@@ -181,7 +182,7 @@ fn key_right(z: Sizes, words: &[u64; 256], e: usize) -> bool
 }
 
 // Whether n entries are at most L, and each is right.
-fn entries_ok(z: Sizes, words: &[u64; 256], n: usize) -> bool
+fn entries_ok(z: Sizes, words: &Words, n: usize) -> bool
     requires { ⌜ Legal z ⌝ }
     ensures { λ r. ⌜ r ≡ entriesOk z (decoded (now (words .entry)) .wide .keys) n ⌝ }
 {
@@ -199,7 +200,7 @@ fn entries_ok(z: Sizes, words: &[u64; 256], n: usize) -> bool
 }
 
 // Whether the entries are right, and a wide writer is open, not prepared, and beside no held line and no other open writer.
-pub fn wide_ok(z: Sizes, at: Places, words: &[u64; 256]) -> bool
+pub fn wide_ok(z: Sizes, at: Places, words: &Words) -> bool
     requires { ⌜ Legal z ⌝ }
     ensures { λ r. ⌜ r ≡ wideOk z (decoded (now (words .entry)) .writers .opened) (decoded (now (words .entry)) .writers .held)
         (at .prepared) (wideOf (at .wide) (at .count) (decoded (now (words .entry)) .wide .keys)) ⌝ }

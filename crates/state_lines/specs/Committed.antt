@@ -1,4 +1,4 @@
--- The frame with the committed copy of line l, f being the page's frame, s its slot, S where it has none, and t that slot.
+-- The frame with the committed copy of line l, f being the page's own frame, s its slot, S where it has none, and t that slot.
 use Prim.Native.Nat.{ℕ}
 use mathlib.Core.Bool.{cond}
 use lib.Dec.{ltb}

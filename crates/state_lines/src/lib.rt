@@ -1,56 +1,39 @@
-// Where a line of a state in words lies: its page's frame, the frame of the copy that is committed or that a writer sees, and its entry.
+// Where a line of a state in words lies: the frame of the copy that is committed or that a writer sees, and its entry. No word of the image tells it.
 ghost use mathlib.Core.Path.{_≡_};
 ghost use Prim.Native.Nat.{_<_, _≤_};
-ghost use lib.ListN.{length};
-ghost use Rattle.layout.specs.Layout.{Legal, imageLength};
+ghost use Rattle.layout.specs.Layout.{Legal};
 ghost use Rattle.replay.specs.Table.{slotIn};
+ghost use Rattle.state.specs.State.{ownFrame};
 ghost use Rattle.state.specs.Held.{heldAt};
 ghost use Rattle.state.specs.Wide.{wideOf};
-ghost use Rattle.refinement.specs.Frames.{frameAt, seenAt};
+ghost use Rattle.refinement.specs.Frames.{seenAt};
 ghost use Rattle.entry_lines.specs.Own.{ownEntry};
 ghost use Rattle.state_words.specs.Decoded.{decoded};
 ghost use Rattle.state_lines.specs.Committed.{committedAt};
 use layout::Sizes;
 use state::Places;
+use state_words::Words;
 
-// Page p's frame, s being its slot, S where it has none: a slotted page's original, else its page-table word.
-pub fn page_frame(image: &[u8], z: Sizes, words: &[u64; 256], p: usize, s: usize) -> usize
-    requires { ⌜ Legal z × (p < z .pages) × (imageLength z ≤ length (now image)) ⌝ }
-    ensures { λ r. ⌜ r ≡ frameAt z (decoded (now (words .entry)) .table .original) (now (image .entry)) p s ⌝ }
-{
-    if s < z.slots {
-        let t = state_words::slot_at(words, s);
-        return t.original;
-    }
-    image_words::read_word(image, layout::page_word(p)) as usize
-}
-
-// The frame with the committed copy of line l, s being its page's slot, S where it has none, and frame the page's.
-pub fn committed_at(z: Sizes, words: &[u64; 256], s: usize, frame: usize, l: usize) -> usize
-    requires { ⌜ Legal z × (l < 64) ⌝ }
-    ensures { λ r. ⌜ r ≡ committedAt z (slotIn (decoded (now (words .entry)) .table) s) s frame l ⌝ }
+// The frame with the committed copy of line l of page p, s being its slot, S where it has none.
+pub fn committed_at(z: Sizes, words: &Words, p: usize, s: usize, l: usize) -> usize
+    requires { ⌜ Legal z × (p < 1024) × (l < 64) ⌝ }
+    ensures { λ r. ⌜ r ≡ committedAt z (slotIn (decoded (now (words .entry)) .table) s) s (ownFrame (decoded (now (words .entry))) p) l ⌝ }
 {
     if z.slots <= s {
-        return frame;
+        return state_words::entry_at(words, p);
     }
     let t = state_words::slot_at(words, s);
     frames::committed_frame(t, l)
 }
 
-// The frame that a writer reads line l from, s and frame being those of its page.
-pub fn seen_frame(
-    z: Sizes,
-    words: &[u64; 256],
-    writer: usize,
-    s: usize,
-    l: usize,
-    frame: usize,
-) -> usize
-    requires { ⌜ Legal z × (writer < 4) × (l < 64) ⌝ }
-    ensures { λ r. ⌜ r ≡ seenAt z (slotIn (decoded (now (words .entry)) .table) s) (heldAt (decoded (now (words .entry)) .writers .held) writer s) s l frame ⌝ }
+// The frame that a writer reads line l of page p from, s being its slot, S where it has none.
+pub fn seen_frame(z: Sizes, words: &Words, writer: usize, p: usize, s: usize, l: usize) -> usize
+    requires { ⌜ Legal z × (writer < 4) × (p < 1024) × (l < 64) ⌝ }
+    ensures { λ r. ⌜ r ≡ seenAt z (slotIn (decoded (now (words .entry)) .table) s) (heldAt (decoded (now (words .entry)) .writers .held) writer s) s l
+        (ownFrame (decoded (now (words .entry))) p) ⌝ }
 {
     if z.slots <= s {
-        return frame;
+        return state_words::entry_at(words, p);
     }
     let t = state_words::slot_at(words, s);
     let m = state_words::held_at(words, writer, s);
@@ -61,7 +44,7 @@ pub fn seen_frame(
 }
 
 // The entry of a writer's line, which a wide writer alone has; the count of entries where it has none.
-pub fn own_entry(at: Places, words: &[u64; 256], writer: usize, page: usize, line: usize) -> usize
+pub fn own_entry(at: Places, words: &Words, writer: usize, page: usize, line: usize) -> usize
     requires { ⌜ (at .count ≤ 64) × (page < 1024) × (line < 64) ⌝ }
     ensures { λ r. ⌜ r ≡ ownEntry (wideOf (at .wide) (at .count) (decoded (now (words .entry)) .wide .keys)) writer page line ⌝ }
 {

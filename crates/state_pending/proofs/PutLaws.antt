@@ -19,10 +19,10 @@ use Rattle.state_words.proofs.PendingLaws.{op-idle}
 use Rattle.state_pending.specs.Put.{eight, opIn, withPending}
 
 -- part j after one store to part k, where it is another, and where it is k
-other : (c : List ℕ) (k s v j : ℕ) → k < 18 → s < size k → j < 18 → eqb j k ≡ false → part (set c (start k + s) v) j ≡ part c j
+other : (c : List ℕ) (k s v j : ℕ) → k < 19 → s < size k → j < 19 → eqb j k ≡ false → part (set c (start k + s) v) j ≡ part c j
 other c k s v j hk hs hj e = part-put c k s v hk hs j hj ∙ rw e
 
-same : (c : List ℕ) (k s v : ℕ) → k < 18 → s < size k → part (set c (start k + s) v) k ≡ set (part c k) s v
+same : (c : List ℕ) (k s v : ℕ) → k < 19 → s < size k → part (set c (start k + s) v) k ≡ set (part c k) s v
 same c k s v hk hs = part-put c k s v hk hs k hk ∙ rw (eq-eqb k k refl)
 
 -- a list of eight, place by place; and after eight stores
@@ -53,14 +53,14 @@ length-eight c i l =
     let d6 = set d5 (i + 6) (getD l 6 0) in
     length-set d6 (i + 7) (getD l 7 0) ∙ length-set d5 (i + 6) (getD l 6 0) ∙ length-set d4 (i + 5) (getD l 5 0) ∙ length-set d3 (i + 4) (getD l 4 0) ∙ length-set d2 (i + 3) (getD l 3 0) ∙ length-set d1 (i + 2) (getD l 2 0) ∙ length-set d0 (i + 1) (getD l 1 0) ∙ length-set c i (getD l 0 0)
 
-long : (c : List ℕ) (k : ℕ) → length c ≡ 256 → size k ≡ 8 → start k + 8 ≤ 256 → length (part c k) ≡ 8
+long : (c : List ℕ) (k : ℕ) → length c ≡ 1280 → size k ≡ 8 → start k + 8 ≤ 1280 → length (part c k) ≡ 8
 unfolding part
 long c k n e l =
     let more : size k ≤ length (drop (start k) c) = omega (arith, length-drop (start k) c) in
     length-take-le (size k) (drop (start k) c) more ∙ e
 
 -- part j after eight stores to part k
-module _ (c : List ℕ) (k : ℕ) (l : List ℕ) (hk : k < 18) (e : size k ≡ 8) where
+module _ (c : List ℕ) (k : ℕ) (l : List ℕ) (hk : k < 19) (e : size k ≡ 8) where
   low : (s : ℕ) → s < 8 → s < size k
   low s h = omega (arith, e, h)
 
@@ -88,7 +88,7 @@ module _ (c : List ℕ) (k : ℕ) (l : List ℕ) (hk : k < 18) (e : size k ≡ 8
   abbrev c7 : List ℕ
   c7 = set c6 (start k + 7) (getD l 7 0)
 
-  others : (j : ℕ) → j < 18 → eqb j k ≡ false → part c7 j ≡ part c j
+  others : (j : ℕ) → j < 19 → eqb j k ≡ false → part c7 j ≡ part c j
   others j hj f =
       other c6 k 7 _ j hk (low 7 (omega arith)) hj f ∙ other c5 k 6 _ j hk (low 6 (omega arith)) hj f ∙ other c4 k 5 _ j hk (low 5 (omega arith)) hj f ∙ other c3 k 4 _ j hk (low 4 (omega arith)) hj f
       ∙ other c2 k 3 _ j hk (low 3 (omega arith)) hj f ∙ other c1 k 2 _ j hk (low 2 (omega arith)) hj f ∙ other c0 k 1 _ j hk (low 1 (omega arith)) hj f ∙ other c k 0 _ j hk (low 0 (omega arith)) hj f
@@ -97,7 +97,7 @@ module _ (c : List ℕ) (k : ℕ) (l : List ℕ) (hk : k < 18) (e : size k ≡ 8
   own =
       rw (same c6 k 7 (getD l 7 0) hk (low 7 (omega arith)), same c5 k 6 (getD l 6 0) hk (low 6 (omega arith)), same c4 k 5 (getD l 5 0) hk (low 5 (omega arith)), same c3 k 4 (getD l 4 0) hk (low 4 (omega arith)), same c2 k 3 (getD l 3 0) hk (low 3 (omega arith)), same c1 k 2 (getD l 2 0) hk (low 2 (omega arith)), same c0 k 1 (getD l 1 0) hk (low 1 (omega arith)), same c k 0 (getD l 0 0) hk (low 0 (omega arith)))
 
-  pub eight-part : length (part c k) ≡ 8 → length l ≡ 8 → (j : ℕ) → j < 18 → part c7 j ≡ cond (eqb j k) l (part c j)
+  pub eight-part : length (part c k) ≡ 8 → length l ≡ 8 → (j : ℕ) → j < 19 → part c7 j ≡ cond (eqb j k) l (part c j)
   eight-part m n j hj =
       caseOn (eqb j k) (λ t. let q : j ≡ k = eqb-true j k t in rw t (ap (part c7) q ∙ own ∙ filled (part c k) l m n)) (λ f. rw f (others j hj f))
 
@@ -109,17 +109,17 @@ busy n op e b =
     contradicts (sym (ap isIdle e) ∙ idle) b)
     (λ f. f)
 
-pub pending-put : (c n : List ℕ) (p : Pending) → length c ≡ 256 → length n ≡ 8 → length (p .line) ≡ 8 → length (p .second) ≡ 8 → opIn n ≡ p .op → getD n 6 0 ≡ p .made → getD n 7 0 ≡ p .frame
+pub pending-put : (c n : List ℕ) (p : Pending) → length c ≡ 1280 → length n ≡ 8 → length (p .line) ≡ 8 → length (p .second) ≡ 8 → opIn n ≡ p .op → getD n 6 0 ≡ p .made
     → isIdle (p .op) ≡ false → decoded (eight (eight (eight c 14 n) 24 (p .line)) 32 (p .second)) ≡ withPending (decoded c) p
 unfolding decoded start size
-pending-put c n p lc ln ll ls e m f b =
+pending-put c n p lc ln ll ls e m b =
     let d = eight c 14 n in
     let g = eight d 24 (p .line) in
-    let ld : length d ≡ 256 = length-eight c 14 n ∙ lc in
-    let lg : length g ≡ 256 = length-eight d 24 (p .line) ∙ ld in
+    let ld : length d ≡ 1280 = length-eight c 14 n ∙ lc in
+    let lg : length g ≡ 1280 = length-eight d 24 (p .line) ∙ ld in
     from-ext (part (eight g 32 (p .second))) (λ j. cond (eqb j 10) (p .second) (cond (eqb j 9) (p .line) (cond (eqb j 8) n (part c j))))
     (λ j hj.
     eight-part g 10 (p .second) (omega arith) refl (long g 10 lg refl (omega arith)) ls j hj
     ∙ ap (cond (eqb j 10) (p .second)) (eight-part d 9 (p .line) (omega arith) refl (long d 9 ld refl (omega arith)) ll j hj
     ∙ ap (cond (eqb j 9) (p .line)) (eight-part c 8 n (omega arith) refl (long c 8 lc refl (omega arith)) ln j hj)))
-    ∙ rw (busy n (p .op) e b, e, m, f)
+    ∙ rw (busy n (p .op) e b, e, m)

@@ -17,4 +17,14 @@ opIn p = opBy (getD p 0 0) (getD p 1 0) (getD p 2 0) (getD p 3 0) (getD p 4 0) (
 
 abbrev pub withPending : State → Pending → State
 withPending st i =
-    record { sizes = st .sizes; head = st .head; tail = st .tail; next = st .next; table = st .table; writers = st .writers; wide = st .wide; pending = i }
+    record {
+      sizes = st .sizes;
+      head = st .head;
+      tail = st .tail;
+      next = st .next;
+      table = st .table;
+      map = st .map;
+      writers = st .writers;
+      wide = st .wide;
+      pending = i;
+    }

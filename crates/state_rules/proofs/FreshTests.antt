@@ -1,10 +1,10 @@
--- The fresh test as the code makes it: what must not be, part by part, then the slots.
+-- The fresh test as the code makes it: what must not be, part by part, then the slots and the map.
 use mathlib.Core.Bool.{Bool, true, false, _&&_, _||_, not}
 use mathlib.Core.Path.{_≡_, refl, sym, ap, _∙_}
 use lib.Dec.{eqb, ltb}
 use Rattle.bounded.specs.Below.{allBelow}
 use Rattle.bounded.proofs.Tests.{contradicts}
-use Rattle.state.specs.State.{State}
+use Rattle.state.specs.State.{State, ownFrame}
 use Rattle.state.specs.Wide.{someOpen}
 use Rattle.validity.specs.Validity.{freshAt, freshOf, isFresh}
 
@@ -38,8 +38,8 @@ module _ (st : State) where
   abbrev placed : Bool
   placed = ((not (eqb (st .head) 0) || not (eqb (st .tail) 0)) || not (eqb (st .next) 0)) || not (eqb (st .wide .count) 0)
 
-  abbrev slots : Bool
-  slots = allBelow (st .sizes .slots) (freshAt (st .sizes) (st .table))
+  abbrev pub slots : Bool
+  slots = allBelow (st .sizes .slots) (freshAt (st .sizes) (st .table)) && allBelow (st .sizes .pages) (λ p. eqb (ownFrame st p) p)
 
   abbrev writing : Bool → Bool
   writing o = (o || ltb (st .writers .prepared) 4) || ltb (st .wide .writer) 4

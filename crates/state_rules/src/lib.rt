@@ -6,6 +6,7 @@ ghost use mathlib.Core.Path.{_≡_};
 ghost use Prim.Native.Nat.{_*_, _<_, _≤_};
 ghost use Rattle.layout.specs.Layout.{Legal};
 ghost use Rattle.journal.specs.Records.{liveCount};
+ghost use Rattle.state.specs.State.{ownFrame};
 ghost use Rattle.validity.specs.Validity.{slotsOk, isLiveOf, lastOkOf, lastsOk, preparedOk, isFresh, opFits, pendingOk, stateOk};
 ghost use Rattle.state_words.specs.Decoded.{decoded, placesOf};
 ghost use Rattle.op_rows.specs.Seen.{Low, seen};
@@ -14,15 +15,15 @@ use layout::Sizes;
 use state::Op;
 use state::Places;
 use state_held::held;
+use state_words::Words;
 use state_words::last_at;
-use state_words::parts::frame_in;
 use state_words::parts::idle_in;
 use state_words::parts::made_in;
 use state_words::parts::op_in;
 
-// The rules of rows 3, 5 and 7 for the slots.
-fn slots_ok(z: Sizes, head: usize, tail: usize, words: &[u64; 256]) -> bool
-    ensures { λ r. ⌜ r ≡ slotsOk z head tail (decoded (now (words .entry)) .table) ⌝ }
+// The rules of rows 3, 5 and 7 for the slots and the map.
+fn slots_ok(z: Sizes, head: usize, tail: usize, words: &Words) -> bool
+    ensures { λ r. ⌜ r ≡ slotsOk z head tail (decoded (now (words .entry)) .table) (ownFrame (decoded (now (words .entry)))) ⌝ }
 {
     if !layout::sizes_ok(z) {
         return false;
@@ -45,7 +46,7 @@ fn is_live(z: Sizes, tail: usize, live: usize, q: usize) -> bool
 }
 
 // Whether the last position of slot s, where it has one, is live and that of no slot below it.
-fn last_ok(z: Sizes, tail: usize, live: usize, words: &[u64; 256], s: usize) -> bool
+fn last_ok(z: Sizes, tail: usize, live: usize, words: &Words, s: usize) -> bool
     requires { ⌜ Legal z × (tail < 2 * z .places) × (s < 16) ⌝ }
     ensures { λ r. ⌜ r ≡ lastOkOf z tail live (decoded (now (words .entry)) .table .last) s ⌝ }
 {
@@ -67,7 +68,7 @@ fn last_ok(z: Sizes, tail: usize, live: usize, words: &[u64; 256], s: usize) -> 
 }
 
 // The same of each slot.
-fn lasts_ok(z: Sizes, head: usize, tail: usize, words: &[u64; 256]) -> bool
+fn lasts_ok(z: Sizes, head: usize, tail: usize, words: &Words) -> bool
     requires { ⌜ Legal z × (head < 2 * z .places) × (tail < 2 * z .places) ⌝ }
     ensures { λ r. ⌜ r ≡ lastsOk z head tail (decoded (now (words .entry)) .table .last) ⌝ }
 {
@@ -83,7 +84,7 @@ fn lasts_ok(z: Sizes, head: usize, tail: usize, words: &[u64; 256]) -> bool
 }
 
 // Whether a prepared writer is open and its records fit.
-fn prepared_ok(z: Sizes, at: Places, words: &[u64; 256]) -> bool
+fn prepared_ok(z: Sizes, at: Places, words: &Words) -> bool
     requires { ⌜ Legal z × (at .head < 2 * z .places) × (at .tail < 2 * z .places) × (liveCount z (at .head) (at .tail) ≤ z .places) ⌝ }
     ensures { λ r. ⌜ r ≡ preparedOk z (at .head) (at .tail) (decoded (now (words .entry)) .writers .opened)
         (decoded (now (words .entry)) .writers .held) (at .prepared) ⌝ }
@@ -99,7 +100,7 @@ fn prepared_ok(z: Sizes, at: Places, words: &[u64; 256]) -> bool
 }
 
 // Whether the state keeps every rule of row 8 that says nothing of what is pending.
-fn quiet_ok(z: Sizes, at: Places, words: &[u64; 256]) -> bool
+fn quiet_ok(z: Sizes, at: Places, words: &Words) -> bool
     ensures { λ r. ⌜ r ≡ quietIn z at (decoded (now (words .entry))) ⌝ }
 {
     if !slots_ok(z, at.head, at.tail, words) {
@@ -121,7 +122,7 @@ fn quiet_ok(z: Sizes, at: Places, words: &[u64; 256]) -> bool
 }
 
 // Whether a write or a commit that is pending is not one by the wide writer, whose are `Log` and `Copy`, and a format is beside the fresh state.
-fn op_fits(z: Sizes, at: Places, words: &[u64; 256], op: Op) -> bool
+fn op_fits(z: Sizes, at: Places, words: &Words, op: Op) -> bool
     requires { ⌜ Legal z ⌝ }
     ensures { λ r. ⌜ r ≡ opFits (at .wide) (isFresh (seen z at (decoded (now (words .entry))))) op ⌝ }
 {
@@ -156,21 +157,21 @@ fn op_fits(z: Sizes, at: Places, words: &[u64; 256], op: Op) -> bool
 }
 
 // Whether an operation with so many stores made has stores left, and no row from 11 on turns it back.
-fn op_ok(z: Sizes, at: Places, words: &[u64; 256], op: Op, made: usize, frame: usize) -> bool
+fn op_ok(z: Sizes, at: Places, words: &Words, op: Op, made: usize) -> bool
     requires { ⌜ Low z at × (at .count ≤ 64) ⌝ }
-    ensures { λ r. ⌜ r ≡ opOk (seen z at (decoded (now (words .entry)))) op made frame ⌝ }
+    ensures { λ r. ⌜ r ≡ opOk (seen z at (decoded (now (words .entry)))) op made ⌝ }
 {
     if !op_fits(z, at, words, op) {
         return false;
     }
-    if op_rows::op_row(z, at, words, op, frame) != 0 {
+    if op_rows::op_row(z, at, words, op) != 0 {
         return false;
     }
     made < op_rows::op_needs(z, at, words, op)
 }
 
 // The same of the operation that is pending, where one is.
-fn pending_ok(z: Sizes, at: Places, words: &[u64; 256]) -> bool
+fn pending_ok(z: Sizes, at: Places, words: &Words) -> bool
     requires { ⌜ Low z at × (at .count ≤ 64) ⌝ }
     ensures { λ r. ⌜ r ≡ pendingOk (seen z at (decoded (now (words .entry)))) ⌝ }
 {
@@ -179,12 +180,11 @@ fn pending_ok(z: Sizes, at: Places, words: &[u64; 256]) -> bool
     }
     let op = op_in(words);
     let made = made_in(words);
-    let frame = frame_in(words);
-    op_ok(z, at, words, op, made, frame)
+    op_ok(z, at, words, op, made)
 }
 
 // Whether the state keeps every rule of row 8. z and at are its sizes and places.
-pub fn state_ok(z: Sizes, at: Places, words: &[u64; 256]) -> bool
+pub fn state_ok(z: Sizes, at: Places, words: &Words) -> bool
     requires { ⌜ (z ≡ decoded (now words) .sizes) × (at ≡ placesOf (decoded (now words))) ⌝ }
     ensures { λ r. ⌜ r ≡ stateOk (decoded (now (words .entry))) ⌝ }
 {

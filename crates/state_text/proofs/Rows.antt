@@ -15,11 +15,11 @@ use Rattle.state_words.proofs.DecodedLaws.{getD-take}
 use Rattle.state_text.specs.Numbers.{heldNumbers}
 
 -- the held lines are 64 words
-length-held : (c : List ℕ) → length c ≡ 256 → length (decoded c .writers .held) ≡ 64
+length-held : (c : List ℕ) → length c ≡ 1280 → length (decoded c .writers .held) ≡ 64
 unfolding decoded words.part words.start words.size
 length-held c n = length-take-le 64 (drop 120 c) (omega (arith, length-drop 120 c))
 
-pub row-copied : (c : List ℕ) (w : ℕ) → length c ≡ 256 → w < 4
+pub row-copied : (c : List ℕ) (w : ℕ) → length c ≡ 1280 → w < 4
     → filled 16 (heldAt (decoded c .writers .held) w) (replicate 16 0) ≡ part (decoded c .writers .held) (16 * w) 16
 unfolding part
 row-copied c w n l =

@@ -25,14 +25,34 @@ abbrev pub writerNumbers : Writers → ℕ → List ℕ
 writerNumbers ws n = openNumbers ws ++ each 4 (heldNumbers (ws .held) n)
 
 abbrev pub headerNumbers : State → List ℕ
-headerNumbers st = st .sizes .slots ∷ st .sizes .places ∷ st .head ∷ st .tail ∷ st .next ∷ []
+headerNumbers st = st .sizes .slots ∷ st .sizes .places ∷ st .sizes .entries ∷ st .head ∷ st .tail ∷ st .next ∷ []
 
--- P first, then the others
-abbrev pub numbersPastP : State → List ℕ
-numbersPastP st =
-    let n = min (st .sizes .slots) 16 in
-    headerNumbers st ++ (each n (slotNumbers (st .table)) ++ (writerNumbers (st .writers) n ++ pendingNumbers (st .pending)))
+-- entry p of the map; and key e of the wide transaction
+abbrev pub entryNumber : List ℕ → ℕ → List ℕ
+entryNumber map p = getD map p 0 ∷ []
+
+abbrev pub keyNumber : List ℕ → ℕ → List ℕ
+keyNumber keys e = getD keys e 0 ∷ []
+
+-- the prepared writer and the wide one, 4 where there is none; the entries used, and the keys of the first 64 at most
+abbrev pub turnNumbers : State → List ℕ
+turnNumbers st = min (st .writers .prepared) 4 ∷ min (st .wide .writer) 4 ∷ st .wide .count ∷ []
+
+abbrev pub wideNumbers : State → List ℕ
+wideNumbers st = turnNumbers st ++ each (min (st .wide .count) 64) (keyNumber (st .wide .keys))
+
+-- the header past P, at most 16 slots, and the map's entries of at most 1,024 pages
+abbrev pub placesNumbers : State → List ℕ
+placesNumbers st =
+    headerNumbers st ++ (each (min (st .sizes .slots) 16) (slotNumbers (st .table)) ++ each (min (st .sizes .pages) 1024) (entryNumber (st .map)))
+
+abbrev pub placesField : State → List ℕ
+placesField st = field (st .sizes .pages) ++ blanked (placesNumbers st)
+
+-- the writers, the wide transaction and the pending operation
+abbrev pub workNumbers : State → List ℕ
+workNumbers st = writerNumbers (st .writers) (min (st .sizes .slots) 16) ++ (wideNumbers st ++ pendingNumbers (st .pending))
 
 -- the state's numbers, parted by blanks
 abbrev pub stateField : State → List ℕ
-stateField st = field (st .sizes .pages) ++ blanked (numbersPastP st)
+stateField st = placesField st ++ blanked (workNumbers st)

@@ -17,7 +17,7 @@ use Rattle.journal.specs.declared.Slot.{Slot}
 use Rattle.replay.specs.Table.{slotIn, withSlot, withLast}
 use Rattle.state.specs.State.{State}
 use Rattle.state.specs.Held.{isOpen, heldAt}
-use Rattle.state_words.specs.Decoded.{start, size, part, flags, fromParts, decoded, placesOf, withTable, withWriters, withHead, withTail, withNext, withWide, withNothing, withBitmap, withOpened, withHeld, withPrepared}
+use Rattle.state_words.specs.Decoded.{start, size, part, flags, fromParts, decoded, placesOf, withTable, withWriters, withHead, withTail, withNext, withWide, withNothing, withMap, withBitmap, withOpened, withHeld, withPrepared}
 
 pub getD-take : (n : ℕ) (l : List ℕ) (i : ℕ) → i < n → getD (take n l) i 0 ≡ getD l i 0
 getD-take zero l i h = absurd (not-suc-le-zero h)
@@ -56,15 +56,15 @@ last-of : (j k : ℕ) → eqb j k ≡ false → leb (start j + size j) (start k)
 unfolding apart
 last-of j k e n t = rw (e, n) at t
 
-all-apart : allBelow 18 (λ j. allBelow 18 (apart j)) ≡ true
+all-apart : allBelow 19 (λ j. allBelow 19 (apart j)) ≡ true
 unfolding allBelow apart start size
 all-apart = refl
 
 -- part j after a store to place s of part k
-pub part-put : (c : List ℕ) (k s v : ℕ) → k < 18 → s < size k → (j : ℕ) → j < 18 → part (set c (start k + s) v) j ≡ cond (eqb j k) (set (part c k) s v) (part c j)
+pub part-put : (c : List ℕ) (k s v : ℕ) → k < 19 → s < size k → (j : ℕ) → j < 19 → part (set c (start k + s) v) j ≡ cond (eqb j k) (set (part c k) s v) (part c j)
 unfolding part
 part-put c k s v hk hs j hj =
-    let t : apart j k ≡ true = all-at (apart j) 18 k hk (all-at (λ i. allBelow 18 (apart i)) 18 j hj all-apart) in
+    let t : apart j k ≡ true = all-at (apart j) 19 k hk (all-at (λ i. allBelow 19 (apart i)) 19 j hj all-apart) in
     caseOn (eqb j k)
     (λ e. let q : j ≡ k = eqb-true j k e in rw e (ap (λ (i : ℕ). take (size i) (drop (start i) (set c (start k + s) v))) q ∙ here (start k) (size k) c s v hs))
     (λ e.
@@ -72,7 +72,7 @@ part-put c k s v hk hs j hj =
     (λ l. let h = leb-true (start j + size j) (start k) l in rw e (above (start j) (size j) c (start k + s) v (omega (arith, h))))
     (λ n. let h = leb-true (start k + size k) (start j) (last-of j k e n t) in rw e (below (start j) (size j) c (start k + s) v (omega (arith, h, hs)))))
 
-pub from-ext : (p q : ℕ → List ℕ) → ((j : ℕ) → j < 18 → p j ≡ q j) → fromParts p ≡ fromParts q
+pub from-ext : (p q : ℕ → List ℕ) → ((j : ℕ) → j < 19 → p j ≡ q j) → fromParts p ≡ fromParts q
 from-ext p q h =
     rw (
       h 0 (omega arith),
@@ -93,10 +93,11 @@ from-ext p q h =
       h 15 (omega arith),
       h 16 (omega arith),
       h 17 (omega arith),
+      h 18 (omega arith),
     )
 
 -- THE LAW: the state after a store to place s of part k
-pub put-part : (c : List ℕ) (k s v : ℕ) → k < 18 → s < size k → decoded (set c (start k + s) v) ≡ fromParts (λ j. cond (eqb j k) (set (part c k) s v) (part c j))
+pub put-part : (c : List ℕ) (k s v : ℕ) → k < 19 → s < size k → decoded (set c (start k + s) v) ≡ fromParts (λ j. cond (eqb j k) (set (part c k) s v) (part c j))
 unfolding decoded
 put-part c k s v hk hs = from-ext (part (set c (start k + s) v)) (λ j. cond (eqb j k) (set (part c k) s v) (part c j)) (part-put c k s v hk hs)
 
@@ -120,7 +121,7 @@ flag-one true = refl
 flag-one false = refl
 
 -- a part of one word holds what was put
-single : (c : List ℕ) (k v : ℕ) → length c ≡ 256 → start k < 256 → size k ≡ 1 → getD (set (part c k) 0 v) 0 0 ≡ v
+single : (c : List ℕ) (k v : ℕ) → length c ≡ 1280 → start k < 1280 → size k ≡ 1 → getD (set (part c k) 0 v) 0 0 ≡ v
 unfolding part
 single c k v n l e =
     let long : size k ≤ length (drop (start k) c) = omega (arith, length-drop (start k) c) in
@@ -200,7 +201,15 @@ module _ (c : List ℕ) where
   unfolding decoded start size
   key-put e v l = put-part c 17 e v (omega arith) l
 
-  module _ (n : length c ≡ 256) where
+  pub entry-read : (p : ℕ) → p < 1024 → getD c (256 + p) 0 ≡ getD (st .map) p 0
+  unfolding decoded start size
+  entry-read p l = sym (part-at c 18 p l)
+
+  pub entry-put : (p v : ℕ) → p < 1024 → decoded (set c (256 + p) v) ≡ withMap st (set (st .map) p v)
+  unfolding decoded start size
+  entry-put p v l = put-part c 18 p v (omega arith) l
+
+  module _ (n : length c ≡ 1280) where
     pub head-put : (v : ℕ) → decoded (set c 4 v) ≡ withHead st v
     unfolding decoded start size
     head-put v = put-part c 1 0 v (omega arith) (omega arith) ∙ rw (single c 1 v n (omega arith) refl)
@@ -241,5 +250,5 @@ slot-put c s v l =
     rw (bitmap-put c3 s l (v .bitmap), spare-put c2 s l (v .spare), original-put c1 s l (v .original), page-put c s l (v .page))
 
 -- the wide writer and its count
-pub wide-put : (c : List ℕ) (n : length c ≡ 256) (w k : ℕ) → decoded (set (set c 8 w) 9 k) ≡ withWide (decoded c) (record { writer = w; count = k; keys = decoded c .wide .keys })
+pub wide-put : (c : List ℕ) (n : length c ≡ 1280) (w k : ℕ) → decoded (set (set c 8 w) 9 k) ≡ withWide (decoded c) (record { writer = w; count = k; keys = decoded c .wide .keys })
 wide-put c n w k = count-put (set c 8 w) (length-set c 8 w ∙ n) k ∙ rw (writer-put c n w)

@@ -17,7 +17,7 @@ use Rattle.state_words.specs.Decoded.{start, size, part, opBy, decoded, 
 use Rattle.state_words.proofs.DecodedLaws.{getD-take, part-at, put-part}
 
 -- the n words from a on, as a loop copies them
-pub copied : (c : List ℕ) (a n : ℕ) → a + n ≤ 256 → length c ≡ 256 → filled n (λ i. getD c (a + i) 0) (replicate n 0) ≡ take n (drop a c)
+pub copied : (c : List ℕ) (a n : ℕ) → a + n ≤ 1280 → length c ≡ 1280 → filled n (λ i. getD c (a + i) 0) (replicate n 0) ≡ take n (drop a c)
 copied c a n l e =
     let long : n ≤ length (drop a c) = omega (arith, length-drop a c) in
     let same : length (filled n (λ i. getD c (a + i) 0) (replicate n 0)) ≡ n = length-filled n (λ i. getD c (a + i) 0) (replicate n 0) ∙ length-replicate {A = ℕ} n 0 in
@@ -59,7 +59,7 @@ idle-read c =
     rw (sym (part-at c 8 0 (omega arith)))
     (caseOn (eqb (getD n 0 0) 0) (λ t. rw t) (λ f. sym (op-idle (getD n 0 0) (getD n 1 0) (getD n 2 0) (getD n 3 0) (getD n 4 0) (getD n 5 0)) ∙ rw f))
 
--- the operation, and with one pending its other two numbers
+-- the operation, and with one pending how many of its stores are made
 module _ (c : List ℕ) where
   pub op-read : (op : Op) → op ≡ opBy (getD c 14 0) (getD c 15 0) (getD c 16 0) (getD c 17 0) (getD c 18 0) (getD c 19 0) → op ≡ decoded c .pending .op
   unfolding decoded start size
@@ -74,10 +74,6 @@ module _ (c : List ℕ) where
   unfolding decoded start size
   made-read e = rw (part-at c 8 0 (omega arith), busy e, part-at c 8 6 (omega arith))
 
-  pub frame-read : isIdle (decoded c .pending .op) ≡ false → getD c 21 0 ≡ decoded c .pending .frame
-  unfolding decoded start size
-  frame-read e = rw (part-at c 8 0 (omega arith), busy e, part-at c 8 7 (omega arith))
-
   pub line-read : isIdle (decoded c .pending .op) ≡ false → take 8 (drop 24 c) ≡ decoded c .pending .line
   unfolding decoded start size part
   line-read e = rw (getD-take 8 (drop 14 c) 0 (omega arith), getD-drop 14 c 0 0, busy e)
@@ -86,7 +82,7 @@ module _ (c : List ℕ) where
   unfolding decoded start size part
   second-read e = rw (getD-take 8 (drop 14 c) 0 (omega arith), getD-drop 14 c 0 0, busy e)
 
-  pub made-put : length c ≡ 256 → isIdle (decoded c .pending .op) ≡ false → (m : ℕ) → decoded (set c 20 m) ≡ withMade (decoded c) m
+  pub made-put : length c ≡ 1280 → isIdle (decoded c .pending .op) ≡ false → (m : ℕ) → decoded (set c 20 m) ≡ withMade (decoded c) m
   unfolding decoded start size part
   made-put n e m =
       let p = take 8 (drop 14 c) in
@@ -100,7 +96,6 @@ module _ (c : List ℕ) where
         getD-set-other p 6 3 m 0 (omega arith),
         getD-set-other p 6 4 m 0 (omega arith),
         getD-set-other p 6 5 m 0 (omega arith),
-        getD-set-other p 6 7 m 0 (omega arith),
         getD-set-same p 6 m 0 (omega (arith, length-take-le 8 (drop 14 c) long)),
         some,
       )

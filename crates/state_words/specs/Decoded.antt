@@ -12,12 +12,12 @@ use Rattle.state.specs.declared.Op.{Op}
 use Rattle.state.specs.declared.Op.the-variants.{Idle, Write, Commit, Consolidate, Checkpoint, Event, Prepare, Confirm, Log, Copy, Format}
 
 -- the parts: 0 sizes, 1 head, 2 tail, 3 next, 4 prepared, 5 wide, 6 count, 7 opened, 8 pending, 9 line, 10 second line,
--- 11 pages, 12 originals, 13 spares, 14 bitmaps, 15 last positions, 16 held lines, 17 keys
+-- 11 pages, 12 originals, 13 spares, 14 bitmaps, 15 last positions, 16 held lines, 17 keys, 18 the map
 unfoldable pub start : ℕ → ℕ
-start k = getD (0 ∷ 4 ∷ 5 ∷ 6 ∷ 7 ∷ 8 ∷ 9 ∷ 10 ∷ 14 ∷ 24 ∷ 32 ∷ 40 ∷ 56 ∷ 72 ∷ 88 ∷ 104 ∷ 120 ∷ 184 ∷ []) k 0
+start k = getD (0 ∷ 4 ∷ 5 ∷ 6 ∷ 7 ∷ 8 ∷ 9 ∷ 10 ∷ 14 ∷ 24 ∷ 32 ∷ 40 ∷ 56 ∷ 72 ∷ 88 ∷ 104 ∷ 120 ∷ 184 ∷ 256 ∷ []) k 0
 
 unfoldable pub size : ℕ → ℕ
-size k = getD (4 ∷ 1 ∷ 1 ∷ 1 ∷ 1 ∷ 1 ∷ 1 ∷ 4 ∷ 8 ∷ 8 ∷ 8 ∷ 16 ∷ 16 ∷ 16 ∷ 16 ∷ 16 ∷ 64 ∷ 64 ∷ []) k 0
+size k = getD (4 ∷ 1 ∷ 1 ∷ 1 ∷ 1 ∷ 1 ∷ 1 ∷ 4 ∷ 8 ∷ 8 ∷ 8 ∷ 16 ∷ 16 ∷ 16 ∷ 16 ∷ 16 ∷ 64 ∷ 64 ∷ 1024 ∷ []) k 0
 
 unfoldable pub part : List ℕ → ℕ → List ℕ
 part c k = take (size k) (drop (start k) c)
@@ -35,7 +35,7 @@ opBy k a b c d e =
 
 -- what is pending: nothing where the number is 0, whatever the other words are
 abbrev pub nothing : Pending
-nothing = record { op = Idle; made = 0; line = replicate 8 0; second = replicate 8 0; frame = 0 }
+nothing = record { op = Idle; made = 0; line = replicate 8 0; second = replicate 8 0 }
 
 abbrev pub pendingFrom : List ℕ → List ℕ → List ℕ → Pending
 pendingFrom n line second =
@@ -45,7 +45,6 @@ pendingFrom n line second =
       made = getD n 6 0;
       line = line;
       second = second;
-      frame = getD n 7 0;
     })
 
 abbrev pub fromParts : (ℕ → List ℕ) → State
@@ -56,6 +55,7 @@ fromParts p =
       tail = getD (p 2) 0 0;
       next = getD (p 3) 0 0;
       table = record { page = p 11; original = p 12; spare = p 13; bitmap = p 14; last = p 15 };
+      map = p 18;
       writers = record { opened = flags (p 7); held = p 16; prepared = getD (p 4) 0 0 };
       wide = record { writer = getD (p 5) 0 0; count = getD (p 6) 0 0; keys = p 17 };
       pending = pendingFrom (p 8) (p 9) (p 10);
@@ -73,27 +73,102 @@ placesOf st =
 -- a state with another table, other writers, another head, tail or next slot, another wide transaction, or nothing pending
 abbrev pub withTable : State → Table → State
 withTable st t =
-    record { sizes = st .sizes; head = st .head; tail = st .tail; next = st .next; table = t; writers = st .writers; wide = st .wide; pending = st .pending }
+    record {
+      sizes = st .sizes;
+      head = st .head;
+      tail = st .tail;
+      next = st .next;
+      table = t;
+      map = st .map;
+      writers = st .writers;
+      wide = st .wide;
+      pending = st .pending;
+    }
 
 abbrev pub withWriters : State → Writers → State
 withWriters st ws =
-    record { sizes = st .sizes; head = st .head; tail = st .tail; next = st .next; table = st .table; writers = ws; wide = st .wide; pending = st .pending }
+    record {
+      sizes = st .sizes;
+      head = st .head;
+      tail = st .tail;
+      next = st .next;
+      table = st .table;
+      map = st .map;
+      writers = ws;
+      wide = st .wide;
+      pending = st .pending;
+    }
 
 abbrev pub withHead : State → ℕ → State
 withHead st h =
-    record { sizes = st .sizes; head = h; tail = st .tail; next = st .next; table = st .table; writers = st .writers; wide = st .wide; pending = st .pending }
+    record {
+      sizes = st .sizes;
+      head = h;
+      tail = st .tail;
+      next = st .next;
+      table = st .table;
+      map = st .map;
+      writers = st .writers;
+      wide = st .wide;
+      pending = st .pending;
+    }
 
 abbrev pub withTail : State → ℕ → State
 withTail st q =
-    record { sizes = st .sizes; head = st .head; tail = q; next = st .next; table = st .table; writers = st .writers; wide = st .wide; pending = st .pending }
+    record {
+      sizes = st .sizes;
+      head = st .head;
+      tail = q;
+      next = st .next;
+      table = st .table;
+      map = st .map;
+      writers = st .writers;
+      wide = st .wide;
+      pending = st .pending;
+    }
 
 abbrev pub withNext : State → ℕ → State
 withNext st s =
-    record { sizes = st .sizes; head = st .head; tail = st .tail; next = s; table = st .table; writers = st .writers; wide = st .wide; pending = st .pending }
+    record {
+      sizes = st .sizes;
+      head = st .head;
+      tail = st .tail;
+      next = s;
+      table = st .table;
+      map = st .map;
+      writers = st .writers;
+      wide = st .wide;
+      pending = st .pending;
+    }
 
 abbrev pub withWide : State → Wide → State
 withWide st d =
-    record { sizes = st .sizes; head = st .head; tail = st .tail; next = st .next; table = st .table; writers = st .writers; wide = d; pending = st .pending }
+    record {
+      sizes = st .sizes;
+      head = st .head;
+      tail = st .tail;
+      next = st .next;
+      table = st .table;
+      map = st .map;
+      writers = st .writers;
+      wide = d;
+      pending = st .pending;
+    }
+
+-- a state with another map
+abbrev pub withMap : State → List ℕ → State
+withMap st m =
+    record {
+      sizes = st .sizes;
+      head = st .head;
+      tail = st .tail;
+      next = st .next;
+      table = st .table;
+      map = m;
+      writers = st .writers;
+      wide = st .wide;
+      pending = st .pending;
+    }
 
 -- a state with m stores of what is pending made
 abbrev pub withMade : State → ℕ → State
@@ -104,6 +179,7 @@ withMade st m =
       tail = st .tail;
       next = st .next;
       table = st .table;
+      map = st .map;
       writers = st .writers;
       wide = st .wide;
       pending = record {
@@ -111,7 +187,6 @@ withMade st m =
         made = m;
         line = st .pending .line;
         second = st .pending .second;
-        frame = st .pending .frame;
       };
     }
 
@@ -123,6 +198,7 @@ withNothing st =
       tail = st .tail;
       next = st .next;
       table = st .table;
+      map = st .map;
       writers = st .writers;
       wide = st .wide;
       pending = nothing;

@@ -1,4 +1,4 @@
-// The state that the host keeps, as 256 words: this crate alone knows where each part stands. Any words are a state.
+// The state that the host keeps, as 1,280 words: this crate alone knows where each part stands. Any words are a state.
 pub mod parts;
 
 ghost use mathlib.Core.Path.{_≡_};
@@ -8,7 +8,7 @@ ghost use Rattle.bounded.specs.Below.{one};
 ghost use Rattle.replay.specs.Table.{slotIn, withSlot, withLast};
 ghost use Rattle.state.specs.Held.{isOpen, heldAt};
 ghost use Rattle.state_words.specs.Decoded.{decoded, placesOf, withTable, withWriters, withHead, withTail, withNext, withWide, withNothing};
-ghost use Rattle.state_words.specs.Decoded.{withBitmap, withOpened, withHeld, withPrepared};
+ghost use Rattle.state_words.specs.Decoded.{withBitmap, withOpened, withHeld, withPrepared, withMap};
 use journal::Slot;
 use layout::Sizes;
 use state::Places;
@@ -49,11 +49,17 @@ pub const HELD: usize = 120;
 
 pub const KEYS: usize = 184;
 
+pub const MAP: usize = 256;
+
+pub const WORD_COUNT: usize = 1280;
+
+pub type Words = [u64; WORD_COUNT];
+
 // What stands for a writer where there is none, as a word.
 pub const NO_WRITER: u64 = 4;
 
-// The sizes.
-pub fn sizes_in(words: &[u64; 256]) -> Sizes
+// The sizes of the image that the state belongs to.
+pub fn sizes_in(words: &Words) -> Sizes
     ensures { λ r. ⌜ r ≡ decoded (now (words .entry)) .sizes ⌝ }
 {
     Sizes {
@@ -65,7 +71,7 @@ pub fn sizes_in(words: &[u64; 256]) -> Sizes
 }
 
 // Head, tail, the next slot to try, the prepared writer, the wide one, and how many entries it uses.
-pub fn places_in(words: &[u64; 256]) -> Places
+pub fn places_in(words: &Words) -> Places
     ensures { λ r. ⌜ r ≡ placesOf (decoded (now (words .entry))) ⌝ }
 {
     Places {
@@ -79,7 +85,7 @@ pub fn places_in(words: &[u64; 256]) -> Places
 }
 
 // Slot s of the table.
-pub fn slot_at(words: &[u64; 256], s: usize) -> Slot
+pub fn slot_at(words: &Words, s: usize) -> Slot
     requires { ⌜ s < 16 ⌝ }
     ensures { λ r. ⌜ r ≡ slotIn (decoded (now (words .entry)) .table) s ⌝ }
 {
@@ -92,7 +98,7 @@ pub fn slot_at(words: &[u64; 256], s: usize) -> Slot
 }
 
 // The page of slot s, or 2^64 - 1.
-pub fn page_at(words: &[u64; 256], s: usize) -> usize
+pub fn page_at(words: &Words, s: usize) -> usize
     requires { ⌜ s < 16 ⌝ }
     ensures { λ r. ⌜ r ≡ getD (decoded (now (words .entry)) .table .page) s 0 ⌝ }
 {
@@ -100,7 +106,7 @@ pub fn page_at(words: &[u64; 256], s: usize) -> usize
 }
 
 // The bitmap of slot s.
-pub fn bitmap_at(words: &[u64; 256], s: usize) -> u64
+pub fn bitmap_at(words: &Words, s: usize) -> u64
     requires { ⌜ s < 16 ⌝ }
     ensures { λ r. ⌜ r ≡ getD (decoded (now (words .entry)) .table .bitmap) s 0 ⌝ }
 {
@@ -108,7 +114,7 @@ pub fn bitmap_at(words: &[u64; 256], s: usize) -> u64
 }
 
 // The position of the last live record of slot s, or 2^64 - 1.
-pub fn last_at(words: &[u64; 256], s: usize) -> usize
+pub fn last_at(words: &Words, s: usize) -> usize
     requires { ⌜ s < 16 ⌝ }
     ensures { λ r. ⌜ r ≡ getD (decoded (now (words .entry)) .table .last) s 0 ⌝ }
 {
@@ -116,7 +122,7 @@ pub fn last_at(words: &[u64; 256], s: usize) -> usize
 }
 
 // The lines of slot s that writer w holds.
-pub fn held_at(words: &[u64; 256], w: usize, s: usize) -> u64
+pub fn held_at(words: &Words, w: usize, s: usize) -> u64
     requires { ⌜ (w < 4) × (s < 16) ⌝ }
     ensures { λ r. ⌜ r ≡ heldAt (decoded (now (words .entry)) .writers .held) w s ⌝ }
 {
@@ -124,7 +130,7 @@ pub fn held_at(words: &[u64; 256], w: usize, s: usize) -> u64
 }
 
 // Whether writer w is open.
-pub fn open_at(words: &[u64; 256], w: usize) -> bool
+pub fn open_at(words: &Words, w: usize) -> bool
     requires { ⌜ w < 4 ⌝ }
     ensures { λ r. ⌜ r ≡ isOpen (decoded (now (words .entry)) .writers .opened) w ⌝ }
 {
@@ -132,15 +138,23 @@ pub fn open_at(words: &[u64; 256], w: usize) -> bool
 }
 
 // The key of entry e.
-pub fn key_at(words: &[u64; 256], e: usize) -> u64
+pub fn key_at(words: &Words, e: usize) -> u64
     requires { ⌜ e < 64 ⌝ }
     ensures { λ r. ⌜ r ≡ getD (decoded (now (words .entry)) .wide .keys) e 0 ⌝ }
 {
     words[KEYS + e]
 }
 
+// The frame of page p.
+pub fn entry_at(words: &Words, p: usize) -> usize
+    requires { ⌜ p < 1024 ⌝ }
+    ensures { λ r. ⌜ r ≡ getD (decoded (now (words .entry)) .map) p 0 ⌝ }
+{
+    words[MAP + p] as usize
+}
+
 // Replaces slot s.
-pub fn put_slot(words: &mut [u64; 256], s: usize, v: Slot)
+pub fn put_slot(words: &mut Words, s: usize, v: Slot)
     requires { ⌜ s < 16 ⌝ }
     ensures { λ _. ⌜ decoded (now (words .exit)) ≡ withTable (decoded (now (words .entry))) (withSlot (decoded (now (words .entry)) .table) s v) ⌝ }
 {
@@ -151,7 +165,7 @@ pub fn put_slot(words: &mut [u64; 256], s: usize, v: Slot)
 }
 
 // Replaces the bitmap of slot s.
-pub fn put_bitmap(words: &mut [u64; 256], s: usize, m: u64)
+pub fn put_bitmap(words: &mut Words, s: usize, m: u64)
     requires { ⌜ s < 16 ⌝ }
     ensures { λ _. ⌜ decoded (now (words .exit)) ≡ withTable (decoded (now (words .entry))) (withBitmap (decoded (now (words .entry)) .table) s m) ⌝ }
 {
@@ -159,7 +173,7 @@ pub fn put_bitmap(words: &mut [u64; 256], s: usize, m: u64)
 }
 
 // Replaces the last position of slot s.
-pub fn put_last(words: &mut [u64; 256], s: usize, q: usize)
+pub fn put_last(words: &mut Words, s: usize, q: usize)
     requires { ⌜ s < 16 ⌝ }
     ensures { λ _. ⌜ decoded (now (words .exit)) ≡ withTable (decoded (now (words .entry))) (withLast (decoded (now (words .entry)) .table) s q) ⌝ }
 {
@@ -167,7 +181,7 @@ pub fn put_last(words: &mut [u64; 256], s: usize, q: usize)
 }
 
 // Replaces the lines of slot s that writer w holds.
-pub fn put_held(words: &mut [u64; 256], w: usize, s: usize, m: u64)
+pub fn put_held(words: &mut Words, w: usize, s: usize, m: u64)
     requires { ⌜ (w < 4) × (s < 16) ⌝ }
     ensures { λ _. ⌜ decoded (now (words .exit)) ≡ withWriters (decoded (now (words .entry)))
         (withHeld (decoded (now (words .entry)) .writers) (set (decoded (now (words .entry)) .writers .held) (16 * w + s) m)) ⌝ }
@@ -176,7 +190,7 @@ pub fn put_held(words: &mut [u64; 256], w: usize, s: usize, m: u64)
 }
 
 // Opens or closes writer w. No other word changes.
-pub fn put_open(words: &mut [u64; 256], w: usize, b: bool)
+pub fn put_open(words: &mut Words, w: usize, b: bool)
     requires { ⌜ w < 4 ⌝ }
     ensures state { λ _. ⌜ decoded (now (words .exit)) ≡ withWriters (decoded (now (words .entry)))
         (withOpened (decoded (now (words .entry)) .writers) (set (decoded (now (words .entry)) .writers .opened) w b)) ⌝ }
@@ -185,15 +199,15 @@ pub fn put_open(words: &mut [u64; 256], w: usize, b: bool)
     words[OPENED + w] = state::held::one_if(b) as u64;
 }
 
-// That there are 256 words: the logic knows the length of an array by value, and not of a lent one. The copy is not made.
-pub fn all_words(words: [u64; 256]) -> bool
-    ensures { λ _. ⌜ length words ≡ 256 ⌝ }
+// That there are 1,280 words: the logic knows the length of an array by value, and not of a lent one. The copy is not made.
+pub fn all_words(words: Words) -> bool
+    ensures { λ _. ⌜ length words ≡ 1280 ⌝ }
 {
     true
 }
 
 // Sets head.
-pub fn put_head(words: &mut [u64; 256], head: usize)
+pub fn put_head(words: &mut Words, head: usize)
     ensures { λ _. ⌜ decoded (now (words .exit)) ≡ withHead (decoded (now (words .entry))) head ⌝ }
 {
     let _ = all_words(*words);
@@ -201,7 +215,7 @@ pub fn put_head(words: &mut [u64; 256], head: usize)
 }
 
 // Sets tail.
-pub fn put_tail(words: &mut [u64; 256], tail: usize)
+pub fn put_tail(words: &mut Words, tail: usize)
     ensures { λ _. ⌜ decoded (now (words .exit)) ≡ withTail (decoded (now (words .entry))) tail ⌝ }
 {
     let _ = all_words(*words);
@@ -209,7 +223,7 @@ pub fn put_tail(words: &mut [u64; 256], tail: usize)
 }
 
 // Sets the next slot to try.
-pub fn put_next(words: &mut [u64; 256], next: usize)
+pub fn put_next(words: &mut Words, next: usize)
     ensures { λ _. ⌜ decoded (now (words .exit)) ≡ withNext (decoded (now (words .entry))) next ⌝ }
 {
     let _ = all_words(*words);
@@ -217,7 +231,7 @@ pub fn put_next(words: &mut [u64; 256], next: usize)
 }
 
 // Sets the wide writer, and how many entries it uses.
-pub fn put_wide(words: &mut [u64; 256], writer: usize, count: usize)
+pub fn put_wide(words: &mut Words, writer: usize, count: usize)
     ensures { λ _. ⌜ decoded (now (words .exit)) ≡ withWide (decoded (now (words .entry)))
         (record { writer = writer; count = count; keys = decoded (now (words .entry)) .wide .keys }) ⌝ }
 {
@@ -227,7 +241,7 @@ pub fn put_wide(words: &mut [u64; 256], writer: usize, count: usize)
 }
 
 // Replaces the key of entry e.
-pub fn put_key(words: &mut [u64; 256], e: usize, key: u64)
+pub fn put_key(words: &mut Words, e: usize, key: u64)
     requires { ⌜ e < 64 ⌝ }
     ensures { λ _. ⌜ decoded (now (words .exit)) ≡ withWide (decoded (now (words .entry)))
         (record {
@@ -239,8 +253,16 @@ pub fn put_key(words: &mut [u64; 256], e: usize, key: u64)
     words[KEYS + e] = key;
 }
 
-// Says which writer is prepared.
-pub fn put_prepared(words: &mut [u64; 256], w: usize)
+// Replaces the frame of page p.
+pub fn put_entry(words: &mut Words, p: usize, frame: usize)
+    requires { ⌜ p < 1024 ⌝ }
+    ensures { λ _. ⌜ decoded (now (words .exit)) ≡ withMap (decoded (now (words .entry))) (set (decoded (now (words .entry)) .map) p frame) ⌝ }
+{
+    words[MAP + p] = frame as u64;
+}
+
+// Sets which writer is prepared.
+pub fn put_prepared(words: &mut Words, w: usize)
     ensures { λ _. ⌜ decoded (now (words .exit)) ≡ withWriters (decoded (now (words .entry))) (withPrepared (decoded (now (words .entry)) .writers) w) ⌝ }
 {
     let _ = all_words(*words);
@@ -248,7 +270,7 @@ pub fn put_prepared(words: &mut [u64; 256], w: usize)
 }
 
 // Nothing is pending.
-pub fn put_nothing(words: &mut [u64; 256])
+pub fn put_nothing(words: &mut Words)
     ensures { λ _. ⌜ decoded (now (words .exit)) ≡ withNothing (decoded (now (words .entry))) ⌝ }
 {
     let _ = all_words(*words);

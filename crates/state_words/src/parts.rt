@@ -9,10 +9,11 @@ use crate::BITMAP;
 use crate::LINE;
 use crate::PENDING;
 use crate::SECOND;
+use crate::Words;
 use state::Op;
 
 // Whether nothing is pending.
-pub fn idle_in(words: &[u64; 256]) -> bool
+pub fn idle_in(words: &Words) -> bool
     ensures { λ r. ⌜ r ≡ isIdle (decoded (now (words .entry)) .pending .op) ⌝ }
 {
     let k = words[PENDING];
@@ -54,7 +55,7 @@ fn op_by(k: usize, a: usize, b: usize, c: usize, d: usize, e: usize) -> Op
 }
 
 // The operation that is pending.
-pub fn op_in(words: &[u64; 256]) -> Op
+pub fn op_in(words: &Words) -> Op
     ensures { λ r. ⌜ r ≡ decoded (now (words .entry)) .pending .op ⌝ }
 {
     op_by(
@@ -68,23 +69,15 @@ pub fn op_in(words: &[u64; 256]) -> Op
 }
 
 // How many of its stores are made.
-pub fn made_in(words: &[u64; 256]) -> usize
+pub fn made_in(words: &Words) -> usize
     requires { ⌜ isIdle (decoded (now words) .pending .op) ≡ false ⌝ }
     ensures { λ r. ⌜ r ≡ decoded (now (words .entry)) .pending .made ⌝ }
 {
     words[PENDING + 6] as usize
 }
 
-// The frame that it holds.
-pub fn frame_in(words: &[u64; 256]) -> usize
-    requires { ⌜ isIdle (decoded (now words) .pending .op) ≡ false ⌝ }
-    ensures { λ r. ⌜ r ≡ decoded (now (words .entry)) .pending .frame ⌝ }
-{
-    words[PENDING + 7] as usize
-}
-
-// Says how many of its stores are made.
-pub fn put_made(words: &mut [u64; 256], made: usize)
+// Sets how many of its stores are made.
+pub fn put_made(words: &mut Words, made: usize)
     requires { ⌜ isIdle (decoded (now words) .pending .op) ≡ false ⌝ }
     ensures { λ _. ⌜ decoded (now (words .exit)) ≡ withMade (decoded (now (words .entry))) made ⌝ }
 {
@@ -93,8 +86,8 @@ pub fn put_made(words: &mut [u64; 256], made: usize)
 }
 
 // The 8 words from word a on.
-fn eight_at(words: &[u64; 256], a: usize) -> [u64; 8]
-    requires { ⌜ a + 8 ≤ 256 ⌝ }
+fn eight_at(words: &Words, a: usize) -> [u64; 8]
+    requires { ⌜ a + 8 ≤ 1280 ⌝ }
     ensures { λ r. ⌜ r ≡ take 8 (drop a (now (words .entry))) ⌝ }
 {
     let _ = crate::all_words(*words);
@@ -108,7 +101,7 @@ fn eight_at(words: &[u64; 256], a: usize) -> [u64; 8]
 }
 
 // Its finished line.
-pub fn line_in(words: &[u64; 256]) -> [u64; 8]
+pub fn line_in(words: &Words) -> [u64; 8]
     requires { ⌜ isIdle (decoded (now words) .pending .op) ≡ false ⌝ }
     ensures { λ r. ⌜ r ≡ decoded (now (words .entry)) .pending .line ⌝ }
 {
@@ -116,7 +109,7 @@ pub fn line_in(words: &[u64; 256]) -> [u64; 8]
 }
 
 // Its second finished line.
-pub fn second_in(words: &[u64; 256]) -> [u64; 8]
+pub fn second_in(words: &Words) -> [u64; 8]
     requires { ⌜ isIdle (decoded (now words) .pending .op) ≡ false ⌝ }
     ensures { λ r. ⌜ r ≡ decoded (now (words .entry)) .pending .second ⌝ }
 {
@@ -124,8 +117,8 @@ pub fn second_in(words: &[u64; 256]) -> [u64; 8]
 }
 
 // The 16 words from word a on.
-fn words_at(words: &[u64; 256], a: usize) -> [u64; 16]
-    requires { ⌜ a + 16 ≤ 256 ⌝ }
+fn words_at(words: &Words, a: usize) -> [u64; 16]
+    requires { ⌜ a + 16 ≤ 1280 ⌝ }
     ensures { λ r. ⌜ r ≡ take 16 (drop a (now (words .entry))) ⌝ }
 {
     let _ = crate::all_words(*words);
@@ -139,7 +132,7 @@ fn words_at(words: &[u64; 256], a: usize) -> [u64; 16]
 }
 
 // The bitmaps of the slots.
-pub fn bitmaps_in(words: &[u64; 256]) -> [u64; 16]
+pub fn bitmaps_in(words: &Words) -> [u64; 16]
     ensures { λ r. ⌜ r ≡ decoded (now (words .entry)) .table .bitmap ⌝ }
 {
     words_at(words, BITMAP)

@@ -25,10 +25,11 @@ use Rattle.entries.specs.Entries.{keysFrom, entriesOk}
 use Rattle.state.specs.Wide.{wideOk}
 use Rattle.state.specs.Held.{heldOk, othersHold, someHold, heldSlots}
 use Rattle.operations.specs.Operations.{copyCount, recordedSlots, needs}
-use Rattle.state.specs.Slots.{freeAfter, frameOfSlot, framesApart}
+use Rattle.replay.specs.Map.{mapFrom}
+use Rattle.state.specs.Slots.{freeAfter}
 use Rattle.validity.specs.Validity.{slotsOk, lastsOk, preparedOk, pendingOk, stateOk}
 use Rattle.refinement.specs.Commit.{closedWriter, commitRecordOf, commitAtOf, commitValueOf}
-use Rattle.refinement.specs.Frames.{pageFrame, seenFrame}
+use Rattle.refinement.specs.Frames.{seenFrame}
 use Rattle.refinement.specs.Stores.{World, stepped, steppedBy}
 use Rattle.refinement.specs.Write.{writeSlot}
 use Rattle.refinement.specs.Calls.{beginOf, changesNothing, writeOf, commitOf, runOf, runBytes}
@@ -65,7 +66,7 @@ record Computed : Type 0 where
   high : drop 136 lastAlone ≡ drop 136 fenced
 
 computed : Computed
-unfolding allBelow someBelow firstBelow one countBelow those upTo countOf eachOnce tab filled leOf bytesOf part over wordAt putWord wordsAt flat freshWords formatted freshTable liveRecord recordsOk tableFrom replay frameNames keysFrom entriesOk mountRead mountOf inMask withLine exclusiveOr disjoint others linesIn countLines linesNotIn wideOk heldOk othersHold someHold heldSlots copyCount recordedSlots needs freeAfter frameOfSlot framesApart slotsOk lastsOk preparedOk pendingOk stateOk commitRecordOf commitAtOf commitValueOf closedWriter pageFrame seenFrame stepped steppedBy writeSlot beginOf changesNothing writeOf commitOf runOf runBytes formatCall mountCall exec after fresh words mounts lastAlone shown actedBy sinceNext sinceStores
+unfolding mapFrom allBelow someBelow firstBelow one countBelow those upTo countOf eachOnce tab filled leOf bytesOf part over wordAt putWord wordsAt flat freshWords formatted freshTable liveRecord recordsOk tableFrom replay frameNames keysFrom entriesOk mountRead mountOf inMask withLine exclusiveOr disjoint others linesIn countLines linesNotIn wideOk heldOk othersHold someHold heldSlots copyCount recordedSlots needs freeAfter slotsOk lastsOk preparedOk pendingOk stateOk commitRecordOf commitAtOf commitValueOf closedWriter seenFrame stepped steppedBy writeSlot beginOf changesNothing writeOf commitOf runOf runBytes formatCall mountCall exec after fresh words mounts lastAlone shown actedBy sinceNext sinceStores
 computed =
     record { in-order = refl; alone = refl; unfenced = refl; other = refl; since = refl; made = refl; as-long = refl; low = refl; word = refl; high = refl }
 

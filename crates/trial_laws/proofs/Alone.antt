@@ -21,17 +21,14 @@ use Rattle.journal.proofs.Ring.{live-none}
 use Rattle.state.specs.State.{State}
 use Rattle.state.specs.Held.{isOpen, noWriter, heldAt, othersHold, heldSlots}
 use Rattle.state.specs.Slots.{freeAt, roundSlot, freeAfter}
-use Rattle.operations.specs.Operations.{isIdle, live, slotFor, lineTaken, noneFree, frameBad, journalFull, writeArgsBad, writeRows}
-use Rattle.operations.proofs.Taken.{args-good}
+use Rattle.operations.specs.Operations.{isIdle, live, slotFor, lineTaken, noneFree, journalFull, writeArgsBad, writeRows}
 use Rattle.validity.specs.Validity.{stateOk}
 use Rattle.refinement.specs.Stores.{World}
-use Rattle.refinement.specs.Frames.{pageFrame}
 use Rattle.refinement.specs.Calls.{quietRows, beginRows, beginOf, abortRows, abortOf, writeOf, commitCallRows, commitOf, freeCallRows, freeOf, checkpointCallRows, checkpointOf}
 use Rattle.refinement.specs.Run.{begin, abort, commit, free, checkpoint, write, exec}
 use Rattle.refinement.specs.Reference.{Reference}
 use Rattle.refinement.proofs.Cases.{standing-of}
 use Rattle.refinement.proofs.Lacks.{lacks}
-use Rattle.refinement.proofs.PageFrame.{frame-good}
 use Rattle.refinement.proofs.Reached.{Reached}
 use Rattle.refinement.proofs.Standing.{Standing}
 use Rattle.refinement.proofs.StateValid.{valid}
@@ -135,10 +132,6 @@ module _ {z : Sizes} {past : List ℕ} {mine : Bool} {v : World} (a : Alone z pa
       (λ t. rw t (none-made (λ u. not (eqb u 0) && inMask (heldAt (st .writers .held) u s) 0) 4 (λ u l. none-held s u (ltb-true s (st .sizes .slots) t) l)))
       (λ t. rw t)
 
-  frame : (p : ℕ) → p < st .sizes .pages
-      → frameBad (st .sizes) (st .table .page) (st .table .original) (st .table .spare) (slotFor st p) (pageFrame st img p) ≡ false
-  frame = frame-good st img ok (standing .names)
-
   pub checkpoint-taken : exec checkpoint v .number ≡ 0
   unfolding exec checkpointOf
   checkpoint-taken = sym (row-none (checkpointCallRows st img) (is-valid, (fits, (quiet, tt))))
@@ -186,7 +179,7 @@ module _ {z : Sizes} {past : List ℕ} {v : World} (a : Alone z past true v) whe
   -- a write of one byte to the start of page p
   module _ (p x : ℕ) where
     abbrev rows : List Row
-    rows = quietRows (v .st) (length (v .image)) ++ ((ltb 1 1, 11) ∷ writeRows (v .st) 0 p 0 0 1 (pageFrame (v .st) (v .image) p))
+    rows = quietRows (v .st) (length (v .image)) ++ ((ltb 1 1, 11) ∷ writeRows (v .st) 0 p 0 0 1)
 
     number-is : exec (write 0 p 0 0 1 (x ∷ [])) v .number ≡ refusal rows
     unfolding exec writeOf
@@ -211,11 +204,7 @@ module _ {z : Sizes} {past : List ℕ} {v : World} (a : Alone z past true v) whe
                       rw (a .only .unprepared),
                       λ h. (
                         line-free a (slotFor (v .st) p),
-                        λ i. (
-                          refl,
-                          λ j.
-                              (frame a p (args-good (v .st .sizes) 0 p 0 0 1 f .page-low), λ k. refl),
-                        ),
+                        λ i. (refl, λ j. refl),
                       ),
                     ),
                   ),
@@ -234,7 +223,7 @@ module _ {z : Sizes} {past : List ℕ} {v : World} (a : Alone z past true v) whe
         let args : writeArgsBad (v .st .sizes) 0 p 0 0 1 ≡ false = rw t in
         contradicts (ap (λ (k : ℕ). eqb k 11) (sym number-is ∙ n))
         (lacks (λ k. eqb k 11) rows
-        (refl, λ b. (refl, λ c. (refl, λ d. (refl, λ e. (args, λ f. (refl, λ g. (refl, λ h. (refl, λ i. (refl, λ j. (refl, λ k. refl))))))))))))
+        (refl, λ b. (refl, λ c. (refl, λ d. (refl, λ e. (args, λ f. (refl, λ g. (refl, λ h. (refl, λ i. (refl, λ j. refl)))))))))))
 
     pub write-inside : exec (write 0 p 0 0 1 (x ∷ [])) v .number ≡ 15 → p < v .st .sizes .pages
     write-inside n =
@@ -256,4 +245,4 @@ module _ {z : Sizes} {past : List ℕ} {v : World} (a : Alone z past true v) whe
         rw (lt-leb (z .slots) (freeAfter z (v .st .table .page) (v .st .next)) some) (and-false (leb (z .slots) (slotFor (v .st) p))) in
         number-is
         ∙ sym (row-none rows
-        (is-valid a, (fits a, (quiet a, (refl, (args, (is-open, (rw (a .only .unprepared), (line-free a (slotFor (v .st) p), (free, (frame a p l, tt)))))))))))
+        (is-valid a, (fits a, (quiet a, (refl, (args, (is-open, (rw (a .only .unprepared), (line-free a (slotFor (v .st) p), (free, tt))))))))))

@@ -29,7 +29,6 @@ use Rattle.refinement.specs.Consolidate.{freeingRecord, consolidateTable}
 use Rattle.refinement.specs.Commit.{closedWriter, commitRecordOf}
 use Rattle.refinement.specs.Calls.{withPending, worldOf, asked, finishedLine, changesNothing, beginOf, abortOf, writeOf, commitOp, commitOf, freeCallRows, freeOf, checkpointOf, stepRow, stepRows, runOf}
 use Rattle.refinement.specs.Run.{Call, Result, result, begin, abort, commit, free, checkpoint, write, run, exec}
-use Rattle.refinement.specs.Frames.{pageFrame}
 use Rattle.refinement.specs.Reference.{Reference, turn}
 use Rattle.refinement.specs.Statement.{Lent}
 use Rattle.refinement.proofs.CallAsked.{needs-asked}
@@ -92,17 +91,17 @@ module _ {z : Sizes} {past : List ℕ} {mine : Bool} {v : World} (a : Alone z pa
       after (rw e i) (rw e o)
 
   -- an operation is asked for, and all its stores are made
-  pub by-run : (st : State) (op : Op) (line : List ℕ) (frame : ℕ) → isIdle op ≡ false
-      → d .world ≡ worldOf (withPending st op line frame) (v .image) → d .stores ≡ needs st op
-      → through c v .st ≡ completed (withPending st op line frame) op
-  by-run st op line frame busy e n =
+  pub by-run : (st : State) (op : Op) (line : List ℕ) → isIdle op ≡ false
+      → d .world ≡ worldOf (withPending st op line) (v .image) → d .stores ≡ needs st op
+      → through c v .st ≡ completed (withPending st op line) op
+  by-run st op line busy e n =
       let s = standing-of (d .world) asked-machine (asked-reached .related) in
       let long = viewed-fits (d .world .st) (d .world .image) asked-machine (s .viewed) in
-      let u = worldOf (withPending st op line frame) (v .image) in
+      let u = worldOf (withPending st op line) (v .image) in
       let ok : stateOk (u .st) ≡ true = subst (λ (w : World). stateOk (w .st) ≡ true) e (s .valid) in
       let fits : imageLength (u .st .sizes) ≤ length (u .image) = subst (λ (w : World). imageLength (w .st .sizes) ≤ length (w .image)) e long in
       ap (λ (w : World). exec (run (d .stores)) w .world .st) e
-      ∙ run-ends (d .stores) u ok fits busy (omega (arith, needs-asked st line frame op op, n))
+      ∙ run-ends (d .stores) u ok fits busy (omega (arith, needs-asked st line op op, n))
 
   -- it is turned back
   pub refused-alone : (d .number ≡ 0 → ⊥) → Alone z past mine (through c v)
@@ -111,8 +110,8 @@ module _ {z : Sizes} {past : List ℕ} {mine : Bool} {v : World} (a : Alone z pa
       at-once (rw e (a .idle)) (rw e (a .only))
 
   -- it is taken, by the operation op, which leaves nothing pending
-  module _ (op : Op) (row : ℕ) (e : d ≡ result (asked row (v .st) op (replicate 8 0) 0) (v .image)) (taken : row ≡ 0) (busy : isIdle op ≡ false)
-      (idle : isIdle (completed (v .st) op .pending .op) ≡ true) (same : completed (withPending (v .st) op (replicate 8 0) 0) op ≡ completed (v .st) op) where
+  module _ (op : Op) (row : ℕ) (e : d ≡ result (asked row (v .st) op (replicate 8 0)) (v .image)) (taken : row ≡ 0) (busy : isIdle op ≡ false)
+      (idle : isIdle (completed (v .st) op .pending .op) ≡ true) (same : completed (withPending (v .st) op (replicate 8 0)) op ≡ completed (v .st) op) where
     pub asked-ends : through c v .st ≡ completed (v .st) op
     asked-ends =
         caseOn (eqb (needs (v .st) op) 0)
@@ -120,8 +119,8 @@ module _ {z : Sizes} {past : List ℕ} {mine : Bool} {v : World} (a : Alone z pa
         let w : d .world ≡ worldOf (completed (v .st) op) (v .image) = ap (λ (r : Result). r .world) e ∙ rw (taken, t) in
         ap (λ (u : World). u .st) (idle-run (d .stores) (d .world) (rw w idle) ∙ w))
         (λ t.
-        let w : d .world ≡ worldOf (withPending (v .st) op (replicate 8 0) 0) (v .image) = ap (λ (r : Result). r .world) e ∙ rw (taken, t) in
-        by-run (v .st) op (replicate 8 0) 0 busy w (ap (λ (r : Result). r .stores) e ∙ rw taken) ∙ same)
+        let w : d .world ≡ worldOf (withPending (v .st) op (replicate 8 0)) (v .image) = ap (λ (r : Result). r .world) e ∙ rw (taken, t) in
+        by-run (v .st) op (replicate 8 0) busy w (ap (λ (r : Result). r .stores) e ∙ rw taken) ∙ same)
 
     pub asked-alone : {mine′ : Bool} → Only mine′ (completed (v .st) op) → Alone z past mine′ (through c v)
     asked-alone o = after (rw asked-ends idle) (rw asked-ends o)
@@ -201,7 +200,7 @@ module _ {z : Sizes} {past : List ℕ} {v : World} where
     commit-alone n =
         let shut = closed-only a in
         let op : commitOp (v .st) 0 ≡ Commit 0 = rw (a .only .narrow) in
-        let e = ap (λ (o : Op). result (asked (exec (commit 0) v .number) (v .st) o (replicate 8 0) 0) (v .image)) op in
+        let e = ap (λ (o : Op). result (asked (exec (commit 0) v .number) (v .st) o (replicate 8 0)) (v .image)) op in
         asked-alone a (commit 0) tt (Commit 0) _ e n refl refl refl (record { opened = shut .0; others = shut .1; unprepared = refl; narrow = a .only .narrow })
 
     write-taken-alone : (p x : ℕ) → Lent (write 0 p 0 0 1 (x ∷ [])) → exec (write 0 p 0 0 1 (x ∷ [])) v .number ≡ 0
@@ -214,10 +213,9 @@ module _ {z : Sizes} {past : List ℕ} {v : World} where
         (λ t. at-once a c lent (rw (n, t) (a .idle)) (rw (n, t) (a .only)))
         (λ t.
         let line = finishedLine (v .st) (v .image) 0 p 0 0 1 (x ∷ []) in
-        let frame = pageFrame (v .st) (v .image) p in
         let op = Write 0 p 0 0 1 in
-        let e : through c v .st ≡ completed (withPending (v .st) op line frame) op =
-        by-run a c lent (v .st) op line frame refl (rw (n, t, wide)) (rw (n, t, wide)) in
+        let e : through c v .st ≡ completed (withPending (v .st) op line) op =
+        by-run a c lent (v .st) op line refl (rw (n, t, wide)) (rw (n, t, wide)) in
         after a c lent (rw e)
         (rw e (record { opened = a .only .opened; others = a .only .others; unprepared = a .only .unprepared; narrow = a .only .narrow })))
 

@@ -116,7 +116,7 @@ counts-exact a t h =
 -- ---- counts at most b, and no entries
 
 -- an operation asked for keeps the sizes where its completion does
-asks-same : (st : State) (op : Op) (row : ℕ) → completed st op .sizes ≡ st .sizes → asked row st op (replicate 8 0) 0 .state .sizes ≡ st .sizes
+asks-same : (st : State) (op : Op) (row : ℕ) → completed st op .sizes ≡ st .sizes → asked row st op (replicate 8 0) .state .sizes ≡ st .sizes
 asks-same st op row e =
     let same : State → Type 0 = λ s. s .sizes ≡ st .sizes in
     row-keeps same (eqb row 0) _ st (row-keeps same (eqb (needs st op) 0) (completed st op) _ e refl) refl

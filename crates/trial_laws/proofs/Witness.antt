@@ -4,20 +4,22 @@ use mathlib.Core.Bool.{true}
 use mathlib.Core.Path.{_≡_, refl, _∙_}
 use native.Mathlib.Omega.{arith}
 use Rattle.bounded.specs.Below.{allBelow, someBelow, firstBelow, one, countBelow, those, upTo}
+use Rattle.bounded.specs.Count.{countOf, eachOnce}
 use Rattle.bounded.specs.Tab.{tab, filled}
 use Rattle.words.specs.Words.{leOf, bytesOf, part, over, wordAt, putWord, wordsAt, flat}
 use Rattle.fresh.specs.Fresh.{freshWords, freshTable}
 use Rattle.image.specs.Lines.{mergeChanges}
-use Rattle.replay.specs.Table.{replay}
+use Rattle.replay.specs.Table.{replay, frameNames}
 use Rattle.masks.specs.Lines.{inMask, withLine, exclusiveOr, disjoint, others}
 use Rattle.entries.specs.Entries.{entriesOk}
 use Rattle.state.specs.Wide.{wideOk}
 use Rattle.state.specs.Held.{heldOk, othersHold, someHold, heldSlots}
 use Rattle.operations.specs.Operations.{recordedSlots, needs}
-use Rattle.state.specs.Slots.{freeAfter, frameOfSlot, framesApart}
+use Rattle.replay.specs.Map.{mapFrom}
+use Rattle.state.specs.Slots.{freeAfter}
 use Rattle.validity.specs.Validity.{slotsOk, lastsOk, preparedOk, pendingOk, stateOk}
 use Rattle.refinement.specs.Commit.{closedWriter, commitRecordOf, commitAtOf, commitValueOf}
-use Rattle.refinement.specs.Frames.{pageFrame, seenFrame}
+use Rattle.refinement.specs.Frames.{seenFrame}
 use Rattle.refinement.specs.Stores.{stepped, steppedBy}
 use Rattle.refinement.specs.Write.{writeSlot}
 use Rattle.refinement.specs.Calls.{beginOf, changesNothing, writeOf, commitOf, runOf, runBytes}
@@ -40,7 +42,7 @@ record Computed : Type 0 where
   done-other : after oneRound (act (first buffer) otherSetting) .tried .abandoned ≡ 0
 
 computed : Computed
-unfolding allBelow someBelow firstBelow one countBelow those upTo tab filled leOf bytesOf part over wordAt putWord wordsAt flat freshWords freshTable replay entriesOk inMask withLine exclusiveOr disjoint others wideOk heldOk othersHold someHold heldSlots recordedSlots needs freeAfter frameOfSlot framesApart slotsOk lastsOk preparedOk pendingOk stateOk commitRecordOf commitAtOf commitValueOf closedWriter pageFrame seenFrame stepped steppedBy writeSlot beginOf changesNothing writeOf commitOf runOf runBytes formatCall exec mergeChanges Fresh.formatted withByte fields allDigits valueFrom allNumbers values lineOf parsed formatted made withRoom put putAll committed asDone asAbandoned played storesFor plus first withSetting withRound acted after buffer
+unfolding mapFrom countOf eachOnce frameNames allBelow someBelow firstBelow one countBelow those upTo tab filled leOf bytesOf part over wordAt putWord wordsAt flat freshWords freshTable replay entriesOk inMask withLine exclusiveOr disjoint others wideOk heldOk othersHold someHold heldSlots recordedSlots needs freeAfter slotsOk lastsOk preparedOk pendingOk stateOk commitRecordOf commitAtOf commitValueOf closedWriter seenFrame stepped steppedBy writeSlot beginOf changesNothing writeOf commitOf runOf runBytes formatCall exec mergeChanges Fresh.formatted withByte fields allDigits valueFrom allNumbers values lineOf parsed formatted made withRoom put putAll committed asDone asAbandoned played storesFor plus first withSetting withRound acted after buffer
 computed = record { taken = refl; done = refl; taken-other = refl; done-other = refl }
 
 bytes : Bytes buffer

@@ -18,7 +18,7 @@ use Rattle.trials.specs.declared.Spent.{Spent}
 use Rattle.trials.specs.Trials.{Tried, untried, formatted, asAbandoned, played}
 use Rattle.trial_lines.specs.Lines.{Work, first, sizesOf, withSetting, withRound, acted, spentText}
 
-pub first-told : (t : Tried) (img : List ℕ) → t ≡ untried (worldOf (decoded (replicate 256 0)) img) → record { tried = t; lines = 0; set = false } ≡ first img
+pub first-told : (t : Tried) (img : List ℕ) → t ≡ untried (worldOf (decoded (replicate 1280 0)) img) → record { tried = t; lines = 0; set = false } ≡ first img
 unfolding first
 first-told t img e = rw e
 

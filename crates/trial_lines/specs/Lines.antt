@@ -29,7 +29,7 @@ workOf s words img = record { tried = trialOf (s .trial) words img; lines = s .l
 
 -- before the first line there is no store: its words are 0
 unfoldable pub first : List ℕ → Work
-first img = record { tried = untried (worldOf (decoded (replicate 256 0)) img); lines = 0; set = false }
+first img = record { tried = untried (worldOf (decoded (replicate 1280 0)) img); lines = 0; set = false }
 
 -- a line's numbers, as powerhit reads them after a letter and a comma; a line of another form has none
 abbrev pub prefixed : List ℕ → List ℕ

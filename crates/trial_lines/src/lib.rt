@@ -8,6 +8,7 @@ ghost use lib.ListN.{replicate};
 ghost use Rattle.text.specs.Fields.{parsed};
 ghost use Rattle.trial_lines.specs.Lines.{workOf, first, withSetting, withRound, acted};
 use layout::Sizes;
+use state_words::Words;
 use trials::Trial;
 
 // The trial, the lines read, and whether the first gave a setting.
@@ -19,7 +20,7 @@ pub struct Session {
 
 // No line is read yet, and the words are 0.
 pub fn start() -> Session
-    ensures { λ r. ⌜ ((img : List ℕ) → workOf r (replicate 256 0) img ≡ first img) ⌝ }
+    ensures { λ r. ⌜ ((img : List ℕ) → workOf r (replicate 1280 0) img ≡ first img) ⌝ }
 {
     let trial = trials::nothing_tried();
     Session {
@@ -30,7 +31,7 @@ pub fn start() -> Session
 }
 
 // The first line.
-fn take_setting(s: Session, image: &mut [u8], words: &mut [u64; 256], text: &[u8]) -> Session
+fn take_setting(s: Session, image: &mut [u8], words: &mut Words, text: &[u8]) -> Session
     ensures { λ r. ⌜ workOf r (now (words .exit)) (now (image .exit))
         ≡ withSetting (parsed 9 (now (text .entry))) (workOf s (now (words .entry)) (now (image .entry))) ⌝ }
 {
@@ -55,7 +56,7 @@ fn take_setting(s: Session, image: &mut [u8], words: &mut [u64; 256], text: &[u8
 }
 
 // Another line.
-fn take_round(s: Session, image: &mut [u8], words: &mut [u64; 256], text: &[u8]) -> Session
+fn take_round(s: Session, image: &mut [u8], words: &mut Words, text: &[u8]) -> Session
     requires { ⌜ s .lines ≤ 1000 ⌝ }
     ensures { λ r. ⌜ workOf r (now (words .exit)) (now (image .exit))
         ≡ withRound (parsed 9 (now (text .entry))) (workOf s (now (words .entry)) (now (image .entry))) ⌝ }
@@ -76,7 +77,7 @@ fn take_round(s: Session, image: &mut [u8], words: &mut [u64; 256], text: &[u8])
 }
 
 // One line more, which stands after a letter and a comma.
-pub fn take_line(s: Session, image: &mut [u8], words: &mut [u64; 256], text: &[u8]) -> Session
+pub fn take_line(s: Session, image: &mut [u8], words: &mut Words, text: &[u8]) -> Session
     ensures { λ r. ⌜ workOf r (now (words .exit)) (now (image .exit))
         ≡ acted (parsed 9 (now (text .entry))) (workOf s (now (words .entry)) (now (image .entry))) ⌝ }
 {

@@ -1,4 +1,4 @@
-// What is printed.
+// What try_sizes prints of a setting: the rounds done and abandoned, and the stores by what they were for.
 ghost use Prim.Native.Nat.{_+_, _≤_};
 ghost use lib.ListN.{length};
 ghost use Rattle.number_text.specs.Text.{Put};

@@ -6,9 +6,10 @@ use crate::Ask;
 use answers::Answer;
 use call_write::Span;
 use op_stores::Until;
+use state_words::Words;
 
 // A write of one byte to the start of a page.
-fn write_first(image: &mut [u8], words: &mut [u64; 256], page: usize, byte: u8) -> Answer
+fn write_first(image: &mut [u8], words: &mut Words, page: usize, byte: u8) -> Answer
     ensures { λ r. ⌜ Finishes (write 0 page 0 0 1 (byte ∷ [])) (now (words .entry)) (now (image .entry)) r (now (words .exit)) (now (image .exit)) ⌝ }
 {
     let bytes = [byte];
@@ -22,7 +23,7 @@ fn write_first(image: &mut [u8], words: &mut [u64; 256], page: usize, byte: u8) 
 }
 
 // The call, and all the stores that it needs.
-pub fn call(image: &mut [u8], words: &mut [u64; 256], a: Ask) -> Answer
+pub fn call(image: &mut [u8], words: &mut Words, a: Ask) -> Answer
     ensures { λ r. ⌜ Finishes (callOf a) (now (words .entry)) (now (image .entry)) r (now (words .exit)) (now (image .exit)) ⌝ }
 {
     match a {

@@ -10,6 +10,7 @@ ghost use Rattle.refinement.specs.Calls.{worldOf};
 ghost use Rattle.state_words.specs.Decoded.{decoded};
 ghost use Rattle.trials.specs.Trials.{trialOf, untried, formatted, asAbandoned};
 use layout::Sizes;
+use state_words::Words;
 
 // The calls that a round makes, all by writer 0; a write puts a byte at the start of a page.
 pub enum Ask {
@@ -56,7 +57,7 @@ pub fn nothing_tried() -> Trial
 }
 
 // A store of these sizes, formatted; where format refuses them, its number, and the words stay.
-pub fn start(image: &mut [u8], words: &mut [u64; 256], z: Sizes) -> Trial
+pub fn start(image: &mut [u8], words: &mut Words, z: Sizes) -> Trial
     ensures { λ r. ⌜ trialOf r (now (words .exit)) (now (image .exit)) ≡ formatted z (worldOf (decoded (now (words .entry))) (now (image .entry))) ⌝ }
 {
     let answer = call_mount::format_whole(image, words, z);

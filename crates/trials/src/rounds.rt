@@ -5,9 +5,10 @@ use crate::Ask;
 use crate::Trial;
 use crate::calls;
 use crate::counts;
+use state_words::Words;
 
 // One call, and all the stores that it needs.
-fn make(t: Trial, image: &mut [u8], words: &mut [u64; 256], a: Ask) -> Trial
+fn make(t: Trial, image: &mut [u8], words: &mut Words, a: Ask) -> Trial
     ensures { λ r. ⌜ trialOf r (now (words .exit)) (now (image .exit)) ≡ made a (trialOf t (now (words .entry)) (now (image .entry))) ⌝ }
 {
     let answer = calls::call(image, words, a);
@@ -23,7 +24,7 @@ fn make(t: Trial, image: &mut [u8], words: &mut [u64; 256], a: Ask) -> Trial
 }
 
 // A call; where the journal is full, a checkpoint and the call again.
-fn make_with_room(t: Trial, image: &mut [u8], words: &mut [u64; 256], a: Ask) -> Trial
+fn make_with_room(t: Trial, image: &mut [u8], words: &mut Words, a: Ask) -> Trial
     ensures { λ r. ⌜ trialOf r (now (words .exit)) (now (image .exit)) ≡ withRoom a (trialOf t (now (words .entry)) (now (image .entry))) ⌝ }
 {
     let first = make(t, image, words, a);
@@ -35,7 +36,7 @@ fn make_with_room(t: Trial, image: &mut [u8], words: &mut [u64; 256], a: Ask) ->
 }
 
 // A page is written; where no slot is free, one is made free and the page written again.
-fn put_page(t: Trial, image: &mut [u8], words: &mut [u64; 256], page: usize, byte: u8) -> Trial
+fn put_page(t: Trial, image: &mut [u8], words: &mut Words, page: usize, byte: u8) -> Trial
     ensures { λ r. ⌜ trialOf r (now (words .exit)) (now (image .exit)) ≡ put byte page (trialOf t (now (words .entry)) (now (image .entry))) ⌝ }
 {
     let first = make(t, image, words, Ask::Write { page, byte });
@@ -50,7 +51,7 @@ fn put_page(t: Trial, image: &mut [u8], words: &mut [u64; 256], page: usize, byt
 }
 
 // The pages, as long as each is written.
-fn put_pages(t: Trial, image: &mut [u8], words: &mut [u64; 256], pages: &[u64], byte: u8) -> Trial
+fn put_pages(t: Trial, image: &mut [u8], words: &mut Words, pages: &[u64], byte: u8) -> Trial
     ensures { λ r. ⌜ trialOf r (now (words .exit)) (now (image .exit))
         ≡ putAll byte (now (pages .entry)) (trialOf t (now (words .entry)) (now (image .entry))) ⌝ }
 {
@@ -67,7 +68,7 @@ fn put_pages(t: Trial, image: &mut [u8], words: &mut [u64; 256], pages: &[u64], 
 }
 
 // A commit, where all pages are written.
-fn commit_written(t: Trial, image: &mut [u8], words: &mut [u64; 256]) -> Trial
+fn commit_written(t: Trial, image: &mut [u8], words: &mut Words) -> Trial
     ensures { λ r. ⌜ trialOf r (now (words .exit)) (now (image .exit)) ≡ committed (trialOf t (now (words .entry)) (now (image .entry))) ⌝ }
 {
     if t.number != 0 {
@@ -77,7 +78,7 @@ fn commit_written(t: Trial, image: &mut [u8], words: &mut [u64; 256]) -> Trial
 }
 
 // A round that writes this byte to these pages.
-pub fn play(t: Trial, image: &mut [u8], words: &mut [u64; 256], pages: &[u64], byte: u8) -> Trial
+pub fn play(t: Trial, image: &mut [u8], words: &mut Words, pages: &[u64], byte: u8) -> Trial
     ensures { λ r. ⌜ trialOf r (now (words .exit)) (now (image .exit))
         ≡ played (now (pages .entry)) byte (trialOf t (now (words .entry)) (now (image .entry))) ⌝ }
 {

@@ -151,8 +151,8 @@ module _ {s : Reading} {ws img line : List ℕ} (size : length line ≡ 1024) wh
             rw (ne-eqb (length (f .begun)) 0 (λ none. omega (arith, holds-length (shows .next)))) (acts size r ws′ img′ e f shows);
       }
 
-pub shows-first : (s : Session) (img line : List ℕ) (more : Bool) → length line ≡ 1024 → workOf s (replicate 256 0) img ≡ first img
-    → Shows (record { session = s; kept = 2; more = more }) (replicate 256 0) img (set (set line 0 82) 1 44) (nothingRead img)
+pub shows-first : (s : Session) (img line : List ℕ) (more : Bool) → length line ≡ 1024 → workOf s (replicate 1280 0) img ≡ first img
+    → Shows (record { session = s; kept = 2; more = more }) (replicate 1280 0) img (set (set line 0 82) 1 44) (nothingRead img)
 shows-first s img line more size e = record { done = e; next = holds-first line size }
 
 pub responds : {s q : Reading} {r : Session} {ws₁ img line₁ ws₂ img₂ line₂ ws₃ img₃ out out′ : List ℕ} {n : ℕ} → Shows s ws₁ img line₁ (nothingRead img)

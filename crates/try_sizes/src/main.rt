@@ -7,6 +7,8 @@ ghost use lib.ListN.{length, replicate};
 ghost use Rattle.try_sizes.specs.Program.{nothingRead, readsOn, Shows, Takes, Reads, TakesSome, Closes, Responds};
 use libc::STDIN_FILENO;
 use libc::STDOUT_FILENO;
+use state_words::WORD_COUNT;
+use state_words::Words;
 use trial_lines::Session;
 use trial_lines::output;
 
@@ -23,7 +25,7 @@ struct Reading {
 fn begin(line: &mut [u8]) -> Reading
     requires { ⌜ length (now line) ≡ 1024 ⌝ }
     ensures fits { λ r. ⌜ r .kept ≤ 1024 ⌝ }
-    ensures shows { λ r. ⌜ ((image : List ℕ) → Shows r (replicate 256 0) image (now (line .exit)) (nothingRead image)) ⌝ }
+    ensures shows { λ r. ⌜ ((image : List ℕ) → Shows r (replicate 1280 0) image (now (line .exit)) (nothingRead image)) ⌝ }
 {
     line[0] = b'R';
     line[1] = b',';
@@ -36,13 +38,7 @@ fn begin(line: &mut [u8]) -> Reading
 }
 
 // One byte. A line that fills the buffer is too long to be of any right form.
-fn take_byte(
-    s: Reading,
-    image: &mut [u8],
-    words: &mut [u64; 256],
-    line: &mut [u8],
-    b: u8,
-) -> Reading
+fn take_byte(s: Reading, image: &mut [u8], words: &mut Words, line: &mut [u8], b: u8) -> Reading
     requires { ⌜ s .kept ≤ 1024 ⌝ }
     requires { ⌜ length (now line) ≡ 1024 ⌝ }
     ensures { λ r. ⌜ Takes s (now (words .entry)) (now (image .entry)) (now (line .entry)) (b ∷ [])
@@ -67,7 +63,7 @@ fn take_byte(
 fn take_piece(
     s: Reading,
     image: &mut [u8],
-    words: &mut [u64; 256],
+    words: &mut Words,
     line: &mut [u8],
     piece: &[u8],
 ) -> Reading
@@ -96,7 +92,7 @@ fn reads_on(lines: usize, set: bool) -> bool
 fn read_piece(
     s: Reading,
     image: &mut [u8],
-    words: &mut [u64; 256],
+    words: &mut Words,
     line: &mut [u8],
     input: &mut [u8],
 ) -> Reading
@@ -118,7 +114,7 @@ fn read_piece(
 fn read_all(
     s: Reading,
     image: &mut [u8],
-    words: &mut [u64; 256],
+    words: &mut Words,
     line: &mut [u8],
     input: &mut [u8],
 ) -> Reading
@@ -136,7 +132,7 @@ fn read_all(
 }
 
 // Takes a last line that no newline ends.
-fn take_last(s: Reading, image: &mut [u8], words: &mut [u64; 256], line: &[u8]) -> Session
+fn take_last(s: Reading, image: &mut [u8], words: &mut Words, line: &[u8]) -> Session
     requires { ⌜ s .kept ≤ 1024 ⌝ }
     requires { ⌜ length (now line) ≡ 1024 ⌝ }
     ensures { λ r. ⌜ Closes s (now (words .entry)) (now (image .entry)) (now (line .entry)) r (now (words .exit)) (now (image .exit)) ⌝ }
@@ -155,7 +151,7 @@ fn respond(image: &mut [u8], line: &mut [u8], input: &mut [u8], out: &mut [u8]) 
     requires { ⌜ 126 ≤ length (now out) ⌝ }
     ensures { λ r. ⌜ Responds (now (image .entry)) (now (out .entry)) (now (out .exit)) r ⌝ }
 {
-    let mut words = [0u64; 256];
+    let mut words = [0u64; WORD_COUNT];
     let first = begin(line);
     let read = read_all(first, image, &mut words, line, input);
     let last = take_last(read, image, &mut words, line);

@@ -19,7 +19,6 @@ use Rattle.state.specs.declared.Op.the-variants.{Write, Commit, Consolidate, Ch
 use Rattle.state.specs.Wide.{someWide, isWide}
 use Rattle.operations.specs.Operations.{needs, consolidateRows}
 use Rattle.operations.proofs.Taken.{commit-taken, consolidate-taken}
-use Rattle.refinement.specs.Frames.{pageFrame}
 use Rattle.refinement.specs.Settled.{withPending}
 use Rattle.refinement.specs.Stores.{World, storeAt, left}
 use Rattle.refinement.specs.Outcome.{Outcome, answered}
@@ -59,21 +58,21 @@ unfolding mountCall
 no-stores-mount img = no-stores (mountOf img .row)
 
 module _ (st : State) (img : List ℕ) where
-  pends-of : (s : State) (n : ℕ) (op : Op) (line : List ℕ) (frame : ℕ) → s ≡ withPending st op line frame → n ≡ needs st op → Pends (worldOf s img) n op
-  pends-of s n op line frame e h =
+  pends-of : (s : State) (n : ℕ) (op : Op) (line : List ℕ) → s ≡ withPending st op line → n ≡ needs st op → Pends (worldOf s img) n op
+  pends-of s n op line e h =
       record {
         asks = ap (λ (x : State). x .pending .op) e;
         made = ap (λ (x : State). x .pending .made) e;
-        needed = h ∙ sym (ap (λ (x : State). needs x op) e ∙ needs-asked st line frame op op);
+        needed = h ∙ sym (ap (λ (x : State). needs x op) e ∙ needs-asked st line op op);
       }
 
   -- an operation asked for by its own rows
-  by-rows : (row : ℕ) (op : Op) → (asked row st op (replicate 8 0) 0 .stores ≡ 0 → ⊥)
-      → (row ≡ 0) × Pends (worldOf (asked row st op (replicate 8 0) 0 .state) img) (asked row st op (replicate 8 0) 0 .stores) op
+  by-rows : (row : ℕ) (op : Op) → (asked row st op (replicate 8 0) .stores ≡ 0 → ⊥)
+      → (row ≡ 0) × Pends (worldOf (asked row st op (replicate 8 0) .state) img) (asked row st op (replicate 8 0) .stores) op
   by-rows row op some =
-      let o = asked row st op (replicate 8 0) 0 in
-      let h = asked-pends row st img op (replicate 8 0) 0 some in
-      (h .0, pends-of (o .state) (o .stores) op (replicate 8 0) 0 (h .1) (h .2))
+      let o = asked row st op (replicate 8 0) in
+      let h = asked-pends row st op (replicate 8 0) some in
+      (h .0, pends-of (o .state) (o .stores) op (replicate 8 0) (h .1) (h .2))
 
   pub checkpoint-pends : (checkpointOf st img .stores ≡ 0 → ⊥) → Pends (worldOf (checkpointOf st img .state) img) (checkpointOf st img .stores) Checkpoint
   unfolding checkpointOf
@@ -86,7 +85,7 @@ module _ (st : State) (img : List ℕ) where
       let h = by-rows (refusal (consolidateCallRows st img p)) (Consolidate p) some in
       let rows = none-apply (consolidateCallRows st img p) (omega arith) (h .0) in
       let row : refusal (consolidateRows st p) ≡ 0 = sym (row-none (consolidateRows st p) (rows .1 .1 .1)) in
-      let s = asked-pends (refusal (consolidateCallRows st img p)) st img (Consolidate p) (replicate 8 0) 0 some .1 in
+      let s = asked-pends (refusal (consolidateCallRows st img p)) st (Consolidate p) (replicate 8 0) some .1 in
       let same : consolidateOf st img p .state .sizes .pages ≡ st .sizes .pages = ap (λ (x : State). x .sizes .pages) s in
       (omega (arith, same, consolidate-taken st p row .page-low), h .1)
 
@@ -115,7 +114,7 @@ module _ (st : State) (img : List ℕ) where
         (λ u.
         let low = write-args st img w p l o n bytes (eqb-true row 0 t) .writer-low in
         let other = unwide st w none-wide low in
-        pends-of (writeOf st img w p l o n bytes .state) (writeOf st img w p l o n bytes .stores) (Write w p l o n) (finishedLine st img w p l o n bytes) (pageFrame st img p)
+        pends-of (writeOf st img w p l o n bytes .state) (writeOf st img w p l o n bytes .stores) (Write w p l o n) (finishedLine st img w p l o n bytes)
         (rw (t, u, other)) (rw (t, u, other))))
         (λ t. absurd (some (rw t)))
 
@@ -129,7 +128,7 @@ module _ (st : State) (img : List ℕ) (narrow : Narrow st) where
 
   -- the frame of the first store's word
   abbrev pub firstFrame : World → ℕ
-  firstFrame v = frameOf (v .st .sizes) (storeAt (v .st) (v .image) (v .st .pending .op) (v .st .pending .made))
+  firstFrame v = frameOf (v .st .sizes) (storeAt (v .st) (v .st .pending .op) (v .st .pending .made))
 
   abbrev LaidBy : Ask → ℕ → List ℕ → Type 0
   LaidBy a count numbers =

@@ -19,7 +19,7 @@ use Rattle.fresh.specs.Fresh.{formatRow, formatRows}
 use Rattle.state.specs.State.{State}
 use Rattle.state.specs.declared.Op.the-variants.{Format}
 use Rattle.operations.specs.Operations.{needs}
-use Rattle.refinement.specs.Stores.{World, left, storeAt, storesMade}
+use Rattle.refinement.specs.Stores.{World, left, storeAt}
 use Rattle.refinement.specs.Calls.{worldOf, stepRow, runOf}
 use Rattle.refinement.specs.Mount.{freshState, formatOf}
 use Rattle.refinement.specs.Run.{Result, result, exec, run}
@@ -91,12 +91,11 @@ module _ (st : State) (z : Sizes) (img : List ℕ) (taken : formatOf z img .numb
 format-word : (z : Sizes) → Legal z → (img : List ℕ) (i : ℕ) → i ≤ imageWords z → Laid z (formatEnds z) (wordOf (worldOf (formatting z) img) i) i
 format-word z ok img i low =
     let s = formatting z in
-    let here = storesMade s i img in
-    let p : Placed s here = each-placed s here ok in
+    let p : Placed s img = each-placed s img ok in
     let none : 0 + i ≡ i = omega arith in
-    subst (λ (x : ℕ). Laid z (formatEnds z) (storeAt s here Format x) i) (sym none)
-    (format-laid z ok (storeAt s here Format i) i low (p .first i) (p .rising i)
-    (λ e. let q : storeAt s here Format i ≡ 3 = ap (storeAt s here Format) e ∙ p .last in omega (arith, q)))
+    subst (λ (x : ℕ). Laid z (formatEnds z) (storeAt s Format x) i) (sym none)
+    (format-laid z ok (storeAt s Format i) i low (p .first i) (p .rising i)
+    (λ e. let q : storeAt s Format i ≡ 3 = ap (storeAt s Format) e ∙ p .last in omega (arith, q)))
 
 pub format-worn : (st : State) (z : Sizes) (img : List ℕ) → formatOf z img .number ≡ 0 → (n : ℕ)
     → (let v = worldOf (replacing st (formatOf z img) .state) img in

@@ -20,7 +20,6 @@ use Rattle.operations.specs.Operations.{needs}
 use Rattle.mount.specs.Mount.{mountOf}
 use Rattle.refinement.specs.Event.{lineDone, eventDone}
 use Rattle.refinement.specs.Stores.{World, completed, withMade, stepped, steppedBy, left}
-use Rattle.refinement.specs.Frames.{pageFrame}
 use Rattle.refinement.specs.Calls.{worldOf, asked, withPending, beginRows, beginOf, abortRows, abortOf, commitCallRows, commitOp, commitOf, stepRow, runOf}
 use Rattle.refinement.specs.Calls.{writeCallRows, changesNothing, finishedLine, writeOp, writeOf, consolidateCallRows, consolidateOf, checkpointCallRows, checkpointOf}
 use Rattle.refinement.specs.Mount.{mountCall, formatOf}
@@ -59,10 +58,10 @@ completed-narrow st Format h = h
 choose : (b : Bool) (s t : State) → Narrow s → Narrow t → Narrow (cond b s t)
 choose b s t = row-keeps Narrow b s t
 
-asked-narrow : (row : ℕ) (st : State) (op : Op) (line : List ℕ) (frame : ℕ) → Narrow st → Narrow (asked row st op line frame .state)
-asked-narrow row st op line frame h =
-    choose (eqb row 0) (cond (eqb (needs st op) 0) (completed st op) (withPending st op line frame)) st
-    (choose (eqb (needs st op) 0) (completed st op) (withPending st op line frame) (completed-narrow st op h) h) h
+asked-narrow : (row : ℕ) (st : State) (op : Op) (line : List ℕ) → Narrow st → Narrow (asked row st op line .state)
+asked-narrow row st op line h =
+    choose (eqb row 0) (cond (eqb (needs st op) 0) (completed st op) (withPending st op line)) st
+    (choose (eqb (needs st op) 0) (completed st op) (withPending st op line) (completed-narrow st op h) h) h
 
 stepped-narrow : (v : World) → Narrow (v .st) → Narrow (stepped v .st)
 unfolding stepped
@@ -89,7 +88,7 @@ call-narrow : (st : State) (img : List ℕ) (a : Ask) (count : ℕ) (numbers : L
 unfolding exec beginOf abortOf commitOf writeOf consolidateOf checkpointOf
 call-narrow st img Begin count numbers h = choose (eqb (refusal (beginRows st (num numbers 0))) 0) _ st h h
 call-narrow st img Commits count numbers h =
-    asked-narrow (refusal (commitCallRows st img (num numbers 0))) st (commitOp st (num numbers 0)) (replicate 8 0) 0 h
+    asked-narrow (refusal (commitCallRows st img (num numbers 0))) st (commitOp st (num numbers 0)) (replicate 8 0) h
 call-narrow st img Abort count numbers h =
     caseOn (eqb (refusal (abortRows st (num numbers 0))) 0)
     (λ t. caseOn (isWide (st .wide) (num numbers 0)) (λ u. rw (t, u)) (λ u. rw (t, u) h))
@@ -97,12 +96,12 @@ call-narrow st img Abort count numbers h =
 call-narrow st img Writes count numbers h =
     let n = num numbers in
     let bytes = dataOf count numbers in
-    let after = withPending st (writeOp st (n 0) (n 1) (n 2) (n 3) (n 4)) (finishedLine st img (n 0) (n 1) (n 2) (n 3) (n 4) bytes) (pageFrame st img (n 1)) in
+    let after = withPending st (writeOp st (n 0) (n 1) (n 2) (n 3) (n 4)) (finishedLine st img (n 0) (n 1) (n 2) (n 3) (n 4) bytes) in
     let idle = changesNothing st img (n 0) (n 1) (n 2) (n 3) (n 4) bytes in
     choose (eqb (refusal (writeCallRows st img (n 0) (n 1) (n 2) (n 3) (n 4) bytes)) 0) (cond idle st after) st (choose idle st after h h) h
 call-narrow st img Consolidates count numbers h =
-    asked-narrow (refusal (consolidateCallRows st img (num numbers 0))) st (Consolidate (num numbers 0)) (replicate 8 0) 0 h
-call-narrow st img Checkpoints count numbers h = asked-narrow (refusal (checkpointCallRows st img)) st Checkpoint (replicate 8 0) 0 h
+    asked-narrow (refusal (consolidateCallRows st img (num numbers 0))) st (Consolidate (num numbers 0)) (replicate 8 0) h
+call-narrow st img Checkpoints count numbers h = asked-narrow (refusal (checkpointCallRows st img)) st Checkpoint (replicate 8 0) h
 call-narrow st img Mount count numbers h = mount-narrow (worldOf st img) h
 
 runs-narrow : (k : ℕ) (v : World) → Narrow (v .st) → Narrow (exec (run k) v .world .st)

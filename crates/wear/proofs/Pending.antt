@@ -23,11 +23,10 @@ use Rattle.refinement.specs.Frames.{otherFrame, pageSlot}
 use Rattle.refinement.specs.Write.{writeSlot}
 use Rattle.refinement.specs.Consolidate.{copyTo, copyLines}
 use Rattle.refinement.specs.Settled.{withPending}
-use Rattle.refinement.specs.Stores.{World, storeAt, storesMade}
+use Rattle.refinement.specs.Stores.{World, storeAt}
 use Rattle.refinement.specs.Outcome.{Outcome, answered}
 use Rattle.refinement.specs.Calls.{worldOf, asked, commitCallRows, commitOf, consolidateCallRows, consolidateOf, checkpointCallRows, checkpointOf}
 use Rattle.refinement.specs.Calls.{writeCallRows, changesNothing, finishedLine, writeOf, beginOf, abortOf}
-use Rattle.refinement.specs.Frames.{pageFrame}
 use Rattle.refinement.specs.Mount.{mountCall}
 use Rattle.refinement.specs.Run.{begin, abort, commit, consolidate, checkpoint, mount, write, exec}
 use Rattle.refinement.proofs.AskCommit.{op-row}
@@ -46,9 +45,9 @@ pub record Pends (v : World) (n : ℕ) (op : Op) : Type 0 where
   pub needed : n ≡ needs (v .st) op
 
 -- one that was asked for by its own rows, and needs stores
-pub asked-pends : (row : ℕ) (st : State) (img : List ℕ) (op : Op) (line : List ℕ) (frame : ℕ) → (asked row st op line frame .stores ≡ 0 → ⊥)
-    → (row ≡ 0) × (asked row st op line frame .state ≡ withPending st op line frame) × (asked row st op line frame .stores ≡ needs st op)
-asked-pends row st img op line frame some =
+pub asked-pends : (row : ℕ) (st : State) (op : Op) (line : List ℕ) → (asked row st op line .stores ≡ 0 → ⊥)
+    → (row ≡ 0) × (asked row st op line .state ≡ withPending st op line) × (asked row st op line .stores ≡ needs st op)
+asked-pends row st op line some =
     caseOn (eqb row 0)
     (λ t.
     caseOn (eqb (needs st op) 0)
@@ -57,14 +56,13 @@ asked-pends row st img op line frame some =
     (λ t. absurd (some (rw t)))
 
 module _ {v : World} {n : ℕ} {op : Op} (p : Pends v n op) where
-  pub word-is : (i : ℕ) → wordOf v i ≡ storeAt (v .st) (storesMade (v .st) i (v .image)) op i
+  pub word-is : (i : ℕ) → wordOf v i ≡ storeAt (v .st) op i
   word-is i =
-      let here = storesMade (v .st) i (v .image) in
       let none : 0 + i ≡ i = omega arith in
-      ap₂ (λ (o : Op) (k : ℕ). storeAt (v .st) here o (k + i)) (p .asks) (p .made) ∙ ap (storeAt (v .st) here op) none
+      ap₂ (λ (o : Op) (k : ℕ). storeAt (v .st) o (k + i)) (p .asks) (p .made) ∙ ap (storeAt (v .st) op) none
 
-  pub first-is : storeAt (v .st) (v .image) (v .st .pending .op) (v .st .pending .made) ≡ storeAt (v .st) (v .image) op 0
-  first-is = ap₂ (λ (o : Op) (k : ℕ). storeAt (v .st) (v .image) o k) (p .asks) (p .made)
+  pub first-is : storeAt (v .st) (v .st .pending .op) (v .st .pending .made) ≡ storeAt (v .st) op 0
+  first-is = ap₂ (λ (o : Op) (k : ℕ). storeAt (v .st) o k) (p .asks) (p .made)
 
 -- ---- where its stores go
 
@@ -73,13 +71,10 @@ module _ (v : World) (n : ℕ) (legal : Legal (v .st .sizes)) (some : n ≡ 0 �
   z = v .st .sizes
 
   abbrev first : ℕ
-  first = storeAt (v .st) (v .image) (v .st .pending .op) (v .st .pending .made)
+  first = storeAt (v .st) (v .st .pending .op) (v .st .pending .made)
 
-  abbrev here : List ℕ
-  here = storesMade (v .st) i (v .image)
-
-  placed : Placed (v .st) here
-  placed = each-placed (v .st) here legal
+  placed : Placed (v .st) (v .image)
+  placed = each-placed (v .st) (v .image) legal
 
   pub laid-write : (w p l o k : ℕ) → Pends v n (Write w p l o k) → Laid z (endsAt (frameOf z first) n n n) (wordOf v i) i
   unfolding needs
@@ -97,7 +92,7 @@ module _ (v : World) (n : ℕ) (legal : Legal (v .st .sizes)) (some : n ≡ 0 �
       let all : n ≡ 4 * m + 1 =
       caseOn (eqb m 0) (λ t. absurd (some (q .needed ∙ rw t))) (λ t. q .needed ∙ rw t) in
       rw (word-is q i, all)
-      (commit-laid z legal (frameOf z first) m (storeAt (v .st) here (Commit w) i) i (omega (arith, all)) (placed .records w i)
+      (commit-laid z legal (frameOf z first) m (storeAt (v .st) (Commit w) i) i (omega (arith, all)) (placed .records w i)
       (λ l. omega (arith, placed .head w i l)))
 
   pub laid-checkpoint : Pends v n Checkpoint → Laid z (endsAt (frameOf z first) 0 (n - 1) (n - 1)) (wordOf v i) i
@@ -107,7 +102,7 @@ module _ (v : World) (n : ℕ) (legal : Legal (v .st .sizes)) (some : n ≡ 0 �
       let all : n ≡ 3 * m + 1 =
       caseOn (eqb (v .st .head) (v .st .tail)) (λ t. absurd (some (q .needed ∙ rw t))) (λ t. q .needed ∙ rw t) in
       rw (word-is q i, all)
-      (checkpoint-laid z legal (frameOf z first) m (storeAt (v .st) here Checkpoint i) i (omega (arith, all)) (placed .slots i)
+      (checkpoint-laid z legal (frameOf z first) m (storeAt (v .st) Checkpoint i) i (omega (arith, all)) (placed .slots i)
       (λ l. omega (arith, placed .tail i l)))
 
   pub laid-consolidate : (p : ℕ) → p < z .pages → Pends v n (Consolidate p) → Laid z (endsAt (frameOf z first) (n - 6) (n - 5) (n - 1)) (wordOf v i) i
@@ -118,9 +113,9 @@ module _ (v : World) (n : ℕ) (legal : Legal (v .st .sizes)) (some : n ≡ 0 �
       let all : n ≡ 8 * c + 6 = q .needed in
       let line : ℕ → ℕ = λ j. getD (copyLines t) j 64 in
       let begins : 0 < c → first ≡ lineWord z (copyTo t) (line 0) =
-      λ s. first-is q ∙ each-placed (v .st) (v .image) legal .copies p 0 (omega arith) ∙ omega arith in
+      λ s. first-is q ∙ placed .copies p 0 (omega arith) ∙ omega arith in
       rw (word-is q i, all)
-      (consolidate-laid z legal c (copyTo t) first (storeAt (v .st) here (Consolidate p) i) i line (placed .few p) (omega (arith, all)) (placed .lines p) begins
+      (consolidate-laid z legal c (copyTo t) first (storeAt (v .st) (Consolidate p) i) i line (placed .few p) (omega (arith, all)) (placed .lines p) begins
       (placed .copies p i)
       (λ s. let e = placed .page p i s in (omega (arith, e), omega (arith, e)))
       (placed .freeing p i)

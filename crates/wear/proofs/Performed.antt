@@ -145,7 +145,7 @@ module _ (words img : List ℕ) (narrow : Narrow (decoded words)) (a : Ask) (lin
 
     -- the word of the first store
     first-told : (next : NextStore) → next ≡ nextStoreOf (decoded words′) img′
-        → next .at ≡ storeAt (d .world .st) (d .world .image) (d .world .st .pending .op) (d .world .st .pending .made)
+        → next .at ≡ storeAt (d .world .st) (d .world .st .pending .op) (d .world .st .pending .made)
     first-told next e =
         let v = d .world in
         let same : nextStoreOf (decoded words′) img′ ≡ nextStoreOf (v .st) (v .image) = ap (λ (x : Result). nextStoreOf (x .world .st) (x .world .image)) told in
@@ -161,7 +161,7 @@ module _ (words img : List ℕ) (narrow : Narrow (decoded words)) (a : Ask) (lin
         let sizes : z ≡ v .st .sizes = hz ∙ ap (λ (x : Result). x .world .st .sizes) told in
         let stores : needed ≡ d .stores = hs ∙ ap (λ (x : Result). x .stores) told in
         let at = first-told next hn in
-        let first = storeAt (v .st) (v .image) (v .st .pending .op) (v .st .pending .made) in
+        let first = storeAt (v .st) (v .st .pending .op) (v .st .pending .made) in
         let at-frame : frame ≡ frameOf (v .st .sizes) first = hf ∙ rw (sizes, at) in
         let ends : e ≡ askedEnds a (d .stores) (frameOf (v .st .sizes) first) = he ∙ rw (stores, at-frame) in
         performs-some came (turnAt r words″ img″) v (isWrite a) (askedEnds a (d .stores) (frameOf (v .st .sizes) first)) n counts counts′ ended s size

@@ -6,7 +6,7 @@ use lib.Dec.{ltb, leb, eqb}
 use Rattle.bounded.specs.Below.{countBelow}
 use Rattle.layout.specs.declared.Sizes.{Sizes}
 use Rattle.layout.specs.Layout.{slotWord, paddingWord, frameWord}
-use Rattle.refinement.specs.Stores.{World, storeAt, storesMade}
+use Rattle.refinement.specs.Stores.{World, storeAt}
 use Rattle.refinement.specs.Calls.{worldOf}
 use Rattle.refinement.specs.Mount.{formatOf}
 use Rattle.refinement.specs.Run.{exec}
@@ -43,7 +43,7 @@ wearOf z byW a k = cond (ltb k 15) (endsCopy z k a) (cond (ltb k 20) (eqb (partO
 
 -- the word that store i of them goes to
 abbrev pub wordOf : World → ℕ → ℕ
-wordOf v i = storeAt (v .st) (storesMade (v .st) i (v .image)) (v .st .pending .op) (v .st .pending .made + i)
+wordOf v i = storeAt (v .st) (v .st .pending .op) (v .st .pending .made + i)
 
 -- how many of the first n count for number k: a store's part goes by the sizes of the state that makes it
 unfoldable pub wornBy : World → Bool → ℕ → ℕ → ℕ

@@ -23,6 +23,7 @@ use forms::Form;
 use layout::Sizes;
 use op_stores::Until;
 use printing::Output;
+use state_words::Words;
 use text::Line;
 
 // The stores that a printed line tells.
@@ -56,13 +57,7 @@ fn is_write(a: Ask) -> bool
 }
 
 // F: a format asked for, its stores made and counted.
-fn format_line(
-    image: &mut [u8],
-    words: &mut [u64; 256],
-    m: Mode,
-    counts: &mut [u64],
-    z: Sizes,
-) -> Mode
+fn format_line(image: &mut [u8], words: &mut Words, m: Mode, counts: &mut [u64], z: Sizes) -> Mode
     requires { ⌜ length (now counts) ≡ 22 ⌝ }
     ensures { λ r. ⌜ (let t = formats (machineAt m (now (words .entry))) (now (image .entry)) z in
         let v = worldOf (replacing (decoded (now (words .entry))) (formatOf z (now (image .entry))) .state) (now (image .entry)) in
@@ -83,7 +78,7 @@ fn format_line(
 // A call asked for, its stores made and counted.
 fn ask_line(
     image: &mut [u8],
-    words: &mut [u64; 256],
+    words: &mut Words,
     m: Mode,
     counts: &mut [u64],
     a: Ask,
@@ -114,13 +109,7 @@ fn ask_line(
 }
 
 // Performs a line, and adds what its stores count for. A read makes none and leaves the machine as it is.
-pub fn turn(
-    image: &mut [u8],
-    words: &mut [u64; 256],
-    m: Mode,
-    counts: &mut [u64],
-    line: Line,
-) -> Mode
+pub fn turn(image: &mut [u8], words: &mut Words, m: Mode, counts: &mut [u64], line: Line) -> Mode
     requires { ⌜ length (now counts) ≡ 22 ⌝ }
     requires { ⌜ NarrowMachine (machineAt m (now words)) ⌝ }
     ensures { λ r. ⌜ Performs (turnOf (machineAt m (now (words .entry))) (now (image .entry)) line)

@@ -8,6 +8,7 @@ ghost use Rattle.wear_by_frame.specs.Program.{nothingRead, Shows, Sound,
 use executing::Mode;
 use libc::STDIN_FILENO;
 use libc::STDOUT_FILENO;
+use state_words::Words;
 use wear_lines::output;
 
 // The program between two bytes.
@@ -20,7 +21,7 @@ struct Reading {
 }
 
 // No byte is read yet.
-fn begin(image: &mut [u8], words: &mut [u64; 256]) -> Reading
+fn begin(image: &mut [u8], words: &mut Words) -> Reading
     ensures sound { λ r. ⌜ Sound r (now (words .exit)) ⌝ }
     ensures shows { λ r. ⌜ ((line : List ℕ)
         → Shows r (now (words .exit)) (now (image .exit)) (replicate 22 0) line (nothingRead (length (now (image .entry))))) ⌝ }
@@ -37,7 +38,7 @@ fn begin(image: &mut [u8], words: &mut [u64; 256]) -> Reading
 fn take_byte(
     s: Reading,
     image: &mut [u8],
-    words: &mut [u64; 256],
+    words: &mut Words,
     counts: &mut [u64],
     line: &mut [u8],
     b: u8,
@@ -67,7 +68,7 @@ fn take_byte(
 fn take_piece(
     s: Reading,
     image: &mut [u8],
-    words: &mut [u64; 256],
+    words: &mut Words,
     counts: &mut [u64],
     line: &mut [u8],
     piece: &[u8],
@@ -90,7 +91,7 @@ fn take_piece(
 fn read_piece(
     s: Reading,
     image: &mut [u8],
-    words: &mut [u64; 256],
+    words: &mut Words,
     counts: &mut [u64],
     line: &mut [u8],
     input: &mut [u8],
@@ -111,7 +112,7 @@ fn read_piece(
 fn read_all(
     s: Reading,
     image: &mut [u8],
-    words: &mut [u64; 256],
+    words: &mut Words,
     counts: &mut [u64],
     line: &mut [u8],
     input: &mut [u8],
@@ -134,7 +135,7 @@ fn read_all(
 fn take_last(
     s: Reading,
     image: &mut [u8],
-    words: &mut [u64; 256],
+    words: &mut Words,
     counts: &mut [u64],
     line: &[u8],
 ) -> Mode
@@ -157,7 +158,7 @@ fn respond(image: &mut [u8], line: &mut [u8], input: &mut [u8], out: &mut [u8]) 
     requires { ⌜ 462 ≤ length (now out) ⌝ }
     ensures { λ r. ⌜ Responds (length (now (image .entry))) (now (out .entry)) (now (out .exit)) r ⌝ }
 {
-    let mut words = [0u64; 256];
+    let mut words = [0u64; 1280];
     let mut counts = [0u64; 22];
     let first = begin(image, &mut words);
     let read = read_all(first, image, &mut words, &mut counts, line, input);

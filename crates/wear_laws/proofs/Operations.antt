@@ -15,7 +15,7 @@ use Rattle.refinement.specs.Frames.{otherFrame, pageSlot}
 use Rattle.refinement.specs.Write.{writeSlot}
 use Rattle.refinement.specs.Consolidate.{copyTo, copyLines}
 use Rattle.refinement.specs.Calls.{worldOf}
-use Rattle.refinement.specs.Stores.{World, storeAt, storesMade}
+use Rattle.refinement.specs.Stores.{World, storeAt}
 use Rattle.refinement.proofs.FormatAsked.{formatting}
 use Rattle.placing.specs.Placing.{recordsOf, recordedIn, copiesOf, Placed}
 use Rattle.placing.proofs.Placed.{each-placed}
@@ -86,53 +86,50 @@ module _ (v : World) (n : ℕ) (legal : Legal (v .st .sizes)) where
   abbrev z : Sizes
   z = v .st .sizes
 
-  abbrev here : ℕ → List ℕ
-  here i = storesMade (v .st) i (v .image)
-
-  placed : (i : ℕ) → Placed (v .st) (here i)
-  placed i = each-placed (v .st) (here i) legal
+  placed : Placed (v .st) (v .image)
+  placed = each-placed (v .st) (v .image) legal
 
   pub write-runs : (w p l o c k : ℕ) → Pends v n (Write w p l o c) → k ≤ 8 → Runs z (wordOf v) k
   write-runs w p l o c k q few =
       let f = otherFrame (slotIn (v .st .table) (writeSlot (v .st) p)) l in
-      one-line z (wordOf v) f l k (λ i. word-is q i ∙ placed i .write w p l o c i) few
+      one-line z (wordOf v) f l k (λ i. word-is q i ∙ placed .write w p l o c i) few
 
   pub commit-runs : (w k : ℕ) → Pends v n (Commit w) → Runs z (wordOf v) k
   commit-runs w k q = outside z (wordOf v) k (λ i l. rw (word-is q i) (low i))
     where
-      low : (i : ℕ) → storeAt (v .st) (here i) (Commit w) i < frameWord z
+      low : (i : ℕ) → storeAt (v .st) (Commit w) i < frameWord z
       low i =
           let m = recordsOf (v .st) w in
           caseOn (ltb i (4 * m))
-          (λ t. omega (arith, placed i .records w i (ltb-true i (4 * m) t) .below))
-          (λ t. omega (arith, placed i .head w i (ltb-false i (4 * m) t)))
+          (λ t. omega (arith, placed .records w i (ltb-true i (4 * m) t) .below))
+          (λ t. omega (arith, placed .head w i (ltb-false i (4 * m) t)))
 
   pub checkpoint-runs : (k : ℕ) → Pends v n Checkpoint → Runs z (wordOf v) k
   checkpoint-runs k q = outside z (wordOf v) k (λ i l. rw (word-is q i) (low i))
     where
-      low : (i : ℕ) → storeAt (v .st) (here i) Checkpoint i < frameWord z
+      low : (i : ℕ) → storeAt (v .st) Checkpoint i < frameWord z
       low i =
           let m = recordedIn (v .st) in
           caseOn (ltb i (3 * m))
-          (λ t. omega (arith, placed i .slots i (ltb-true i (3 * m) t) .below))
-          (λ t. omega (arith, placed i .tail i (ltb-false i (3 * m) t)))
+          (λ t. omega (arith, placed .slots i (ltb-true i (3 * m) t) .below))
+          (λ t. omega (arith, placed .tail i (ltb-false i (3 * m) t)))
 
   pub consolidate-runs : (p k : ℕ) → p < z .pages → Pends v n (Consolidate p) → Runs z (wordOf v) k
   consolidate-runs p k page q =
       let t = pageSlot (v .st) p in
-      lines z (wordOf v) (copyTo t) (copiesOf (v .st) p) k (λ j. getD (copyLines t) j 64) (λ i l. word-is q i ∙ placed i .copies p i l)
+      lines z (wordOf v) (copyTo t) (copiesOf (v .st) p) k (λ j. getD (copyLines t) j 64) (λ i l. word-is q i ∙ placed .copies p i l)
       (λ i l m. rw (word-is q i) (low i l))
     where
-      low : (i : ℕ) → 8 * copiesOf (v .st) p ≤ i → storeAt (v .st) (here i) (Consolidate p) i < frameWord z
+      low : (i : ℕ) → 8 * copiesOf (v .st) p ≤ i → storeAt (v .st) (Consolidate p) i < frameWord z
       low i l =
           let c = copiesOf (v .st) p in
           caseOn (eqb i (8 * c))
-          (λ t. omega (arith, placed i .page p i (eqb-true i (8 * c) t)))
+          (λ t. omega (arith, placed .page p i (eqb-true i (8 * c) t)))
           (λ t.
           let u = eqb-false i (8 * c) t in
           caseOn (ltb i (8 * c + 5))
-          (λ s. omega (arith, placed i .freeing p i (omega arith) (ltb-true i (8 * c + 5) s) .below))
-          (λ s. omega (arith, placed i .freed p i (ltb-false i (8 * c + 5) s))))
+          (λ s. omega (arith, placed .freeing p i (omega arith) (ltb-true i (8 * c + 5) s) .below))
+          (λ s. omega (arith, placed .freed p i (ltb-false i (8 * c + 5) s))))
 
 -- a word of so many lines, but not the last of its own
 not-last : (x c : ℕ) → x < 8 * c → x % 8 < 7 → x + 1 < 8 * c
@@ -143,29 +140,29 @@ module _ (y : Sizes) (ok : Legal y) (none : y .entries ≡ 0) (img : List ℕ) w
   abbrev word : ℕ → ℕ
   word = wordOf (worldOf (formatting y) img)
 
-  abbrev format-placed : (i : ℕ) → Placed (formatting y) (storesMade (formatting y) i img)
-  format-placed i = each-placed (formatting y) (storesMade (formatting y) i img) ok
+  abbrev format-placed : Placed (formatting y) img
+  format-placed = each-placed (formatting y) img ok
 
-  word-at : (i : ℕ) → word i ≡ storeAt (formatting y) (storesMade (formatting y) i img) Format i
-  word-at i = let x : 0 + i ≡ i = omega arith in ap (storeAt (formatting y) (storesMade (formatting y) i img) Format) x
+  word-at : (i : ℕ) → word i ≡ storeAt (formatting y) Format i
+  word-at i = let x : 0 + i ≡ i = omega arith in ap (storeAt (formatting y) Format) x
 
   rises : (i : ℕ) → 8 ≤ i → i < imageWords y → word i ≡ i
-  rises i g m = word-at i ∙ format-placed i .rising i g m
+  rises i g m = word-at i ∙ format-placed .rising i g m
 
   -- those to frames
   framed : (k i : ℕ) → k ≤ imageWords y + 1 → i < k → frameWord y ≤ word i → (8 ≤ i) × (i < imageWords y)
   framed k i few l h =
       let e = word-at i in
       caseOn (ltb i 8)
-      (λ t. absurd (let c = format-placed i .first i (ltb-true i 8 t) in omega (arith, e)))
+      (λ t. absurd (let c = format-placed .first i (ltb-true i 8 t) in omega (arith, e)))
       (λ t.
       let g = ltb-false i 8 t in
       caseOn (ltb i (imageWords y))
       (λ u. (g, ltb-true i (imageWords y) u))
       (λ u.
       let m : i ≡ imageWords y = omega (arith, ltb-false i (imageWords y) u) in
-      let last : storeAt (formatting y) (storesMade (formatting y) i img) Format i ≡ 3 =
-      ap (storeAt (formatting y) (storesMade (formatting y) i img) Format) m ∙ format-placed i .last in
+      let last : storeAt (formatting y) Format i ≡ 3 =
+      ap (storeAt (formatting y) Format) m ∙ format-placed .last in
       absurd (omega (arith, e, last))))
 
   pub format-runs : (k : ℕ) → k ≤ imageWords y + 1 → Runs y word k

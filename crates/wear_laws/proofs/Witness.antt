@@ -19,11 +19,12 @@ use Rattle.masks.specs.Lines.{inMask, withLine, exclusiveOr, disjoint, others a
 use Rattle.entries.specs.Entries.{entriesOk}
 use Rattle.state.specs.Wide.{wideOk}
 use Rattle.state.specs.Held.{heldOk, othersHold, someHold, heldSlots}
-use Rattle.state.specs.Slots.{freeAfter, frameOfSlot, framesApart}
+use Rattle.replay.specs.Map.{mapFrom}
+use Rattle.state.specs.Slots.{freeAfter}
 use Rattle.operations.specs.Operations.{copyCount, recordedSlots, needs}
 use Rattle.validity.specs.Validity.{slotsOk, lastsOk, preparedOk, pendingOk, stateOk}
 use Rattle.refinement.specs.Commit.{closedWriter}
-use Rattle.refinement.specs.Frames.{pageFrame, seenFrame}
+use Rattle.refinement.specs.Frames.{seenFrame}
 use Rattle.refinement.specs.Stores.{World, stepped, steppedBy}
 use Rattle.refinement.specs.Write.{writeSlot}
 use Rattle.refinement.specs.Calls.{worldOf, beginOf, changesNothing, writeOf, runOf, runBytes}
@@ -105,7 +106,7 @@ first-act = acts ∙ ap₂ withTurn (format-asks (started .st) sizes memory take
 -- ---- its other lines
 
 other-lines : ended act (fed act (unfed afterFormat) others) .worn ≡ numbers
-unfolding allBelow someBelow firstBelow one countBelow those upTo countOf eachOnce tab filled leOf bytesOf part over wordAt putWord wordsAt flat freshWords formatted freshTable mountRead mountOf liveRecord recordsOk tableFrom replay frameNames inMask withLine exclusiveOr disjoint otherLines linesIn countLines linesNotIn entriesOk wideOk heldOk othersHold someHold heldSlots copyCount recordedSlots needs freeAfter frameOfSlot framesApart slotsOk lastsOk preparedOk pendingOk stateOk closedWriter pageFrame seenFrame stepped steppedBy writeSlot beginOf changesNothing writeOf runOf runBytes mountCall exec mergeChanges withByte fields allDigits valueFrom allNumbers values lineOf parsed formOf text finished turnOf partOf endsCopy wearOf wornBy lineWear opening turned act fed fedByte ended
+unfolding mapFrom allBelow someBelow firstBelow one countBelow those upTo countOf eachOnce tab filled leOf bytesOf part over wordAt putWord wordsAt flat freshWords formatted freshTable mountRead mountOf liveRecord recordsOk tableFrom replay frameNames inMask withLine exclusiveOr disjoint otherLines linesIn countLines linesNotIn entriesOk wideOk heldOk othersHold someHold heldSlots copyCount recordedSlots needs freeAfter slotsOk lastsOk preparedOk pendingOk stateOk closedWriter seenFrame stepped steppedBy writeSlot beginOf changesNothing writeOf runOf runBytes mountCall exec mergeChanges withByte fields allDigits valueFrom allNumbers values lineOf parsed formOf text finished turnOf partOf endsCopy wearOf wornBy lineWear opening turned act fed fedByte ended
 other-lines = refl
 
 -- ---- all of it

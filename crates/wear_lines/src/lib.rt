@@ -10,6 +10,7 @@ ghost use Rattle.wear_lines.specs.Lines.{parts};
 ghost use Rattle.wear_lines.specs.Stands.{Acts};
 use executing::Mode;
 use script::performing;
+use state_words::Words;
 use wear::turning;
 
 // Puts 0 in each byte.
@@ -24,7 +25,7 @@ fn clear(image: &mut [u8])
 }
 
 // Before the first line of an input: no format is taken, no K waits, and the buffer is of zeros.
-pub fn open_input(image: &mut [u8], words: &mut [u64; 256]) -> Mode
+pub fn open_input(image: &mut [u8], words: &mut Words) -> Mode
     ensures machine { λ r. ⌜ machineAt r (now (words .exit)) ≡ started ⌝ }
     ensures image { λ _. ⌜ now (image .exit) ≡ replicate (length (now (image .entry))) 0 ⌝ }
 {
@@ -45,7 +46,7 @@ fn is_parting(line: &[u8]) -> bool
 // One line more.
 pub fn take_line(
     image: &mut [u8],
-    words: &mut [u64; 256],
+    words: &mut Words,
     m: Mode,
     counts: &mut [u64],
     line: &[u8],

@@ -1,4 +1,4 @@
-// What is printed.
+// What wear_by_frame prints: its 22 numbers, one a line.
 ghost use mathlib.Core.Path.{_≡_};
 ghost use Prim.Native.Nat.{_+_, _≤_};
 ghost use lib.ListN.{length};

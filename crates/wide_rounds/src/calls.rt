@@ -5,6 +5,7 @@ use answers::Answer;
 use call_write::Span;
 use layout::Sizes;
 use op_stores::Until;
+use state_words::Words;
 
 pub struct Row {
     pub call: usize,
@@ -188,7 +189,7 @@ fn mixed(place: usize) -> usize {
     (x ^ (x / 65536)) % 4294967296 * 48271 % 2147483647
 }
 
-// A row of the walk.
+// Takes a number of the walk apart: the call and its arguments, a digit each.
 fn walk_row(x: usize) -> Row {
     let row = row_of(WALK[x % 32]);
     Row {
@@ -209,7 +210,7 @@ pub fn row_at(place: usize) -> Row {
 }
 
 // A fresh store of 4 pages, 2 slots, 3 journal places and 5 entries.
-pub fn fresh(image: &mut [u8], words: &mut [u64; 256]) {
+pub fn fresh(image: &mut [u8], words: &mut Words) {
     let z = Sizes {
         pages: 4,
         slots: 2,
@@ -220,7 +221,7 @@ pub fn fresh(image: &mut [u8], words: &mut [u64; 256]) {
 }
 
 // Writes a byte to the start of the row's line.
-fn write(image: &mut [u8], words: &mut [u64; 256], row: Row, byte: u8) -> Answer {
+fn write(image: &mut [u8], words: &mut Words, row: Row, byte: u8) -> Answer {
     let data = [byte; 1];
     let span = Span {
         page: row.page,
@@ -232,19 +233,19 @@ fn write(image: &mut [u8], words: &mut [u64; 256], row: Row, byte: u8) -> Answer
 }
 
 // Replaces the wide transaction.
-fn edit(words: &mut [u64; 256], row: Row) -> Answer {
+fn edit(words: &mut Words, row: Row) -> Answer {
     state_words::put_wide(words, row.writer, row.page);
     state_words::put_key(words, 0, row.line as u64);
     Answer::Taken(0)
 }
 
-fn event(image: &mut [u8], words: &mut [u64; 256], kind: usize) -> Answer {
+fn event(image: &mut [u8], words: &mut Words, kind: usize) -> Answer {
     let moduli = meters::fixed_moduli();
     call_event::event(image, words, kind, 23, 1, &moduli, Until::Asked)
 }
 
 // Makes a call; a write writes the byte. An operation is asked for, its stores not yet made.
-pub fn made(image: &mut [u8], words: &mut [u64; 256], row: Row, byte: u8) -> Answer {
+pub fn made(image: &mut [u8], words: &mut Words, row: Row, byte: u8) -> Answer {
     let asked = Until::Asked;
     let call = row.call;
     match call {

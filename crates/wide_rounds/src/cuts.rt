@@ -3,6 +3,7 @@ use crate::calls;
 use crate::shown;
 use crate::shown::write_number;
 use op_stores::Until;
+use state_words::Words;
 
 // The lines of the round.
 const LINES: [[usize; 2]; 5] = [[0, 0], [1, 63], [2, 3], [3, 63], [0, 1]];
@@ -17,7 +18,7 @@ fn show_lines(image: &[u8]) {
 }
 
 // A mount and a run of at most k stores: the mount's answer and the run's, and what a recall shows then.
-fn mount_and_run(image: &mut [u8; 25192], words: &mut [u64; 256], k: usize) {
+fn mount_and_run(image: &mut [u8; 25192], words: &mut Words, k: usize) {
     let mounted = call_mount::mount(image, words);
     io::write_all(1, b",");
     write_number(shown::code(mounted), b",");
@@ -27,7 +28,7 @@ fn mount_and_run(image: &mut [u8; 25192], words: &mut [u64; 256], k: usize) {
 }
 
 // Plays the round up to its commit.
-fn play_round(image: &mut [u8; 25192], words: &mut [u64; 256]) {
+fn play_round(image: &mut [u8; 25192], words: &mut Words) {
     calls::fresh(image, words);
     for k in 0..10 {
         let row = calls::round_row(k);
@@ -37,7 +38,7 @@ fn play_round(image: &mut [u8; 25192], words: &mut [u64; 256]) {
 }
 
 // The commit's first stores: the cut, the commit's answer and the run's, and what a recall shows then.
-fn commit_and_run(image: &mut [u8; 25192], words: &mut [u64; 256], cut: usize) {
+fn commit_and_run(image: &mut [u8; 25192], words: &mut Words, cut: usize) {
     let asked = call_commit::commit(image, words, 2, Until::Asked);
     let ran = call_step::run(image, words, cut);
     write_number(cut as u64, b",");
@@ -47,7 +48,7 @@ fn commit_and_run(image: &mut [u8; 25192], words: &mut [u64; 256], cut: usize) {
 }
 
 // The round and its commit's first stores. Then power goes; what the mount finds is cut, too, and mounted again.
-fn show_cut(image: &mut [u8; 25192], words: &mut [u64; 256], cut: usize) {
+fn show_cut(image: &mut [u8; 25192], words: &mut Words, cut: usize) {
     play_round(image, words);
     commit_and_run(image, words, cut);
     mount_and_run(image, words, cut % 43 * 5 % 42);
@@ -56,7 +57,7 @@ fn show_cut(image: &mut [u8; 25192], words: &mut [u64; 256], cut: usize) {
     write_number(hashing::hash(image), b"\n");
 }
 
-pub fn show_cuts(image: &mut [u8; 25192], words: &mut [u64; 256]) {
+pub fn show_cuts(image: &mut [u8; 25192], words: &mut Words) {
     for cut in 0..43 {
         show_cut(image, words, cut);
     }

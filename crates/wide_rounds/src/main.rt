@@ -8,9 +8,11 @@ mod cuts;
 mod shown;
 mod turns;
 
+use state_words::WORD_COUNT;
+
 fn main() {
     let mut image = [0u8; 25192];
-    let mut words = [0u64; 256];
+    let mut words = [0u64; WORD_COUNT];
     cuts::show_cuts(&mut image, &mut words);
     turns::play(&mut image, &mut words);
 }

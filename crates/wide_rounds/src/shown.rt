@@ -1,5 +1,6 @@
 // What calls give, as numbers.
 use answers::Answer;
+use state_words::Words;
 
 // A refused call's number, 1,000 times.
 fn refused(number: usize) -> u64 {
@@ -25,7 +26,7 @@ pub fn recalled(image: &[u8], page: usize, line: usize) -> u64 {
 }
 
 // The first word of a line that a writer reads.
-pub fn read(image: &[u8], words: &[u64; 256], writer: usize, page: usize, line: usize) -> u64 {
+pub fn read(image: &[u8], words: &Words, writer: usize, page: usize, line: usize) -> u64 {
     let mut target = [0u8; 64];
     let answer = call_read::read(image, words, writer, page, line, &mut target);
     let number = answers::number_of(answer);

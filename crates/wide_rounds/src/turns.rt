@@ -2,6 +2,7 @@
 use crate::calls;
 use crate::shown;
 use crate::shown::write_number;
+use state_words::Words;
 
 // Rows of the table and of the walk.
 const TURNS: usize = 5000;
@@ -21,7 +22,7 @@ fn show(image: &[u8; 25192], made: u64, stores: u64, recalled: u64, read: u64) {
 }
 
 // A turn, and the checksum with its numbers.
-fn turn(image: &mut [u8; 25192], words: &mut [u64; 256], place: usize, sum: u64) -> u64 {
+fn turn(image: &mut [u8; 25192], words: &mut Words, place: usize, sum: u64) -> u64 {
     let row = calls::row_at(place);
     let answer = calls::made(image, words, row, (1 + place / 2 % 3) as u8);
     let ran = call_step::run(image, words, row.stores);
@@ -37,7 +38,7 @@ fn turn(image: &mut [u8; 25192], words: &mut [u64; 256], place: usize, sum: u64)
 }
 
 // A line for each row of the table; of the walk one for every hundredth.
-pub fn play(image: &mut [u8; 25192], words: &mut [u64; 256]) {
+pub fn play(image: &mut [u8; 25192], words: &mut Words) {
     calls::fresh(image, words);
     let mut sum = 0;
     for place in 0..TURNS {

@@ -22,10 +22,11 @@ use Rattle.entries.specs.Entries.{keysFrom, entriesOk}
 use Rattle.state.specs.Wide.{wideOk}
 use Rattle.state.specs.Held.{heldOk, othersHold, someHold, heldSlots}
 use Rattle.operations.specs.Operations.{recordedSlots, needs}
-use Rattle.state.specs.Slots.{freeAfter, frameOfSlot, framesApart}
+use Rattle.replay.specs.Map.{mapFrom}
+use Rattle.state.specs.Slots.{freeAfter}
 use Rattle.validity.specs.Validity.{slotsOk, lastsOk, preparedOk, pendingOk, stateOk}
 use Rattle.refinement.specs.Commit.{closedWriter, commitRecordOf, commitAtOf, commitValueOf}
-use Rattle.refinement.specs.Frames.{pageFrame, seenFrame}
+use Rattle.refinement.specs.Frames.{seenFrame}
 use Rattle.refinement.specs.Stores.{World, stepped, steppedBy}
 use Rattle.refinement.specs.Write.{writeSlot}
 use Rattle.refinement.specs.Event.{lineDone, eventAt, eventValue, eventDone}
@@ -57,7 +58,7 @@ record Computed : Type 0 where
   before : execBefore put (played execBefore once fresh) .stores ≡ 8
 
 computed : Computed
-unfolding allBelow someBelow firstBelow one countBelow those upTo countOf eachOnce tab filled leOf bytesOf part over wordAt putWord wordsAt flat freshWords formatted freshTable liveRecord recordsOk tableFrom replay frameNames keysFrom entriesOk mountRead mountOf inMask withLine exclusiveOr disjoint others wideOk heldOk othersHold someHold heldSlots recordedSlots needs freeAfter frameOfSlot framesApart slotsOk lastsOk preparedOk pendingOk stateOk commitRecordOf commitAtOf commitValueOf closedWriter pageFrame seenFrame stepped steppedBy writeSlot beginOf changesNothing writeOf commitOf readRow readBytes runOf runBytes formatCall mountCall recallRow recallBytes exec after buffer fresh moduliOk modulusOf fixedModulus fixedModuli creditBad amountBad placeOf plainDecimal valueOf lineStart linesRow textRow moduliIn loadOf eventOf lineDone eventAt eventValue eventDone digits hundreds account history mergeChanges seen execBefore writeBefore played
+unfolding mapFrom allBelow someBelow firstBelow one countBelow those upTo countOf eachOnce tab filled leOf bytesOf part over wordAt putWord wordsAt flat freshWords formatted freshTable liveRecord recordsOk tableFrom replay frameNames keysFrom entriesOk mountRead mountOf inMask withLine exclusiveOr disjoint others wideOk heldOk othersHold someHold heldSlots recordedSlots needs freeAfter slotsOk lastsOk preparedOk pendingOk stateOk commitRecordOf commitAtOf commitValueOf closedWriter seenFrame stepped steppedBy writeSlot beginOf changesNothing writeOf commitOf readRow readBytes runOf runBytes formatCall mountCall recallRow recallBytes exec after buffer fresh moduliOk modulusOf fixedModulus fixedModuli creditBad amountBad placeOf plainDecimal valueOf lineStart linesRow textRow moduliIn loadOf eventOf lineDone eventAt eventValue eventDone digits hundreds account history mergeChanges seen execBefore writeBefore played
 computed = record { shown = refl; taken = refl; paid-loaded = refl; paid-fixed = refl; now = refl; before = refl }
 
 -- ---- demand 3

@@ -77,7 +77,7 @@ readers = mount ∷ recall ∷ []
 abbrev pub askers : List ℕ
 askers = write ∷ commit ∷ consolidate ∷ checkpoint ∷ read ∷ freeSlot ∷ event ∷ prepare ∷ confirm ∷ withdraw ∷ load ∷ []
 
--- the table, row by row: the number and the calls of its place; then the rows of document 02
+-- the table, row by row: the number and the calls of its place; then the rows of document 02. No row has 16 (document 02, L5)
 unfoldable pub places : List (ℕ × List ℕ)
 places =
     (1, readers)
@@ -96,7 +96,6 @@ places =
     ∷ (13, write ∷ commit ∷ abort ∷ prepare ∷ [])
     ∷ (14, write ∷ event ∷ [])
     ∷ (15, write ∷ event ∷ [])
-    ∷ (16, write ∷ read ∷ event ∷ load ∷ [])
     ∷ (17, consolidate ∷ [])
     ∷ (18, consolidate ∷ [])
     ∷ (19, commit ∷ consolidate ∷ freeSlot ∷ event ∷ prepare ∷ [])

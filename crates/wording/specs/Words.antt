@@ -39,7 +39,7 @@ names =
     ∷ codes "Wide begin"
     ∷ []
 
--- by number, from 0 on; 0 turns nothing back and has none
+-- by number, from 0 on; 0, which turns nothing back, and 16, which no row has, have none
 unfoldable pub texts : List (List ℕ)
 texts =
     []
@@ -58,7 +58,7 @@ texts =
     ∷ codes "the writer is not open"
     ∷ codes "another writer holds the line"
     ∷ codes "the page has no slot and none is free"
-    ∷ codes "the page table names a wrong frame for the page"
+    ∷ []
     ∷ codes "the page has no slot"
     ∷ codes "a writer holds a line of the page"
     ∷ codes "the journal has no room for the records"

@@ -3,7 +3,7 @@ use Prim.Native.Nat.{ℕ}
 use mathlib.Core.Bool.{Bool, false, cond}
 use mathlib.Core.List.{List, [], _∷_}
 use lib.Dec.{eqb}
-use lib.ListN.{replicate}
+use lib.ListN.{getD, replicate}
 use Rattle.replay.specs.declared.Table.{Table}
 use Rattle.state.specs.State.{State}
 use Rattle.state.specs.Wide.{noWide}
@@ -13,12 +13,11 @@ use Rattle.refinement.specs.Outcome.{Outcome}
 use Rattle.answers.specs.declared.Answer.{Answer}
 use Rattle.answers.specs.Answers.{numberOf, storesOf}
 use Rattle.text.specs.declared.Line.{Line}
-use Rattle.calling.specs.WriteLine.{num}
 use Rattle.state_words.specs.Decoded.{decoded}
-use Rattle.workbench.specs.declared.Said.the-variants.{OtherForm, Answered}
+use Rattle.workbench.specs.declared.Said.the-variants.{OtherForm, Answered, Hash}
 use Rattle.workbench.specs.declared.Said.{Said}
 
--- at first every number is 0, last positions too
+-- at first every number is 0, last positions and the map's entries too
 abbrev pub firstTable : Table
 firstTable = record { page = replicate 16 0; original = replicate 16 0; spare = replicate 16 0; bitmap = replicate 16 0; last = replicate 16 0 }
 
@@ -30,6 +29,7 @@ firstState =
       tail = 0;
       next = 0;
       table = firstTable;
+      map = replicate 1024 0;
       writers = record { opened = replicate 4 false; held = replicate 64 0; prepared = noWriter };
       wide = noWide;
       pending = noPending;
@@ -46,7 +46,7 @@ turnAt said words = record { st = decoded words; said = said }
 
 -- number i of a line
 abbrev pub arg : Line → ℕ → ℕ
-arg line i = num (line .numbers) i
+arg line i = getD (line .numbers) i 0
 
 -- an edit has answer 0 and count 0
 abbrev pub done : Said
@@ -81,3 +81,7 @@ called o = record { st = o .state; said = Answered (o .number) (o .stores) }
 -- format and mount: a taken one replaces the state
 abbrev pub replacing : State → Outcome → Turn
 replacing st o = record { st = cond (eqb (o .number) 0) (o .state) st; said = Answered (o .number) (o .stores) }
+
+-- a call that reads, with row 0 where it is taken: the hash of what it read, or its row
+abbrev pub hashedSaid : ℕ → ℕ → Said
+hashedSaid row h = cond (eqb row 0) (Hash h) (Answered row 0)

@@ -7,6 +7,7 @@ use std::process::ExitCode;
 
 use model::compare::coverage::Coverage;
 use model::compare::program::Program;
+use model::compare::reach::Reached;
 use model::compare::shrink::shrink;
 use model::compare::Kind;
 use model::script::lines::lines;
@@ -29,11 +30,13 @@ fn main() -> ExitCode {
         eprintln!("{USAGE}");
         return ExitCode::from(2);
     };
-    let mut coverage = Coverage::default();
+    let (mut coverage, mut reached) = (Coverage::default(), Reached::default());
     for index in 0..wanted.scripts {
         let script = wanted.kind.script(wanted.seed, index, wanted.calls);
-        let printed = wanted.kind.model(&script);
-        coverage.add(wanted.kind, &wanted.kept(&printed, &printed).join(&b'\n'));
+        coverage.add(wanted.kind, &wanted.kind.model(&script));
+        if wanted.kind == Kind::Probe {
+            reached.add(&script);
+        }
         if let Some(difference) = wanted.difference(&script) {
             println!("script {index} of seed {} differs: {difference}", wanted.seed);
             wanted.report(&script);
@@ -41,13 +44,17 @@ fn main() -> ExitCode {
         }
     }
     print!("{coverage}");
-    let mut missing = coverage.missing(wanted.kind);
-    missing.retain(|(call, _)| !(wanted.skip_recall && *call == 'E'));
-    if !missing.is_empty() {
-        let missing: Vec<String> = missing.iter().map(|(call, answer)| format!("{call} {answer}")).collect();
-        println!("not seen: {}", missing.join(", "));
+    let mut missing: Vec<String> =
+        coverage.missing(wanted.kind).iter().map(|(call, answer)| format!("{call} {answer}")).collect();
+    if wanted.kind == Kind::Probe {
+        print!("{reached}");
+        missing = reached.missing().iter().map(|target| format!("{target:?}")).collect();
     }
-    ExitCode::SUCCESS
+    if missing.is_empty() {
+        return ExitCode::SUCCESS;
+    }
+    println!("not reached: {}", missing.join(", "));
+    ExitCode::from(3)
 }
 
 /// None where an argument is missing, unknown or wrong.

@@ -22,7 +22,7 @@ struct Damaged {
 
 impl Damaged {
     fn fresh(sizes: Sizes) -> Damaged {
-        let lines = format!("L,{BUFFER}\nF,{},{},{}\n", sizes.p, sizes.s, sizes.j);
+        let lines = format!("L,{BUFFER}\nF,{},{},{}\nN,9999\n", sizes.p, sizes.s, sizes.j);
         Damaged { sizes, lines }
     }
 
@@ -71,11 +71,11 @@ impl Damaged {
     }
 }
 
-/// A format that is turned back keeps every byte, and any keeps those past the image.
+/// A format that is turned back keeps every byte, a taken one the bytes past the image.
 fn formats() {
     let end = SMALL.image_length();
     let case = |p: u64, s: u64, j: u64, length: usize| {
-        println!("U,4,9\nU,{},7\nL,{length}\nF,{p},{s},{j}\nH", end / 8);
+        println!("U,4,9\nU,{},7\nL,{length}\nF,{p},{s},{j}\nH\nN,9999\nH", end / 8);
     };
     let ranges = [(0, 1, 2), (1025, 1, 2), (2, 0, 2), (2, 17, 17), (2, 1, 0), (3, 2, 1), (2, 1, 257)];
     for (p, s, j) in ranges {

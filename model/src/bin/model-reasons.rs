@@ -2,7 +2,9 @@
 //!
 //! Its tables stand by call, where document 01's table stands by number, and its reader goes from left to right.
 
-use model::calls::{abort, begin, begin_wide, confirm, consolidate, event, free_slot, prepare, run, withdraw, write, Patch};
+use model::calls::{
+    abort, begin, begin_wide, confirm, consolidate, event, free_slot, prepare, run, withdraw, write, Patch,
+};
 use model::layout::Sizes;
 use model::meters::{fixed_moduli, Asked};
 use model::mount::format;
@@ -37,19 +39,19 @@ const CALLS: [Call; 19] = [
     call("Recall", "pl", &[1, 2, 3, 4, 5, 6, 7, 11]),
     call("Begin", "w", &[8, 9, 11, 12, 29]),
     call("Abort", "w", &[8, 9, 11, 13, 23]),
-    call("Write", "wpl", &[4, 8, 9, 11, 13, 14, 15, 16, 23, 30]),
+    call("Write", "wpl", &[4, 8, 9, 11, 13, 14, 15, 23, 30]),
     call("Commit", "w", &[4, 8, 9, 11, 13, 19, 23]),
     call("Consolidate", "p", &[4, 8, 9, 11, 17, 18, 19, 23]),
     call("Checkpoint", "", &[4, 8, 9]),
-    call("Read", "wpl", &[4, 8, 9, 11, 16]),
+    call("Read", "wpl", &[4, 8, 9, 11]),
     call("Step", "", &[4, 8, 10]),
     call("Run", "", &[4, 8, 10]),
     call("Free slot", "", &[4, 8, 9, 19, 22, 23]),
-    call("Event", "", &[4, 8, 9, 12, 14, 15, 16, 19, 20, 21, 23, 26, 29]),
+    call("Event", "", &[4, 8, 9, 12, 14, 15, 19, 20, 21, 23, 26, 29]),
     call("Prepare", "w", &[4, 8, 9, 11, 13, 19, 23, 29]),
     call("A confirm", "w", &[4, 8, 9, 11, 24]),
     call("Withdraw", "w", &[4, 8, 9, 11, 24]),
-    call("Load", "", &[4, 8, 9, 16, 25, 26, 27]),
+    call("Load", "", &[4, 8, 9, 25, 26, 27]),
     call("Wide begin", "w", &[8, 9, 11, 28, 29]),
 ];
 const WRITE: usize = 5;
@@ -80,7 +82,6 @@ fn text(number: u64) -> &'static str {
         13 => "the writer is not open",
         14 => "another writer holds the line",
         15 => "the page has no slot and none is free",
-        16 => "the page table names a wrong frame for the page",
         17 => "the page has no slot",
         18 => "a writer holds a line of the page",
         19 => "the journal has no room for the records",
@@ -147,7 +148,11 @@ fn number(text: &str) -> Option<(u64, &str)> {
 
 /// A field after its label: as the first with a capital after a blank, as a later one after a comma.
 fn field<'a>(text: &'a str, first: &mut bool, label: &str) -> Option<(u64, &'a str)> {
-    let start = if *first { format!(" {}{} ", label[..1].to_uppercase(), &label[1..]) } else { format!(", {label} ") };
+    let start = if *first {
+        format!(" {}{} ", label[..1].to_uppercase(), &label[1..])
+    } else {
+        format!(", {label} ")
+    };
     *first = false;
     number(text.strip_prefix(&start)?)
 }
@@ -181,7 +186,9 @@ fn read_back(whole: &str) -> Option<(usize, u64, Met)> {
 fn back(text: &str) -> String {
     match read_back(text) {
         Some((call, number, Met { writer, page, line, holder })) => {
-            format!("  call {call}, number {number}, writer {writer}, page {page}, line {line}, holder {holder}")
+            format!(
+                "  call {call}, number {number}, writer {writer}, page {page}, line {line}, holder {holder}"
+            )
         }
         None => "  nothing".to_string(),
     }
@@ -210,7 +217,12 @@ fn show_call(place: usize) {
         turned_back += usize::from(sentences.is_empty());
         for sentence in sentences {
             assert!(sentence.len() <= 200 && sentence.bytes().all(|b| (32..127).contains(&b)));
-            println!("{sentence}\n{}; damaged {}, nothing {}", back(&sentence), sentence.len(), damaged(&sentence));
+            println!(
+                "{sentence}\n{}; damaged {}, nothing {}",
+                back(&sentence),
+                sentence.len(),
+                damaged(&sentence)
+            );
         }
     }
     println!("call {place}: turned back {turned_back}");
@@ -377,7 +389,9 @@ fn show_met() {
     for writer in [3, 1, 0] {
         begin(&mut store.state, writer).expect("a taken begin");
     }
-    for (writer, page, line) in [(3, 1, 5), (1, 1, 6), (0, 1, 6), (3, 1, 6), (0, 1, 5), (0, 0, 5), (2, 1, 7), (0, 2, 64)] {
+    for (writer, page, line) in
+        [(3, 1, 5), (1, 1, 6), (0, 1, 6), (3, 1, 6), (0, 1, 5), (0, 0, 5), (2, 1, 7), (0, 2, 64)]
+    {
         store.write(writer, page, line);
     }
     store.consolidate(1);

@@ -106,7 +106,7 @@ impl Machine {
         let mut trace = Trace(vec![]);
         while let Some(pending) = &self.state.pending {
             let store = plan(&self.state, &pending.operation)[pending.made as usize];
-            let at = store.at.address(&self.image) / 8;
+            let at = store.at / 8;
             calls::step(&mut self.state, &mut self.image).expect("an operation is pending");
             trace.0.push((at, word(&self.image, 8 * at)));
         }

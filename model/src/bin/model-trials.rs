@@ -126,7 +126,7 @@ impl Trial {
         }
         let operation = self.state.pending.as_ref().expect("stores are left").operation.clone();
         for store in plan(&self.state, &operation) {
-            self.put_down(store.at.address(&self.image), &operation);
+            self.put_down(store.at, &operation);
         }
         assert_eq!(run(&mut self.state, &mut self.image, needed), Ok(needed));
         Ok(())

@@ -1,7 +1,8 @@
 //! The store's program `wide_rounds`, by the model: a wide round cut at every store, calls of a table, then calls that a generator picks.
 
 use model::calls::{
-    abort, begin, begin_wide, checkpoint, commit, confirm, consolidate, event, free_slot, prepare, read, run, withdraw, write, Patch,
+    abort, begin, begin_wide, checkpoint, commit, confirm, consolidate, event, free_slot, prepare, read, run,
+    withdraw, write, Patch,
 };
 use model::image::word;
 use model::layout::Sizes;
@@ -233,9 +234,12 @@ impl Store {
             EVENT => event(state, image, Asked { kind: page, meter: 23, amount: 1 }, &fixed_moduli()),
             BEGIN_WIDE => begin_wide(state, writer),
             _ => {
-                state.wide.writer = Some(writer);
-                state.wide.keys.resize(page as usize, 0);
-                state.wide.keys.iter_mut().take(1).for_each(|key| *key = line);
+                let used = state.wide.used as usize;
+                state.wide.keys[used..].fill(0);
+                (state.wide.writer, state.wide.used) = (Some(writer), page);
+                if page > 0 {
+                    state.wide.keys[0] = line;
+                }
                 Ok(0)
             }
         }

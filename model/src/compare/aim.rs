@@ -3,6 +3,7 @@
 use super::rng::Rng;
 use crate::layout::Sizes;
 use crate::script::BUFFER;
+use crate::slots::lines_of;
 use crate::state::{State, WRITERS};
 
 /// Sizes that fit the buffer: mostly small ones, some that fill it.
@@ -110,6 +111,27 @@ impl Aim<'_> {
         self.rng.below(p)
     }
 
+    /// A page and a line of it: one with an entry in half the cases, if there is any.
+    pub fn entry_place(&mut self) -> (u64, u64) {
+        let used = self.state.wide.keys_used();
+        if !used.is_empty() && self.rng.percent(50) {
+            let key = self.rng.pick(used);
+            return (key / 64, key % 64);
+        }
+        (self.page(50), self.line())
+    }
+
+    /// A page and a line that a writer holds, if there is any.
+    pub fn held_place(&mut self) -> Option<(u64, u64)> {
+        let slots = 0..self.state.slot_count();
+        let held = |slot: usize| self.state.writers.iter().fold(0, |all, writer| all | writer.held[slot]);
+        let places: Vec<(u64, u64)> = slots
+            .flat_map(|slot| lines_of(held(slot)).into_iter().map(move |line| (slot, line)))
+            .map(|(slot, line)| (self.state.slots[slot].page, line))
+            .collect();
+        (!places.is_empty()).then(|| self.rng.pick(&places))
+    }
+
     /// A line, now and then out of range.
     pub fn line(&mut self) -> u64 {
         if self.rng.percent(2) {
@@ -159,8 +181,9 @@ impl Aim<'_> {
 
     /// A write's line by a given writer.
     pub fn write(&mut self, writer: u64) -> String {
-        let (page, line, (offset, length)) = (self.page(40), self.line(), self.span());
-        self.write_at((writer, page, line), (offset, length))
+        let (page, line) = (self.page(40), self.line());
+        let span = self.span();
+        self.write_at((writer, page, line), span)
     }
 
     pub fn write_at(

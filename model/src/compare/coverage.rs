@@ -3,10 +3,11 @@
 use std::collections::BTreeMap;
 use std::fmt;
 
+use super::reach::ANSWERS;
 use super::Kind;
 
 /// Lines of these letters are calls of the store; the others set or show something.
-const CALLS: &str = "FMXBACDPWSNREn";
+const CALLS: &str = "FMXBACDPWSNREVIJZKlnbavwcdp";
 
 #[derive(Default)]
 pub struct Coverage {
@@ -55,7 +56,7 @@ impl Coverage {
 }
 
 /// The answers that each call can give in a kind of script. In powerhit the state and the image are
-/// always right, so rows 1, 5 to 10 and 16 are out of reach, and row 2 for all but a format that is cut.
+/// always right, so rows 1 and 5 to 10 are out of reach, and row 2 for all but a format that is cut.
 fn reachable(kind: Kind) -> &'static [(char, &'static [u8])] {
     match kind {
         Kind::Powerhit => &[
@@ -70,21 +71,7 @@ fn reachable(kind: Kind) -> &'static [(char, &'static [u8])] {
             ('W', &[0, 11, 13, 14, 15]),
             ('R', &[0, 11]),
         ],
-        Kind::Probe => &[
-            ('F', &[0, 3, 4]),
-            ('M', &[0, 1, 2, 3, 4, 5, 6, 7]),
-            ('E', &[0, 1, 2, 3, 4, 5, 6, 7, 11]),
-            ('B', &[0, 8, 9, 11, 12]),
-            ('A', &[0, 8, 9, 11, 13]),
-            ('C', &[0, 8, 4, 9, 11, 13, 19]),
-            ('D', &[0, 8, 4, 9, 11, 17, 18, 19]),
-            ('P', &[0, 8, 4, 9]),
-            ('W', &[0, 8, 4, 9, 11, 13, 14, 15, 16]),
-            ('R', &[0, 8, 4, 9, 11, 16]),
-            ('S', &[0, 8, 4, 10]),
-            ('N', &[0, 8, 4, 10]),
-            ('n', &[0, 8, 4, 10]),
-        ],
+        Kind::Probe => ANSWERS,
         // its 22 numbers tell no call's answer
         Kind::Wear => &[],
     }

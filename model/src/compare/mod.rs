@@ -4,28 +4,24 @@
 //! - `scribe`: a script as it grows, beside the model's own session, so that choices can follow the state
 //! - `aim`: sensible arguments for the state at hand, and some that are not
 //! - `malform`: lines of another form
-//! - `powerhit_scripts`, `probe_scripts`, `wear_scripts`: the generators
-//! - `probe_edits`, `probe_wholes`: the parts of probe's scripts that set numbers, whole states and whole images
-//! - `breaches`, `states`: which numbers these are
+//! - `powerhit_scripts`, `probe`, `wear_scripts`: the generators
+//! - `reach`: what probe's scripts must reach
 //! - `coverage`: how often each answer was seen
 //! - `program`, `shrink`: running the other program, and the shortest script that shows a difference
 
 pub mod aim;
-mod breaches;
 pub mod coverage;
 pub mod malform;
 pub mod powerhit_scripts;
-mod probe_edits;
-pub mod probe_scripts;
-mod probe_wholes;
+pub mod probe;
 pub mod program;
+pub mod reach;
 pub mod rng;
 pub mod scribe;
 pub mod shrink;
-pub mod states;
 mod wear_scripts;
 
-use crate::script::{powerhit::powerhit, probe::probe, wear::wear};
+use crate::script::{powerhit, probe as probe_program, wear};
 use rng::Rng;
 
 #[derive(Clone, Copy, Debug, PartialEq, Eq)]
@@ -48,9 +44,9 @@ impl Kind {
     /// What the model prints for a script.
     pub fn model(self, script: &[u8]) -> Vec<u8> {
         match self {
-            Kind::Powerhit => powerhit(script),
-            Kind::Probe => probe(script),
-            Kind::Wear => wear(script),
+            Kind::Powerhit => powerhit::powerhit(script),
+            Kind::Probe => probe_program::probe(script),
+            Kind::Wear => wear::wear(script),
         }
     }
 
@@ -61,7 +57,7 @@ impl Kind {
         let lines = if short { rng.between(1, calls.min(12)) } else { rng.between(calls.div_ceil(2), calls) };
         match self {
             Kind::Powerhit => powerhit_scripts::script(rng, lines as usize),
-            Kind::Probe => probe_scripts::script(rng, lines as usize),
+            Kind::Probe => probe::script(rng, index, lines as usize),
             Kind::Wear => wear_scripts::script(rng, lines as usize),
         }
     }

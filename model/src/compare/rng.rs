@@ -1,5 +1,6 @@
 //! A small generator of random numbers (SplitMix64): the same seed always gives the same scripts.
 
+#[derive(Clone)]
 pub struct Rng(u64);
 
 impl Rng {

@@ -3,7 +3,7 @@
 
 use super::rng::Rng;
 use crate::layout::Sizes;
-use crate::script::{powerhit, probe};
+use crate::script::powerhit;
 use crate::state::State;
 
 pub trait Session {
@@ -19,16 +19,6 @@ impl Session for powerhit::Session {
 
     fn state(&self) -> State {
         powerhit::Session::state(self).cloned().unwrap_or_else(|| State::empty(Sizes::default()))
-    }
-}
-
-impl Session for probe::Session {
-    fn turn(&mut self, line: &[u8]) {
-        probe::Session::turn(self, line);
-    }
-
-    fn state(&self) -> State {
-        probe::Session::state(self).clone()
     }
 }
 

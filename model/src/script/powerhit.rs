@@ -47,6 +47,7 @@ fn parse(line: &[u8]) -> Option<(char, Command)> {
 }
 
 /// The program between two lines.
+#[derive(Clone)]
 pub struct Session {
     buffer: Vec<u8>,
     /// None before a taken F, and after one whose cut left nothing that mounts.
@@ -59,7 +60,7 @@ pub struct Session {
 }
 
 /// Byte addresses of stores, and the sizes of the state that made them.
-#[derive(Default)]
+#[derive(Clone, Default)]
 pub struct Stored {
     pub sizes: Sizes,
     pub at: Vec<usize>,
@@ -95,6 +96,10 @@ impl Session {
 
     pub fn stored(&self) -> &Stored {
         &self.stored
+    }
+
+    pub fn buffer(&self) -> &[u8] {
+        &self.buffer
     }
 
     /// One line's turn: the line that it prints, with its newline.
@@ -159,7 +164,7 @@ impl Session {
         let state = self.state.as_mut().expect("an F was taken");
         let cut = self.cut.take();
         let operation = &state.pending.as_ref().expect("stores are needed").operation;
-        let at = plan(state, operation).iter().map(|store| store.at.address(&self.buffer)).collect();
+        let at = plan(state, operation).iter().map(|store| store.at).collect();
         self.stored = Stored { sizes: state.sizes, at };
         let made = calls::run(state, &mut self.buffer, cut.unwrap_or(needed));
         let made = made.expect("an operation was taken just now");

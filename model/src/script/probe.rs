@@ -1,24 +1,31 @@
-//! Program probe: every call on any state and any bytes (PROBE.md).
+//! Program probe, second form: every call on any state and any bytes. docs/PROBE.md is its protocol; the headings below are
+//! its headings.
 
 mod edit;
-mod print;
+mod show;
+
+pub use show::pending_numbers;
 
 use super::{lines, BUFFER, OTHER_FORM};
 use crate::calls::{self, Patch};
-use crate::image::put_word;
 use crate::layout::Sizes;
-use crate::mount::{format, mount, recall};
+use crate::meters::{fixed_moduli, Asked, METERS};
+use crate::mount::{ask_format, mount, recall};
 use crate::refusal::Answer;
 use crate::state::State;
 
 const DIGITS: usize = 20;
 
 /// The program between two lines.
+#[derive(Clone)]
 pub struct Session {
     buffer: Vec<u8>,
     /// How many of the buffer's first bytes the calls are lent.
     lent: usize,
     state: State,
+    moduli: Vec<u64>,
+    /// How many of the moduli events are lent.
+    moduli_lent: usize,
     line: u64,
 }
 
@@ -28,9 +35,10 @@ type Printed = (u64, String);
 impl Default for Session {
     fn default() -> Session {
         let mut state = State::empty(Sizes::default());
-        // At first every number is 0, last positions too.
+        // "at first every number 0": last positions too
         state.last.fill(Some(0));
-        Session { buffer: vec![0; BUFFER], lent: BUFFER, state, line: 0 }
+        let moduli = fixed_moduli();
+        Session { buffer: vec![0; BUFFER], lent: BUFFER, state, moduli, moduli_lent: METERS, line: 0 }
     }
 }
 
@@ -47,6 +55,10 @@ impl Session {
         self.lent
     }
 
+    pub fn moduli(&self) -> &[u64] {
+        &self.moduli[..self.moduli_lent]
+    }
+
     /// One line's turn: the line that it prints, with its newline.
     pub fn turn(&mut self, line: &[u8]) -> String {
         self.line += 1;
@@ -55,12 +67,11 @@ impl Session {
         let number = self.line;
         match turned {
             None => format!("{number},{OTHER_FORM},{OTHER_FORM},0,-\n"),
-            Some((letter, answer)) => {
-                let letter = char::from(letter);
-                match answer {
-                    Ok((count, last)) => format!("{number},{letter},0,{count},{last}\n"),
-                    Err(refusal) => format!("{number},{letter},{},0,-\n", refusal.number()),
-                }
+            Some((letter, Ok((count, last)))) => {
+                format!("{number},{},0,{count},{last}\n", char::from(letter))
+            }
+            Some((letter, Err(refusal))) => {
+                format!("{number},{},{},0,-\n", char::from(letter), refusal.number())
             }
         }
     }
@@ -68,52 +79,45 @@ impl Session {
     /// None for a line of another form.
     fn perform(&mut self, letter: u8, numbers: &[u64]) -> Option<Answer<Printed>> {
         match letter {
-            b'L' | b'Y' | b'U' => self.edit_buffer(letter, numbers).map(|()| plain(Ok(0))),
-            b'T' | b'O' | b'Q' => edit::edit(&mut self.state, letter, numbers).map(|()| plain(Ok(0))),
-            b'G' | b'H' => self.print(letter, numbers).map(|last| Ok((0, last))),
+            b'L' | b'Y' | b'U' | b'T' | b'O' | b'Q' | b'm' | b'k' => {
+                self.set(letter, numbers).map(|()| plain(Ok(0)))
+            }
+            b'G' | b'H' => self.show(letter, numbers).map(|last| Ok((0, last))),
             b'F' | b'M' => self.replace_state(letter, numbers).map(plain),
-            b'R' | b'E' => self.show(letter, numbers),
+            b'R' | b'E' => self.read(letter, numbers),
+            b'l' => self.load(numbers),
             b'n' => self.tell(numbers),
+            b'b' | b'a' | b'v' | b'w' | b'c' | b'd' | b'p' => self.call_in_place(letter, numbers).map(plain),
             _ => self.call(letter, numbers).map(plain),
         }
     }
 
-    fn edit_buffer(&mut self, letter: u8, numbers: &[u64]) -> Option<()> {
+    /// What is shown.
+    fn show(&self, letter: u8, numbers: &[u64]) -> Option<String> {
         match (letter, numbers) {
-            (b'L', &[n]) if n <= BUFFER as u64 => self.lent = n as usize,
-            (b'Y', &[at, value]) if at < BUFFER as u64 => {
-                self.buffer[at as usize] = u8::try_from(value).ok()?;
-            }
-            (b'U', &[i, value]) if i < BUFFER as u64 / 8 => put_word(&mut self.buffer, 8 * i as usize, value),
-            _ => return None,
-        }
-        Some(())
-    }
-
-    fn print(&self, letter: u8, numbers: &[u64]) -> Option<String> {
-        match (letter, numbers) {
-            (b'G', []) => Some(print::state(&self.state)),
-            (b'H', []) => Some(print::hash(&self.buffer).to_string()),
+            (b'G', []) => Some(show::state(&self.state)),
+            (b'H', []) => Some(show::hash(&self.buffer).to_string()),
             _ => None,
         }
     }
 
-    /// Format and mount; a taken one replaces the state.
+    /// Format, asked for, and mount; a taken one replaces the state.
     fn replace_state(&mut self, letter: u8, numbers: &[u64]) -> Option<Answer<u64>> {
-        let lent = &mut self.buffer[..self.lent];
+        let lent = &self.buffer[..self.lent];
         let answer = match (letter, numbers) {
-            (b'F', &[p, s, j]) => format(Sizes { p, s, j, l: 0 }, lent),
-            (b'M', []) => mount(lent),
+            (b'F', &[p, s, j]) => ask_format(Sizes { p, s, j, l: 0 }, lent),
+            (b'F', &[p, s, j, l]) => ask_format(Sizes { p, s, j, l }, lent),
+            (b'M', []) => mount(lent).map(|state| (state, 0)),
             _ => return None,
         };
-        Some(answer.map(|state| {
+        Some(answer.map(|(state, needed)| {
             self.state = state;
-            0
+            needed
         }))
     }
 
     /// Read and recall, into a target of t bytes.
-    fn show(&self, letter: u8, numbers: &[u64]) -> Option<Answer<Printed>> {
+    fn read(&self, letter: u8, numbers: &[u64]) -> Option<Answer<Printed>> {
         let &t = numbers.last().filter(|&&t| t <= 128)?;
         let mut target = vec![0; t as usize];
         let lent = &self.buffer[..self.lent];
@@ -124,7 +128,20 @@ impl Session {
             (b'E', &[page, line, _]) => recall(page, line, lent, &mut target),
             _ => return None,
         };
-        Some(answer.map(|()| (0, print::hash(&target[..64]).to_string())))
+        Some(answer.map(|()| (0, show::hash(&target[..64]).to_string())))
+    }
+
+    /// Load: "its text is the n bytes of the buffer from at on, whatever length is lent".
+    fn load(&mut self, numbers: &[u64]) -> Option<Answer<Printed>> {
+        let &[at, n] = numbers else { return None };
+        let end = at.checked_add(n).filter(|&end| end <= BUFFER as u64)?;
+        let text = &self.buffer[at as usize..end as usize];
+        let loaded = calls::load(&self.state, &self.buffer[..self.lent], text);
+        Some(loaded.map(|moduli| {
+            let bytes: Vec<u8> = moduli.iter().flat_map(|modulus| modulus.to_le_bytes()).collect();
+            (self.moduli, self.moduli_lent) = (moduli, METERS);
+            (0, show::hash(&bytes).to_string())
+        }))
     }
 
     /// Next store: its word's number, and 1 where it decides.
@@ -135,21 +152,39 @@ impl Session {
 
     /// The other calls: the stores needed or, for step and run, made.
     fn call(&mut self, letter: u8, numbers: &[u64]) -> Option<Answer<u64>> {
+        let moduli = &self.moduli[..self.moduli_lent];
         let (state, lent) = (&mut self.state, &mut self.buffer[..self.lent]);
         Some(match (letter, numbers) {
             (b'B', &[writer]) => calls::begin(state, writer),
             (b'A', &[writer]) => calls::abort(state, writer),
-            (b'C', &[writer]) => calls::commit(state, lent, writer),
-            (b'D', &[page]) => calls::consolidate(state, lent, page),
-            (b'P', &[]) => calls::checkpoint(state, lent),
+            (b'V', &[writer]) => calls::begin_wide(state, writer),
             (b'W', &[writer, page, line, offset, length, ref data @ ..]) => {
                 let data = lines::data(data)?;
                 calls::write(state, lent, (writer, page, line), Patch { offset, length, data: &data })
+            }
+            (b'C', &[writer]) => calls::commit(state, lent, writer),
+            (b'D', &[page]) => calls::consolidate(state, lent, page),
+            (b'X', &[]) => calls::free_slot(state, lent),
+            (b'P', &[]) => calls::checkpoint(state, lent),
+            (b'I', &[writer]) => calls::prepare(state, lent, writer),
+            (b'J', &[writer]) => calls::confirm(state, lent, writer),
+            (b'Z', &[writer]) => calls::withdraw(state, lent, writer),
+            (b'K', &[kind, meter, amount]) => {
+                calls::event(state, lent, Asked { kind, meter, amount }, moduli)
             }
             (b'S', &[]) => calls::step(state, lent),
             (b'N', &[k]) => calls::run(state, lent, k),
             _ => return None,
         })
+    }
+
+    /// The calls in place: "with a run of all stores behind it, and the same answers"; the stores made.
+    fn call_in_place(&mut self, letter: u8, numbers: &[u64]) -> Option<Answer<u64>> {
+        let asked = self.call(letter.to_ascii_uppercase(), numbers)?;
+        Some(asked.and_then(|needed| match needed {
+            0 => Ok(0),
+            _ => calls::run(&mut self.state, &mut self.buffer[..self.lent], needed),
+        }))
     }
 }
 

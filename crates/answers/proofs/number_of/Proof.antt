@@ -94,14 +94,10 @@ returns-29 c = sym (ap numberOf (c .enum-told29 .given .1))
 returns-30 : tie.Need-returns-30
 returns-30 c = sym (ap numberOf (c .enum-told30 .given .1))
 
-returns-31 : tie.Need-returns-31
-returns-31 c = sym (ap numberOf (c .enum-told31 .given .1))
-
 pub number-of-spec : {M : Type 1} → statement M
 number-of-spec =
     tie.close
     (tie.spec
-    (λ c. search needs)
     (λ c. search needs)
     (λ c. search needs)
     (λ c. search needs)
@@ -161,5 +157,4 @@ number-of-spec =
     returns-27
     returns-28
     returns-29
-    returns-30
-    returns-31)
+    returns-30)

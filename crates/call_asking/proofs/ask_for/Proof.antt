@@ -19,7 +19,7 @@ abbrev st : tie.Start → State
 st s = decoded (s .args .words .now)
 
 abbrev own : tie.Start → List Row
-own s = opRows (st s) (s .args .op) 0
+own s = opRows (st s) (s .args .op)
 
 returns : tie.Need-returns
 returns c =

@@ -23,7 +23,7 @@ returns c =
     let s = t .before .before .before .before .before .before in
     let rs = abortRows (st s) (s .args .writer) in
     let e = row-at rs 0 (omega arith) tt (sym (ap not (t .state-ok .ensures)) ∙ c .if1 .taken) in
-    (row-refused (st s) (aborting (st s) (s .args .writer)) rs 8 e BadState (λ q. omega arith) (row-known rs (omega arith)) refl, λ n. refl)
+    (row-refused (st s) (aborting (st s) (s .args .writer)) rs 8 e BadState (λ q. omega arith) (row-known rs refl) refl, λ n. refl)
 
 abort-valid-requires : tie.Need-abort-valid-requires
 abort-valid-requires c κs = (c .before .before .before .before .before .before .sizes-in .ensures, c .before .before .before .before .places-in .ensures, held _ _ (c .before .before .state-ok .ensures) (c .before .if1 .left))

@@ -31,7 +31,7 @@ returns c =
     let r = c .before .before in
     let s = start r in
     let rs = abortRows (st s) (s .args .writer) in
-    (row-refused (st s) (aborting (st s) (s .args .writer)) rs _ (r .abort-row .ensures) _ (c .before .if1 .taken) (row-known rs (omega arith)) (c .answer-of .ensures), λ n. refl)
+    (row-refused (st s) (aborting (st s) (s .args .writer)) rs _ (r .abort-row .ensures) _ (c .before .if1 .taken) (row-known rs refl) (c .answer-of .ensures), λ n. refl)
 
 put-open-requires : tie.Need-put-open-requires
 put-open-requires c κs = may (c .before) .writer-low

@@ -23,7 +23,7 @@ returns c =
     let s = t .before .before .before .before .before .before in
     let rs = beginRows (st s) (s .args .writer) in
     let e = row-at rs 0 (omega arith) tt (sym (ap not (t .state-ok .ensures)) ∙ c .if1 .taken) in
-    (row-refused (st s) (withWriters (st s) (opening (st s) (s .args .writer))) rs 8 e BadState (λ q. omega arith) (row-known rs (omega arith)) refl, refl)
+    (row-refused (st s) (withWriters (st s) (opening (st s) (s .args .writer))) rs 8 e BadState (λ q. omega arith) (row-known rs refl) refl, refl)
 
 begin-valid-requires : tie.Need-begin-valid-requires
 begin-valid-requires c κs = (c .before .before .before .before .places-in .ensures, held _ _ (c .before .before .state-ok .ensures) (c .before .if1 .left))

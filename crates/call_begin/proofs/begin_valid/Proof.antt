@@ -24,7 +24,7 @@ returns c =
     let s = w .before .before in
     let rs = beginRows (st s) (s .args .writer) in
     let after = withWriters (st s) (opening (st s) (s .args .writer)) in
-    let e = row-refused (st s) after rs _ (w .begin-row .ensures) _ (c .before .if1 .taken) (row-known rs (omega arith)) (c .answer-of .ensures) in
+    let e = row-refused (st s) after rs _ (w .begin-row .ensures) _ (c .before .if1 .taken) (row-known rs refl) (c .answer-of .ensures) in
     (e, kept-words (c .answer-of .result) (st s) after rs _ _ (set (s .args .words .now) (10 + s .args .writer) 1) (w .begin-row .ensures) (c .before .if1 .taken) e)
 
 put-open-requires : tie.Need-put-open-requires

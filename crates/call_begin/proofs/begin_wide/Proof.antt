@@ -19,7 +19,7 @@ returns c =
     let r = c .before .before in
     let s = r .before .before in
     let rs = beginWideRows (st s) (s .args .writer) in
-    (row-refused (st s) (beginningWide (st s) (s .args .writer)) rs _ (r .wide-row .ensures) _ (c .before .if1 .taken) (row-known rs (omega arith)) (c .answer-of .ensures), λ n. refl)
+    (row-refused (st s) (beginningWide (st s) (s .args .writer)) rs _ (r .wide-row .ensures) _ (c .before .if1 .taken) (row-known rs refl) (c .answer-of .ensures), λ n. refl)
 
 put-open-requires : tie.Need-put-open-requires
 put-open-requires c κs =

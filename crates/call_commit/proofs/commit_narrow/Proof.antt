@@ -40,7 +40,7 @@ returns c =
     let n = c .before .before .before in
     let s = n .before .before .before .before in
     let none : needsOf (st s) (Commit (s .args .w)) ≡ 0 = sym (all n) ∙ c .before .before .if1 .taken in
-    (ap Taken (sym none), started-done (st s) (s .args .image .now) (s .args .until) [] 0 refl refl (Commit (s .args .w)) (replicate 8 0) 0 none (Taken 0) _ refl (c .complete-commit .ensures))
+    (ap Taken (sym none), started-done (st s) (s .args .image .now) (s .args .until) [] 0 refl refl (Commit (s .args .w)) (replicate 8 0) none (Taken 0) _ refl (c .complete-commit .ensures))
 
 put-pending-requires : tie.Need-put-pending-requires
 put-pending-requires c κs =

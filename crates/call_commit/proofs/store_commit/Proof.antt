@@ -65,7 +65,7 @@ loop-again c =
     let m = c .before .before .before .before .smaller .ensures in (
       omega (arith, m, c .before .before .before .before .before .before .before .loop-test .taken),
       search needs,
-      piece-turn (λ u. storeAt (st s) u (st s .pending .op)) (λ u. storeValue (st s) u (st s .pending .op)) (st s .pending .made) (l .i) _ _ _ (s .args .image .now) (l .image) _ (l .inv .2)
+      piece-turn (λ u. storeAt (st s) (st s .pending .op)) (λ u. storeValue (st s) u (st s .pending .op)) (st s .pending .made) (l .i) _ _ _ (s .args .image .now) (l .image) _ (l .inv .2)
           (piece-next (s .args .z) (s .args .at) (st s) (s .args .w) (s .args .c) (s .pre .0) (l .i) (l .image) _ (omega (arith, s .pre .2, l .inv .1)) h)
           (omega (arith, h .some, m)) (c .before .before .put-piece .ensures),
     )

@@ -7,7 +7,6 @@ use Rattle.meters.proofs.MeterLaws.{first-low}
 use Rattle.state.specs.State.{State}
 use Rattle.state.specs.declared.Pending.{Pending}
 use Rattle.state.specs.declared.Op.the-variants.{Event}
-use Rattle.refinement.specs.Frames.{pageFrame}
 use Rattle.refinement.specs.Calls.{eventLine, eventSecond}
 use Rattle.answers.specs.Answers.{numberOf}
 use Rattle.call_event.proofs.Asked.{event-pending, asked-facts}
@@ -31,7 +30,7 @@ first-number-requires c κs =
     let f = c .before .before .event-found .ensures in
     let z = c .if1 .left in
     let q = asked-facts (st (c .before .before .before .before .before .before .before .before .before .before .before)) (a .image .now) (a .moduli .now) (a .kind) (a .meter) (a .amount) (sym (f .0) ∙ z) in
-    (q .3, q .1 .known, ap (λ (x : ℕ). amountBad (a .moduli .now) (a .kind) (a .meter) x (a .amount)) (f .1 z .3) ∙ q .2)
+    (q .3, q .1 .known, ap (λ (x : ℕ). amountBad (a .moduli .now) (a .kind) (a .meter) x (a .amount)) (f .1 z .2) ∙ q .2)
 
 numbered-line-requires : tie.Need-numbered-line-requires
 numbered-line-requires c κs =
@@ -55,8 +54,8 @@ second-line-requires c κs =
 
 -- what is then pending is the definition's
 pending : (c : tie.After-second-line) → let s = c .before .before .before .before .before .before .before .before .before .before .before .before .before .before .before .before .before in let a = s .args in
-    _≡_ {A = Pending} (record { op = Event (a .kind) (a .meter) (a .amount); made = 0; line = c .before .before .numbered-line .result; second = c .second-line .result; frame = c .before .before .before .before .before .before .before .before .event-found .result .frame })
-    (record { op = Event (a .kind) (a .meter) (a .amount); made = 0; line = eventLine (st s) (a .image .now) (a .moduli .now) (a .kind) (a .meter) (a .amount); second = eventSecond (st s) (a .image .now) (a .moduli .now) (a .kind) (a .meter) (a .amount); frame = pageFrame (st s) (a .image .now) 0 })
+    _≡_ {A = Pending} (record { op = Event (a .kind) (a .meter) (a .amount); made = 0; line = c .before .before .numbered-line .result; second = c .second-line .result })
+    (record { op = Event (a .kind) (a .meter) (a .amount); made = 0; line = eventLine (st s) (a .image .now) (a .moduli .now) (a .kind) (a .meter) (a .amount); second = eventSecond (st s) (a .image .now) (a .moduli .now) (a .kind) (a .meter) (a .amount) })
 pending c =
     let s = c .before .before .before .before .before .before .before .before .before .before .before .before .before .before .before .before .before in
     let a = s .args in

@@ -1,20 +1,23 @@
 -- The rows stand in the table's order.
 use borrow.Author.Needs.{needs}
-use Prim.Native.Nat.{_≤_}
+use Prim.Native.Nat.{ℕ, _<_, _≤_}
 use mathlib.Core.Path.{_≡_, refl, sym, ap, subst, _∙_}
 use native.Mathlib.Omega.{arith}
 use lib.ListN.{length}
-use Rattle.bounded.specs.Rows.{refusal}
+use Rattle.bounded.specs.Below.{someBelow}
 use Rattle.layout.specs.declared.Sizes.{Sizes}
-use Rattle.layout.specs.Layout.{Legal, imageLength}
-use Rattle.state.specs.State.{State}
+use Rattle.layout.specs.Layout.{Legal, frames, imageLength}
+use Rattle.state.specs.State.{State, ownFrame}
 use Rattle.moduli_text.proofs.TextLaws.{read-row, read-taken}
-use Rattle.refinement.specs.Calls.{quietRows, loadRows}
+use Rattle.refinement.specs.Calls.{quietRows}
 use Rattle.refinement.proofs.Going.{ranges-of}
 use Rattle.refinement.proofs.Quiet.{Quiet, quiet}
+use Rattle.refinement.proofs.Valid.{copy-low}
+use Rattle.refinement.specs.Frames.{frameOf}
+use Rattle.moduli_text.specs.Text.{textRow, moduliIn}
 use Rattle.answers.proofs.Answered.{row-known}
-use Rattle.call_load.specs.Loaded.{storedRows, FramesLow}
-use Rattle.call_load.proofs.Loads.{text-low, frames-low, row-quiet, row-text, row-page, load-refused, load-taken}
+use Rattle.call_load.specs.Loaded.{meterHigh}
+use Rattle.call_load.proofs.Loads.{text-low, row-quiet, row-text, row-high, row-low, load-refused, load-taken}
 use Rattle.state_words.specs.Decoded.{decoded}
 use Rattle.call_load.proofs.load.Statement.{statement}
 use Rattle.call_load.proofs.load.Tie as tie
@@ -33,7 +36,7 @@ quiet1 : (c : tie.Else1) → let s = start (c .before) in Quiet (st s) (length (
 quiet1 c = let s = start (c .before) in quiet (st s) (length (s .args .image .now)) _ (c .before .quiet-row .ensures) (c .if1 .left)
 
 refused-requires : tie.Need-refused-requires
-refused-requires c κs = let s = start (c .before) in rw (c .before .quiet-row .ensures) (row-known (quietRows (st s) (length (s .args .image .now))) (omega arith))
+refused-requires c κs = let s = start (c .before) in rw (c .before .quiet-row .ensures) (row-known (quietRows (st s) (length (s .args .image .now))) refl)
 
 returns : tie.Need-returns
 returns c =
@@ -53,45 +56,51 @@ returns-2 c =
     let row = row-text (st s) (s .args .image .now) (s .args .text .now) (quiet1 (m .before)) _ (read-row (s .args .text .now) _ (m .read-moduli .ensures)) n in
     (load-refused (st s) (s .args .image .now) (s .args .text .now) (c .refused2 .result) _ row n (c .refused2 .ensures .0), c .refused2 .ensures .1)
 
-stored-row-requires : tie.Need-stored-row-requires
-stored-row-requires c κs =
+-- past the text
+module _ (c : tie.After-is-high) where
+  abbrev past : tie.Else2
+  past = c .before .before .before
+
+  abbrev quiet-past : tie.Else1
+  quiet-past = past .before .before
+
+  abbrev from : tie.Start
+  from = start (quiet-past .before)
+
+  text-none : 0 ≡ textRow (from .args .text .now)
+  text-none = sym (past .if2 .left) ∙ read-row (from .args .text .now) _ (past .before .read-moduli .ensures)
+
+  moduli : past .before .read-moduli .result .moduli ≡ moduliIn (from .args .text .now)
+  moduli = read-taken (from .args .text .now) _ (past .before .read-moduli .ensures) (past .if2 .left)
+
+  high : c .is-high .result ≡ someBelow 24 (meterHigh (st from .sizes) (from .args .image .now) (st from) (past .before .read-moduli .result .moduli))
+  high = c .is-high .ensures ∙ ap (λ (z : Sizes). someBelow 24 (meterHigh z (from .args .image .now) (st from) (past .before .read-moduli .result .moduli))) (sizes (quiet-past .before))
+
+is-high-requires : tie.Need-is-high-requires
+is-high-requires c κs =
     let e = c .before .before .before .before in
     let s = start (e .before) in
-    let t = st s .table in
     let q = quiet1 e in
-    subst (λ (z : Sizes). Legal z × (imageLength z ≤ length (s .args .image .now)) × FramesLow z (t .page) (t .original) (t .spare) (t .bitmap) (s .args .image .now)) (sym (sizes (e .before)))
-    (ranges-of (st s) (q .ok) .legal, q .long, frames-low (st s) (s .args .image .now) (q .ok))
-
--- the row of page 0 is the call's
-page-row : (c : tie.After-stored-row) → let s = start (c .before .before .before .before .before .before) in c .stored-row .result ≡ refusal (loadRows (st s) (s .args .image .now) (s .args .text .now))
-page-row c =
-    let i = c .before .before .before in
-    let m = i .before in
-    let e = m .before in
-    let s = start (e .before) in
-    let t = st s .table in
-    let none = i .if2 .left in
-    let f = m .read-moduli .ensures in
-    row-page (st s) (s .args .image .now) (s .args .text .now) (quiet1 e) _ (sym none ∙ read-row (s .args .text .now) _ f) _ (read-taken (s .args .text .now) _ f none)
-    (c .stored-row .ensures ∙ ap (λ (z : Sizes). refusal (storedRows z (t .page) (t .original) (t .spare) (t .bitmap) (s .args .image .now) (m .read-moduli .result .moduli))) (sizes (e .before)))
+    let g = ranges-of (st s) (q .ok) .legal in
+    subst (λ (z : Sizes). Legal z × (imageLength z ≤ length (s .args .image .now)) × ((l : ℕ) → frameOf (ownFrame (st s)) z (st s .table) 0 l < frames z)) (sym (sizes (e .before)))
+    (g, q .long, λ l. copy-low (st s) (q .ok) 0 l (omega (arith, g .pages-low)))
 
 refused-requires-3 : tie.Need-refused-requires-3
-refused-requires-3 c κs = let s = start (c .before .before .before .before .before .before .before) in rw (page-row (c .before)) (row-known (loadRows (st s) (s .args .image .now) (s .args .text .now)) (omega arith))
+refused-requires-3 c κs = refl
 
 returns-3 : tie.Need-returns-3
 returns-3 c =
-    let r = c .before .before in
-    let s = start (r .before .before .before .before .before .before) in
-    let n = c .before .if3 .taken in
-    (load-refused (st s) (s .args .image .now) (s .args .text .now) (c .refused3 .result) _ (page-row r) n (c .refused3 .ensures .0), c .refused3 .ensures .1)
+    let h = c .before .before in
+    let s = from h in
+    let row = row-high (st s) (s .args .image .now) (s .args .text .now) (quiet1 (quiet-past h)) 27 (text-none h) _ (moduli h) _ (high h) (c .before .if3 .taken) refl in
+    (load-refused (st s) (s .args .image .now) (s .args .text .now) (c .refused3 .result) 27 row (λ z. omega arith) (c .refused3 .ensures .0), c .refused3 .ensures .1)
 
 returns-4 : tie.Need-returns-4
 returns-4 c =
-    let r = c .before .before in
-    let i = r .before .before .before in
-    let m = i .before in
-    let s = start (m .before .before) in
-    (load-taken (st s) (s .args .image .now) (s .args .text .now) _ (sym (c .before .if3 .left) ∙ page-row r) (read-taken (s .args .text .now) _ (m .read-moduli .ensures) (i .if2 .left)), refl)
+    let h = c .before .before in
+    let s = from h in
+    let row = row-low (st s) (s .args .image .now) (s .args .text .now) (quiet1 (quiet-past h)) 0 (text-none h) _ (moduli h) _ (high h) (c .before .if3 .left) refl in
+    (load-taken (st s) (s .args .image .now) (s .args .text .now) _ row (moduli h), refl)
 
 pub load-spec : {M : Type 1} → statement M
 load-spec =
@@ -105,7 +114,7 @@ load-spec =
     (λ c κs. search needs)
     refused-requires-2
     returns-2
-    stored-row-requires
+    is-high-requires
     refused-requires-3
     returns-3
     returns-4)

@@ -44,7 +44,7 @@ returns c =
     let w = begin (a .writer) in
     let rs = beginRows st (a .writer) in
     let e = row-at rs 0 (omega arith) tt (sym (ap not (c .before .state-ok .ensures)) ∙ c .if1 .taken) in
-    let refused = row-refused st (withWriters st (opening st (a .writer))) rs 8 e BadState (λ q. omega arith) (row-known rs (omega arith)) refl in
+    let refused = row-refused st (withWriters st (opening st (a .writer))) rs 8 e BadState (λ q. omega arith) (row-known rs refl) refl in
     let none : Round = record { number = 0; call = 0; stores = 0 } in
     let eight : Round = record { number = 8; call = 0; stores = 0 } in
     let f = finishes-at-once _ (a .image .now) (no-stores (refusal rs)) w (a .words .now) refl BadState (a .words .now) refused in

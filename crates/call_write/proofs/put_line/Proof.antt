@@ -1,6 +1,8 @@
 use borrow.Author.Needs.{needs}
+use native.Mathlib.Omega.{arith}
 use mathlib.Core.Path.{_≡_, sym, ap, _∙_}
 use Rattle.state.specs.State.{State}
+use Rattle.layout.specs.declared.Sizes.{Sizes}
 use Rattle.state.specs.declared.Places.{Places}
 use Rattle.answers.specs.declared.Answer.the-variants.{Taken}
 use Rattle.layout.specs.Layout.{lineWord}
@@ -53,7 +55,7 @@ complete-write-requires c κs =
     let h = leans (s .args .z) (s .args .at) (st s) (s .args .image .now) (s .args .p) (s .pre .0) (s .args .writer) (a .page) (a .line) (a .offset) (a .length) (s .pre .1) in
     let g = good (s .args .z) (s .args .at) (st s) (s .args .image .now) (s .args .p) (s .pre .0) (s .args .writer) (a .page) (a .line) (a .offset) (a .length) (s .pre .1) in
     rw (c .before .before .before .before .before .before .before .before .before .before .put-pending .ensures)
-    (s .pre .0 .sizes, h .0, rw (ap (λ (p : Places). p .next) (s .pre .0 .places)) at (h .1), s .pre .0 .busy, g .writer-low, g .line-low)
+    (s .pre .0 .sizes, h .0, rw (ap (λ (p : Places). p .next) (s .pre .0 .places)) at (h .1), g .writer-low, omega (arith, g .page-low, ap (λ (z : Sizes). z .pages) (s .pre .0 .sizes), h .0 .pages-high), g .line-low)
 
 returns-2 : tie.Need-returns-2
 returns-2 c =

@@ -23,7 +23,7 @@ returns c =
     let a = s .args in
     let rs = writeCallRows (st s) (a .image .now) (a .writer) (a .span .page) (a .span .line) (a .span .offset) (a .span .length) (a .«data» .now) in
     let e = row-at rs 0 (omega arith) tt (sym (ap not (t .state-ok .ensures)) ∙ c .if1 .taken) in
-    (started-refused (st s) (a .image .now) (a .until) rs 8 e (λ q. omega arith) (omega arith) BadState refl _ _, λ n. refl)
+    (started-refused (st s) (a .image .now) (a .until) rs 8 e (λ q. omega arith) refl BadState refl _ _, λ n. refl)
 
 write-valid-requires : tie.Need-write-valid-requires
 write-valid-requires c κs =

@@ -1,7 +1,7 @@
-use mathlib.Core.Path.{refl, _∙_}
+use mathlib.Core.Path.{refl}
 use borrow.Author.Needs.{needs}
-use borrow.Author.Tests.{eq-eqb, ne-eqb}
-use Rattle.bounded.proofs.Tests.{row-yes}
+use Rattle.state_words.specs.Decoded.{decoded}
+use Rattle.image_calls.specs.Calls.{sizesIn}
 use Rattle.image_calls.proofs.Replaced.{has-formatted}
 use Rattle.image_calls.proofs.format.Statement.{statement}
 use Rattle.image_calls.proofs.format.Tie as tie
@@ -9,19 +9,19 @@ use Rattle.image_calls.proofs.format.Tie as tie
 returns : tie.Need-returns
 returns c =
     let f = c .before .before .before in
-    let form = eq-eqb _ 3 (f .before .before .before .before .before .before .if1 .taken) in
-    (has-formatted _ _ _ _ (f .format-whole .result) form (c .answered .ensures) _ _ (f .format-whole .ensures .0), f .format-whole .ensures .1 .0 ∙ row-yes _ _ _ form)
+    let t = f .before .before .before .before in
+    let s = t .before .before .before .before .args in
+    let started = rw (f .before .sizes-in .ensures) at (f .format .ensures .0) in
+    has-formatted _ _ (decoded (s .words .now)) _ (f .format .result) (t .if1 .taken) (c .answered .ensures) (sizesIn (s .line)) (s .image .now) _ started
 
 returns-2 : tie.Need-returns-2
-returns-2 c = rw (ne-eqb _ 3 (c .if1 .left)) (refl, refl)
+returns-2 c = rw (c .if1 .left) (refl, refl)
 
 pub format-spec : {M : Type 1} → statement M
 format-spec =
     tie.close
     (tie.spec
-    (λ c. search needs)
-    (λ c. search needs)
-    (λ c. search needs)
+    (λ c κs. search needs)
     (λ c κs. search needs)
     (λ c κs. search needs)
     (λ c. search needs)

@@ -16,14 +16,17 @@ start c = c .before .before .before .before .before .before .before .before .bef
 
 -- the number that the read answered
 row : (c : tie.After-number-of)
-    → let a = start c .args in c .number-of .result ≡ readRow (decoded (a .words .now)) (a .image .now) (arg (a .t3) 0) (arg (a .t3) 1) (arg (a .t3) 2) (a .target .now)
+    → let a = start c .args in let n = arg (a .t3) in
+    c .number-of .result ≡ readRow (decoded (a .words .now)) (a .image .now) (n 0) (n 1) (n 2) (a .target .now)
 row c = c .number-of .ensures ∙ c .before .before .before .read .ensures .0 .0
 
 -- a taken read's target has 64 bytes
 long : (c : tie.After-number-of) → c .number-of .result ≡ 0 → 64 ≤ length (c .before .before .before .read .last .1 .1 .1 .1 .1 .0)
 long c z =
     let a = start c .args in
-    let h : 64 ≤ length (a .target .now) = read-long (decoded (a .words .now)) (a .image .now) (arg (a .t3) 0) (arg (a .t3) 1) (arg (a .t3) 2) (a .target .now) (sym (row c) ∙ z) in
+    let n = arg (a .t3) in
+    let long = read-long (decoded (a .words .now)) (a .image .now) (n 0) (n 1) (n 2) (a .target .now) in
+    let h : 64 ≤ length (a .target .now) = long (sym (row c) ∙ z) in
     omega (arith, c .before .before .before .read .kept .1 .1 .1 .1 .1 .0)
 
 said-requires : tie.Need-said-requires

@@ -10,7 +10,9 @@ array-borrow-prefix-target : tie.Need-array-borrow-prefix-target
 array-borrow-prefix-target c = target-small (c .before .before .before .args .t2) 3 2 (c .if1 .taken)
 
 slice-aggregate-recall-into : tie.Need-slice-aggregate-recall-into
-slice-aggregate-recall-into c = sym (length-take-le _ (replicate 128 0) (target-small (c .before .before .before .before .args .t2) 3 2 (c .before .if1 .taken)))
+slice-aggregate-recall-into c =
+    let small = target-small (c .before .before .before .before .args .t2) 3 2 (c .before .if1 .taken) in
+    sym (length-take-le _ (replicate 128 0) small)
 
 returns : tie.Need-returns
 returns c =

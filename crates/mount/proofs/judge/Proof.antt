@@ -16,6 +16,7 @@ use Rattle.layout.proofs.LayoutLaws.{legal}
 use Rattle.mount.specs.Mount.{sizesFrom, liveFrom, countFrom, keysAfter, tableAfter, mountRows}
 use Rattle.journal.specs.Records.{positionsOk, recordsOk, liveRecord}
 use Rattle.replay.specs.Table.{tableOk}
+use Rattle.replay.specs.Map.{pageFrames}
 use Rattle.journal.proofs.Ring.{Positions, positions}
 use Rattle.mount.proofs.Rows.{Header, positions-read, records-read, entries-read, table-read, found-read, mount-past, mount-refused, mount-taken}
 use Rattle.mount.proofs.judge.Statement.{statement}
@@ -82,10 +83,10 @@ records-test c =
 table-is : (c : tie.After-replayed) → c .replayed .result ≡ tableAfter (word (img6 (c .before)))
 table-is c = c .replayed .ensures ∙ table-read (header (c .before .before .before .before .before .before .before .before .before .before)) _ (c .before .before .before .before .before .before .before .live-count .ensures)
 
-table-test : (c : tie.After-table-ok) → let r = word (img6 (c .before .before)) in c .table-ok .result ≡ tableOk r (sizesFrom r) (tableAfter r)
+table-test : (c : tie.After-table-ok) → let r = word (img6 (c .before .before)) in c .table-ok .result ≡ tableOk (pageFrames r) (sizesFrom r) (tableAfter r)
 table-test c =
     let r = word (img6 (c .before .before)) in
-    c .table-ok .ensures ∙ ap₂ (tableOk r) (header (c .before .before .before .before .before .before .before .before .before .before .before) .sizes-is) (table-is (c .before))
+    c .table-ok .ensures ∙ ap₂ (tableOk (pageFrames r)) (header (c .before .before .before .before .before .before .before .before .before .before .before) .sizes-is) (table-is (c .before))
 
 -- ---- past each row
 
@@ -184,9 +185,10 @@ returns-7 : tie.Need-returns-7
 returns-7 c = c .turned-back7 .ensures ∙ mount-refused _ 6 (search needs) (past6 (c .before .before .before .before)) (ap not (sym (table-test (c .before .before))) ∙ c .before .if7 .taken)
 
 returns-8 : tie.Need-returns-8
-returns-8 c =
+returns-8 d =
+    let c = d .before in
     let b = c .before .before .before .before .before .before .before in
-    found-read (header (b .before .before .before .before .before)) _ _ _ (table-is (c .before .before)) (b .before .wide-word .ensures) (b .read-keys .ensures) ∙ mount-taken (img7 c) (past7 c)
+    d .holds .ensures ∙ found-read (header (b .before .before .before .before .before)) _ _ _ (table-is (c .before .before)) (b .before .wide-word .ensures) (b .read-keys .ensures) ∙ mount-taken (img7 c) (past7 c)
 
 pub judge-spec : {M : Type 1} → statement M
 judge-spec =
@@ -221,4 +223,5 @@ judge-spec =
     table-ok-requires
     (λ c κs. search needs)
     returns-7
+    (λ c κs. search needs)
     returns-8)

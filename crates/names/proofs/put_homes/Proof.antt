@@ -2,6 +2,7 @@
 use mathlib.Core.Path.{ap, _∙_}
 use borrow.Author.Needs.{needs}
 use Rattle.words.specs.Words.{word}
+use Rattle.replay.specs.Map.{pageFrames}
 use Rattle.names.specs.Homes.{originalsPut}
 use Rattle.names.proofs.Homes.{homes}
 use Rattle.names.proofs.put_homes.Statement.{statement}
@@ -13,7 +14,7 @@ returns c =
     let x = h .before .before .before .before .args in
     c .before .before .put-originals .ensures
     ∙ ap (originalsPut (x .z) (x .t4 .page) (x .t4 .original) (x .z .slots)) (h .put-words .ensures)
-    ∙ homes (word (x .image .now)) (x .z) (x .t4) (h .before .before .before .before .pre .0) (h .before .before .before .before .pre .3)
+    ∙ homes (pageFrames (word (x .image .now))) (x .z) (x .t4) (h .before .before .before .before .pre .0) (h .before .before .before .before .pre .3)
 
 pub put-homes-spec : {M : Type 1} → statement M
 put-homes-spec = tie.close (tie.spec (λ c κs. search needs) (λ c κs. search needs) (λ c. search needs) returns)

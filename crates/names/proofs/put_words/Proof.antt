@@ -5,14 +5,14 @@ use lib.ListN.{length-set, length}
 use borrow.Author.Needs.{needs}
 use Rattle.bounded.specs.Tab.{filled}
 use Rattle.bounded.proofs.Tab.{filled-none, filled-turn, filled-ends}
-use Rattle.layout.specs.Layout.{pageWord}
 use Rattle.words.specs.Words.{word}
+use Rattle.replay.specs.Map.{pageFrames}
 use Rattle.names.proofs.Homes.{filled-whole}
 use Rattle.names.proofs.put_words.Statement.{statement}
 use Rattle.names.proofs.put_words.Tie as tie
 
 abbrev Inv-loop : tie.InvT-loop
-Inv-loop homes₀ image z p₀ homes p = (p ≤ z .pages) × (length homes ≡ z .pages) × (homes ≡ filled p (λ q. word image (pageWord q)) homes₀)
+Inv-loop homes₀ image z p₀ homes p = (p ≤ z .pages) × (length homes ≡ z .pages) × (homes ≡ filled p (pageFrames (word image)) homes₀)
 
 abbrev μ-loop : tie.MeasureT-loop
 μ-loop homes₀ image z p₀ homes p = z .pages - p
@@ -29,7 +29,7 @@ returns : tie.Need-returns Inv-loop μ-loop
 returns c =
     let h = c .before .before in
     let x = h .before .before .before .args in
-    filled-ends _ _ _ _ _ (h .loop .inv .0) (c .if1 .left) (h .loop .inv .2) ∙ filled-whole (x .z .pages) (λ q. word (x .image .now) (pageWord q)) (x .homes .now) (h .before .before .before .pre .2)
+    filled-ends _ _ _ _ _ (h .loop .inv .0) (c .if1 .left) (h .loop .inv .2) ∙ filled-whole (x .z .pages) (pageFrames (word (x .image .now))) (x .homes .now) (h .before .before .before .pre .2)
 
 pub put-words-spec : {M : Type 1} → statement M
 put-words-spec =

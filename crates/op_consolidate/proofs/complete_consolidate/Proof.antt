@@ -33,14 +33,14 @@ slot-at-requires : tie.Need-slot-at-requires
 slot-at-requires c κs = low (c .before)
 
 put-slot-requires : tie.Need-put-slot-requires
-put-slot-requires c κs = low (c .before .before .before .before .before)
+put-slot-requires c κs = low (c .before .before .before .before .before .before .before .before)
 
 put-last-requires : tie.Need-put-last-requires
-put-last-requires c κs = low (c .before .before .before .before .before .before .before)
+put-last-requires c κs = low (c .before .before .before .before .before .before .before .before .before .before)
 
 position-requires : tie.Need-position-requires
 position-requires c κs =
-    let s = c .before .before .before .before .before .before .before .before .before .before .before in
+    let s = c .before .before .before .before .before .before .before .before .before .before .before .before .before .before in
     let h : Legal (s .args .z) = rw (s .pre .0) (s .pre .2 .legal) in
     (h, rw (s .pre .0, s .pre .1) (s .pre .2 .head-low), omega (arith, h))
 
@@ -49,10 +49,11 @@ returns c =
     let h = c .before .before in
     let l = h .before .before .before in
     let f = l .before .before in
-    let a = f .before .before .before .before in
+    let m = f .before .before .before .before in
+    let a = m .before .before .before in
     let k = a .before .before in
     let s = k .before .before in
-    consolidated (st s) _ _ _ _ (s .args .z) (s .args .at .head) (s .args .p) _ _ _ _ _ (s .pre .2) (s .pre .0) (ap (λ (p : Places). p .head) (s .pre .1)) (slot k) (a .slot-at .ensures) (f .before .before .copy-from .ensures) (f .before .free-slot .ensures) (f .put-slot .ensures) (l .put-last .ensures) (h .before .position .ensures) (h .put-head .ensures) (c .put-nothing .ensures)
+    consolidated (st s) _ _ _ _ _ (s .args .z) (s .args .at .head) (s .args .p) _ _ _ _ _ _ (s .pre .2) (s .pre .0) (ap (λ (p : Places). p .head) (s .pre .1)) (slot k) (a .slot-at .ensures) (m .before .copy-to .ensures) (m .put-entry .ensures) (f .before .before .copy-from .ensures) (f .before .free-slot .ensures) (f .put-slot .ensures) (l .put-last .ensures) (h .before .position .ensures) (h .put-head .ensures) (c .put-nothing .ensures)
 
 pub complete-consolidate-spec : {M : Type 1} → statement M
 complete-consolidate-spec =
@@ -60,6 +61,8 @@ complete-consolidate-spec =
     (tie.spec
     slot-of-requires
     slot-at-requires
+    (λ c κs. search needs)
+    (λ c κs. search needs)
     (λ c κs. search needs)
     (λ c κs. search needs)
     put-slot-requires

@@ -1,38 +1,42 @@
-use mathlib.Core.Path.{ap, _∙_}
-use Rattle.words.specs.Words.{word}
-use Rattle.replay.specs.declared.Table.{Table}
-use Rattle.op_copy.proofs.CopiedFrame.{copied-slotted, copied-plain}
 use Rattle.state_words.specs.Decoded.{decoded}
+use Rattle.op_copy.proofs.CopiedFrame.{copied-slotted, copied-plain}
+use Rattle.state.specs.State.{State, ownFrame}
 use borrow.Author.Needs.{needs}
 use Rattle.op_copy.proofs.copied_frame.Statement.{statement}
 use Rattle.op_copy.proofs.copied_frame.Tie as tie
 
-abbrev table : tie.Start → Table
-table s = decoded (s .args .words .now) .table
+slot-of-requires : tie.Need-slot-of-requires
+slot-of-requires c κs = search needs
+
+slot-at-requires : tie.Need-slot-at-requires
+slot-at-requires c κs = search needs
+
+committed-frame-requires : tie.Need-committed-frame-requires
+committed-frame-requires c κs = search needs
 
 returns : tie.Need-returns
-returns c =
-    let s = c .before .before .before .before .before .before .before in
-    copied-slotted (s .args .z) (table s) (s .args .image .now) (s .args .key) _ _ (c .before .before .before .before .before .slot-of .ensures) _ (c .before .before .before .if1 .taken) (c .before .before .slot-at .ensures) (c .before .committed-frame .ensures)
+returns c = let t = c .before in
+    let o = t .before .before .before in
+    let s = o .before in
+    let st = decoded (s .args .words .now) in
+    copied-slotted (ownFrame st) (s .args .z) (st .table) (s .args .key) _ _ (o .slot-of .ensures) _ (t .before .if1 .taken) (t .slot-at .ensures) (c .committed-frame .ensures)
+
+entry-at-requires : tie.Need-entry-at-requires
+entry-at-requires c κs = search needs
 
 returns-2 : tie.Need-returns-2
-returns-2 c =
-    let s = c .before .before .before .before .before .before .before in
-    copied-plain (s .args .z) (table s) (s .args .image .now) (s .args .key) _ _ (c .before .before .before .before .before .slot-of .ensures) (c .before .before .before .if1 .left)
-    (c .before .read-word .ensures ∙ ap (word (s .args .image .now)) (c .before .before .page-word .ensures))
+returns-2 c = let o = c .before .before .before in
+    let s = o .before in
+    let st = decoded (s .args .words .now) in
+    copied-plain (ownFrame st) (s .args .z) (st .table) (s .args .key) _ _ (o .slot-of .ensures) (c .before .if1 .left) (c .entry-at .ensures)
 
 pub copied-frame-spec : {M : Type 1} → statement M
 copied-frame-spec =
     tie.close
     (tie.spec
-    (λ c κs. search needs)
-    (λ c κs. search needs)
-    (λ c κs. search needs)
-    (λ c. search needs)
-    (λ c. search needs)
+    slot-of-requires
+    slot-at-requires
+    committed-frame-requires
     returns
-    (λ c κs. search needs)
-    (λ c κs. search needs)
-    (λ c. search needs)
-    (λ c. search needs)
+    entry-at-requires
     returns-2)

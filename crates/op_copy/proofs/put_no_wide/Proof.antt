@@ -17,7 +17,7 @@ abbrev emptied : State → List ℕ → State
 emptied st keys = withWide st (wideOf (st .wide .writer) (st .wide .count) keys)
 
 abbrev Inv-loop : tie.InvT-loop
-Inv-loop words₀ e₀ words e = (e ≤ 64) × (length words ≡ 256) × (decoded words ≡ emptied (decoded words₀) (filled e (λ i. 0) (decoded words₀ .wide .keys)))
+Inv-loop words₀ e₀ words e = (e ≤ 64) × (length words ≡ 1280) × (decoded words ≡ emptied (decoded words₀) (filled e (λ i. 0) (decoded words₀ .wide .keys)))
 
 abbrev μ-loop : tie.MeasureT-loop
 μ-loop words₀ e₀ words e = 64 - e

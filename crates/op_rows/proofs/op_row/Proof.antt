@@ -13,7 +13,7 @@ use Rattle.op_rows.proofs.op_row.Tie as tie
 abbrev row : tie.Start → Op → ℕ
 row c op =
     let a = c .args in
-    refusal (opRows (seen (a .z) (a .at) (decoded (a .words .now))) op (a .frame))
+    refusal (opRows (seen (a .z) (a .at) (decoded (a .words .now))) op)
 
 returns : tie.Need-returns
 returns c = sym (ap (row (c .before .before)) (c .enum-told .given .1))
@@ -43,8 +43,7 @@ returns-8 c = c .confirm-row .ensures ∙ sym (ap (row (c .before .before .befor
 
 returns-9 : tie.Need-returns-9
 returns-9 c =
-    rw (c .before .before .slot-of2 .ensures, c .before .span-of2 .ensures) at (c .log-row .ensures)
-    ∙ sym (ap (row (c .before .before .before .before .before .before)) (c .before .before .before .before .op7 .given .1))
+    rw (c .before .span-of2 .ensures) at (c .log-row .ensures) ∙ sym (ap (row (c .before .before .before .before .before)) (c .before .before .before .op7 .given .1))
 
 returns-10 : tie.Need-returns-10
 returns-10 c = c .copy-row .ensures ∙ sym (ap (row (c .before .before .before)) (c .before .enum-told3 .given .1))
@@ -73,7 +72,6 @@ op-row-spec =
     (λ c. search needs)
     (λ c κs. search needs)
     (λ c. search needs)
-    (λ c κs. search needs)
     (λ c κs. search needs)
     (λ c κs. search needs)
     (λ c. search needs)

@@ -27,22 +27,41 @@ put-held-requires c κs = (c .before .before .before .before .before .before .be
 
 returns : tie.Need-returns
 returns c =
-    let s = c .before .before .before .before .before .before .before .before .before .before .before .before .before in
-    had-slot (decoded (s .args .words .now)) (s .args .z) _ (s .args .w) (s .args .p) (s .args .l) _ _ _ _ (s .pre .0) (next-is (c .before .before .before .before .before .before .before .before .before .before .before)) (c .before .before .before .before .before .before .before .before .before .slot-of .ensures) (c .before .before .before .before .before .before .before .write-slot .ensures) (c .before .before .before .before .before .held-at .ensures) (c .before .before .before .with .ensures) (s .args .frame) _ (c .before .before .put-held .ensures) (c .if1 .taken)
+    let h = c .before .before in
+    let m = h .before .before .before in
+    let w = m .before .before in
+    let o = w .before .before in
+    let a = o .before .before in
+    let s = a .before .before in
+    had-slot (decoded (s .args .words .now)) (s .args .z) _ (s .args .w) (s .args .p) (s .args .l) _ _ _ _ (s .pre .0) (next-is a) (o .slot-of .ensures)
+    (w .write-slot .ensures) (m .held-at .ensures) (h .before .with .ensures) _ (h .put-held .ensures) (c .if1 .taken)
 
 slot-at-requires : tie.Need-slot-at-requires
-slot-at-requires c κs = low (c .before .before .before .before .before .before .before .before)
+slot-at-requires c κs = low (c .before .before .before .before .before .before .before .before .before .before)
 
 put-slot-requires : tie.Need-put-slot-requires
-put-slot-requires c κs = low (c .before .before .before .before .before .before .before .before .before .before)
+put-slot-requires c κs = low (c .before .before .before .before .before .before .before .before .before .before .before .before)
 
 add-put-next : tie.Need-add-put-next
-add-put-next c = omega (arith, low (c .before .before .before .before .before .before .before .before .before .before .before .before))
+add-put-next c = omega (arith, low (c .before .before .before .before .before .before .before .before .before .before .before .before .before .before))
+
+rem-put-next : tie.Need-rem-put-next
+rem-put-next c = omega (arith, c .before .before .before .before .before .before .before .before .before .before .before .before .before .before .before .before .before .before .before .before .before .pre .1)
 
 returns-2 : tie.Need-returns-2
 returns-2 c =
-    let s = c .before .before .before .before .before .before .before .before .before .before .before .before .before .before .before .before .before .before .before .before in
-    took-slot (decoded (s .args .words .now)) (s .args .z) _ (s .args .w) (s .args .p) (s .args .l) _ _ _ _ (s .pre .0) (next-is (c .before .before .before .before .before .before .before .before .before .before .before .before .before .before .before .before .before .before)) (c .before .before .before .before .before .before .before .before .before .before .before .before .before .before .before .before .slot-of .ensures) (c .before .before .before .before .before .before .before .before .before .before .before .before .before .before .write-slot .ensures) (c .before .before .before .before .before .before .before .before .before .before .before .before .held-at .ensures) (c .before .before .before .before .before .before .before .before .before .before .with .ensures) (s .args .frame) _ (c .before .before .before .before .before .before .before .before .before .put-held .ensures) (c .before .before .before .before .before .before .before .if1 .left) _ (c .before .before .before .before .before .slot-at .ensures) _ _ (c .before .before .before .put-slot .ensures) (c .put-next .ensures)
+    let u = c .before .before .before in
+    let t = u .before .before in
+    let f = t .before .before in
+    let e = f .before .before in
+    let h = e .before .before in
+    let m = h .before .before .before in
+    let w = m .before .before in
+    let o = w .before .before in
+    let a = o .before .before in
+    let s = a .before .before in
+    took-slot (decoded (s .args .words .now)) (s .args .z) _ (s .args .w) (s .args .p) (s .args .l) _ _ _ _ (s .pre .0) (next-is a) (o .slot-of .ensures)
+    (w .write-slot .ensures) (m .held-at .ensures) (h .before .with .ensures) _ (h .put-held .ensures) (e .if1 .left) _ (f .entry-at .ensures) _ (t .slot-at .ensures) _ _ (u .put-slot .ensures) (c .put-next .ensures)
 
 pub hold-line-spec : {M : Type 1} → statement M
 hold-line-spec =
@@ -55,9 +74,10 @@ hold-line-spec =
     (λ c κs. search needs)
     put-held-requires
     returns
+    (λ c κs. search needs)
     slot-at-requires
     put-slot-requires
     add-put-next
-    (λ c. search needs)
+    rem-put-next
     (λ c κs. search needs)
     returns-2)

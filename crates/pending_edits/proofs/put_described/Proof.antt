@@ -1,6 +1,6 @@
 use mathlib.Core.Path.{refl, ap, _∙_}
 use borrow.Author.Needs.{needs}
-use Rattle.pending_edits.proofs.Described.{other-busy, other-described, write-described}
+use Rattle.pending_edits.proofs.Described.{described-busy, described}
 use Rattle.state.specs.declared.Pending.{Pending}
 use Rattle.state_pending.specs.Put.{withPending}
 use Rattle.state_words.specs.Decoded.{decoded}
@@ -11,25 +11,16 @@ returns : tie.Need-returns
 returns c = rw (c .before .before .if1 .taken) (c .put-nothing .ensures)
 
 put-numbers-requires : tie.Need-put-numbers-requires
-put-numbers-requires c κs = rw (c .before .if2 .taken) refl
+put-numbers-requires c κs =
+    let e = c .before in
+    described-busy _ _ _ _ _ _ (e .if1 .left) (e .before .before .pre)
 
 returns-2 : tie.Need-returns-2
 returns-2 c =
     let e = c .before .before in
-    let s = e .before .before .before in
-    c .put-numbers .ensures ∙ ap (λ (p : Pending). withPending (decoded (s .args .words .now)) p) (write-described (s .args .line) _ refl (e .if2 .taken))
-
-put-numbers-requires-2 : tie.Need-put-numbers-requires-2
-put-numbers-requires-2 c κs =
-    let e = c .before in
-    other-busy _ _ _ _ _ _ (e .before .if1 .left) (e .if2 .left) (e .before .before .before .pre)
-
-returns-3 : tie.Need-returns-3
-returns-3 c =
-    let e = c .before .before in
-    let s = e .before .before .before in
-    c .put-numbers2 .ensures
-    ∙ ap (λ (p : Pending). withPending (decoded (s .args .words .now)) p) (other-described (s .args .line) _ refl (e .before .if1 .left) (e .if2 .left) (s .pre))
+    let s = e .before .before in
+    c .put-numbers .ensures
+    ∙ ap (λ (p : Pending). withPending (decoded (s .args .words .now)) p) (described (s .args .line) _ refl (e .if1 .left))
 
 pub put-described-spec : {M : Type 1} → statement M
 put-described-spec =
@@ -44,14 +35,5 @@ put-described-spec =
     (λ c. search needs)
     (λ c. search needs)
     (λ c. search needs)
-    (λ c. search needs)
     put-numbers-requires
-    returns-2
-    (λ c. search needs)
-    (λ c. search needs)
-    (λ c. search needs)
-    (λ c. search needs)
-    (λ c. search needs)
-    (λ c. search needs)
-    put-numbers-requires-2
-    returns-3)
+    returns-2)

@@ -19,7 +19,7 @@ returns c =
     let n = s .args .n in
     let none = replicate {A = ℕ} 8 0 in
     ap decoded (c .put-eight3 .ensures .0 ∙ ap (λ (l : List ℕ). eight l 32 none) (b .put-eight2 .ensures .0 ∙ ap (λ (l : List ℕ). eight l 24 none) (a .put-eight .ensures .0)))
-    ∙ pending-put (s .args .words .now) n (pendingIn n) (w .all-words .ensures) (a .put-eight .ensures .1) (b .put-eight2 .ensures .1) (c .put-eight3 .ensures .1) refl refl refl (s .pre)
+    ∙ pending-put (s .args .words .now) n (pendingIn n) (w .all-words .ensures) (a .put-eight .ensures .1) (b .put-eight2 .ensures .1) (c .put-eight3 .ensures .1) refl refl (s .pre)
 
 pub put-numbers-spec : {M : Type 1} → statement M
 put-numbers-spec =

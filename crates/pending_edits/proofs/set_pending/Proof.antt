@@ -11,7 +11,7 @@ use Rattle.pending_edits.proofs.set_pending.Tie as tie
 put-described-requires : tie.Need-put-described-requires
 put-described-requires c κs =
     let line = c .before .before .before .args .t2 in
-    leb-true (arg line 0) 4 (and-right (eqb (line .count) 8) (leb (arg line 0) 4) (c .before .if1 .taken))
+    leb-true (arg line 0) 10 (and-right (eqb (line .count) 7) (leb (arg line 0) 10) (c .before .if1 .taken))
 
 returns : tie.Need-returns
 returns c = has-edited _ _ _ _ _ (c .before .before .before .if1 .taken) (c .before .put-described .ensures) (c .edited .ensures)

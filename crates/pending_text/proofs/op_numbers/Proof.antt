@@ -9,7 +9,7 @@ use Rattle.pending_text.proofs.op_numbers.Tie as tie
 
 -- the numbers of the operation that was told
 abbrev told : tie.Start → Op → List ℕ
-told s o = opNumbers o (s .args .made) (s .args .frame)
+told s o = opNumbers o (s .args .made)
 
 returns-2 : tie.Need-returns-2
 returns-2 c = c .written .ensures ∙ sym (ap (told (c .before .before .before .before)) (c .before .before .op .given .1))

@@ -10,6 +10,7 @@ use Rattle.pending_text.proofs.Lengths.{length-op, idle-zeros}
 use Rattle.pending_text.specs.Numbers.{opNumbers, finishedNumbers}
 use Rattle.state.specs.State.{State}
 use Rattle.state_words.specs.Decoded.{decoded}
+use Rattle.workbench.specs.Finished.{finishedLines}
 use Rattle.pending_text.proofs.put_pending.Statement.{statement}
 use Rattle.pending_text.proofs.put_pending.Tie as tie
 
@@ -20,46 +21,42 @@ st s = decoded (s .args .words .now)
 busy : (c : tie.Else1) → isIdle (st (c .before .before .before) .pending .op) ≡ false
 busy c = sym (c .before .idle-in .ensures) ∙ c .if1 .left
 
--- the eight numbers, as the words have them
-eight : (c : tie.After-op-numbers) → let p = st (c .before .before .before .before .before .before .before) .pending in c .op-numbers .result ≡ opNumbers (p .op) (p .made) (p .frame)
-eight c = rw (c .before .before .before .op-in .ensures, c .before .before .made-in .ensures, c .before .frame-in .ensures) at (c .op-numbers .ensures)
+-- the seven numbers, as the words have them
+seven : (c : tie.After-op-numbers) → let p = st (c .before .before .before .before .before .before) .pending in c .op-numbers .result ≡ opNumbers (p .op) (p .made)
+seven c = rw (c .before .before .op-in .ensures, c .before .made-in .ensures) at (c .op-numbers .ensures)
 
-length-eight : (c : tie.After-op-numbers) → length (c .op-numbers .result) ≡ 8
-length-eight c = let p = st (c .before .before .before .before .before .before .before) .pending in ap length (eight c) ∙ length-op (p .op) (p .made) (p .frame)
+length-seven : (c : tie.After-op-numbers) → length (c .op-numbers .result) ≡ 7
+length-seven c = let p = st (c .before .before .before .before .before .before) .pending in ap length (seven c) ∙ length-op (p .op) (p .made)
 
 returns : tie.Need-returns
 returns c =
-    let p = c .before .before in
-    let t = p .before .before .before in
-    let q = st (t .before .before .before) .pending in
-    let idle : isIdle (q .op) ≡ true = sym (t .before .idle-in .ensures) ∙ t .if1 .taken in
-    put-as (ap blanked (sym (idle-zeros q idle))) (p .put-numbers .ensures)
+    let q = st (c .before .before .before .before .before .before .before .before) .pending in
+    let idle : isIdle (q .op) ≡ true = sym (c .before .before .before .before .before .before .idle-in .ensures) ∙ c .before .before .before .before .before .if1 .taken in
+    put-as (ap blanked (sym (idle-zeros q idle))) (c .before .before .put-numbers .ensures)
 
 made-in-requires : tie.Need-made-in-requires
 made-in-requires c κs = busy (c .before)
 
-frame-in-requires : tie.Need-frame-in-requires
-frame-in-requires c κs = busy (c .before .before)
-
 line-in-requires : tie.Need-line-in-requires
-line-in-requires c κs = busy (c .before .before .before .before .before .before .before .before .before)
+line-in-requires c κs = busy (c .before .before .before .before .before .before .before .before)
+
+second-in-requires : tie.Need-second-in-requires
+second-in-requires c κs = busy (c .before .before .before .before .before .before .before .before .before)
 
 put-finished-requires : tie.Need-put-finished-requires
 put-finished-requires c κs =
-    let first = c .before .before .before .before .put-numbers2 in
-    let nums = c .before .before .before .before .before .before .before in
-    omega (arith, length-eight nums, length-blanked (nums .op-numbers .result))
+    let first = c .before .before .before .before .before .before .put-numbers2 in
+    let nums = c .before .before .before .before .before .before .before .before .before in
+    omega (arith, length-seven nums, length-blanked (nums .op-numbers .result))
 
 returns-2 : tie.Need-returns-2
 returns-2 c =
-    let rest = c .before .before .put-finished in
-    let line = c .before .before .before .before .line-in in
-    let first = c .before .before .before .before .before .before .before .put-numbers2 in
-    let nums = c .before .before .before .before .before .before .before .before .before .before in
-    let p = st (c .before .before .before .before .before .before .before .before .before .before .before .before .before .before .before .before .before) .pending in
-    let two = rw (nums .before .before .before .op-in .ensures, line .ensures) at (rest .ensures) in
-    put-as (sym (blanked-append (opNumbers (p .op) (p .made) (p .frame)) (finishedNumbers (p .op) (p .line))))
-    (put-then (rw (eight nums) at (first .ensures)) two (omega (arith, length-eight nums, length-blanked (nums .op-numbers .result))))
+    let nums = c .before .before .before .before .before .before .before .before .before .before .before .before in
+    let p = st (c .before .before .before .before .before .before .before .before .before .before .before .before .before .before .before .before .before .before) .pending in
+    let lines : c .before .before .before .finished-lines .result ≡ finishedLines (p .op) = rw (c .before .before .before .before .before .before .before .before .before .before .before .before .before .before .op-in .ensures) at (c .before .before .before .finished-lines .ensures) in
+    let two = rw (lines, c .before .before .before .before .before .before .line-in .ensures, c .before .before .before .before .before .second-in .ensures) at (c .before .before .put-finished .ensures) in
+    put-as (sym (blanked-append (opNumbers (p .op) (p .made)) (finishedNumbers (finishedLines (p .op)) (p .line) (p .second))))
+    (put-then (rw (seven nums) at (c .before .before .before .before .before .before .before .before .before .put-numbers2 .ensures)) two (omega (arith, length-seven nums, length-blanked (nums .op-numbers .result))))
 
 pub put-pending-spec : {M : Type 1} → statement M
 put-pending-spec =
@@ -72,11 +69,12 @@ put-pending-spec =
     returns
     (λ c κs. search needs)
     made-in-requires
-    frame-in-requires
     (λ c κs. search needs)
     (λ c. search needs)
     (λ c κs. search needs)
     line-in-requires
+    second-in-requires
+    (λ c κs. search needs)
     put-finished-requires
     (λ c. search needs)
     returns-2)

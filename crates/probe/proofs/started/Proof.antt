@@ -1,5 +1,6 @@
-use mathlib.Core.Path.{refl, ap}
-use mathlib.Core.List.{[]}
+use mathlib.Core.Path.{refl, ap₂}
+use Prim.Native.Nat.{ℕ}
+use mathlib.Core.List.{List, []}
 use Rattle.state.specs.State.{State}
 use Rattle.cutting.proofs.Buffers.{holds-none, ends-none}
 use Rattle.probe.specs.Program.{Bench}
@@ -7,9 +8,9 @@ use Rattle.probe.proofs.started.Statement.{statement}
 use Rattle.probe.proofs.started.Tie as tie
 
 returns : tie.Need-returns
-returns c buffer words line out e =
+returns c buffer words table line out e d =
     record {
-      bench = ap (λ (x : State). record { st = x; lent = 65536 }) e;
+      bench = ap₂ (λ (x : State) (t : List ℕ). record { st = x; table = t; lent = 65536 }) e d;
       buffer = refl;
       lines = refl;
       waiting = refl;

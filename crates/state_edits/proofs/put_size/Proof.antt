@@ -4,7 +4,7 @@ use Rattle.state_edits.proofs.put_size.Statement.{statement}
 use Rattle.state_edits.proofs.put_size.Tie as tie
 
 returns : tie.Need-returns
-returns c = let s = c .before .before in size-put (s .args .words .now) (c .all-words .ensures) (s .args .f) (s .args .v) (s .pre)
+returns c = let s = c .before .before in size-put (s .args .words .now) (c .all-words .ensures) (s .args .k) (s .args .v) (s .pre)
 
 pub put-size-spec : {M : Type 1} → statement M
 put-size-spec =

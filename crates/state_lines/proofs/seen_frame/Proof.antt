@@ -15,7 +15,7 @@ holds : (c : tie.After-has) → let a = c .before .before .before .before .befor
 holds c = c .has .ensures ∙ ap (λ (m : ℕ). inMask m (c .before .before .before .before .before .args .l)) (c .before .held-at .ensures)
 
 returns : tie.Need-returns
-returns c = rw (le-ltb _ _ (c .if1 .taken))
+returns c = rw (le-ltb _ _ (c .before .if1 .taken)) (c .entry-at .ensures)
 
 returns-2 : tie.Need-returns-2
 returns-2 c =
@@ -33,6 +33,7 @@ pub seen-frame-spec : {M : Type 1} → statement M
 seen-frame-spec =
     tie.close
     (tie.spec
+    (λ c κs. search needs)
     returns
     (λ c κs. search needs)
     (λ c κs. search needs)

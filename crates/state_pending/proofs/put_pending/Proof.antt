@@ -16,7 +16,7 @@ returns c =
     let w = o .before in
     let p = w .before .before .args .p in
     ap decoded (c .put-eight3 .ensures .0 ∙ ap (λ (l : List ℕ). eight l 32 (p .second)) (b .put-eight2 .ensures .0 ∙ ap (λ (l : List ℕ). eight l 24 (p .line)) (a .put-eight .ensures .0)))
-    ∙ pending-put (w .before .before .args .words .now) (o .op-words .result) p (w .all-words .ensures) (a .put-eight .ensures .1) (b .put-eight2 .ensures .1) (c .put-eight3 .ensures .1) (o .op-words .ensures .0) (o .op-words .ensures .1 .0) (o .op-words .ensures .1 .1) (w .before .before .pre .0)
+    ∙ pending-put (w .before .before .args .words .now) (o .op-words .result) p (w .all-words .ensures) (a .put-eight .ensures .1) (b .put-eight2 .ensures .1) (c .put-eight3 .ensures .1) (o .op-words .ensures .0) (o .op-words .ensures .1) (w .before .before .pre .0)
 
 pub put-pending-spec : {M : Type 1} → statement M
 put-pending-spec =

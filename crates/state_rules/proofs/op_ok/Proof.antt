@@ -23,7 +23,7 @@ returns-2 c = rw (fits (c .before .before), ← c .before .op-row .ensures, ne-e
 op-needs-requires : tie.Need-op-needs-requires
 op-needs-requires c κs =
     let s = c .before .before .before .before in
-    (s .pre .0 .0, s .pre .1, op-asked (seen (s .args .z) (s .args .at) (decoded (s .args .words .now))) (s .args .op) (s .args .frame) (sym (c .before .op-row .ensures) ∙ c .if2 .left))
+    (s .pre .0 .0, s .pre .1, op-asked (seen (s .args .z) (s .args .at) (decoded (s .args .words .now))) (s .args .op) (sym (c .before .op-row .ensures) ∙ c .if2 .left))
 
 returns-3 : tie.Need-returns-3
 returns-3 c = rw (fits (c .before .before .before), ← c .before .before .op-row .ensures, eq-eqb _ _ (c .before .if2 .left), and-true, c .op-needs .ensures)

@@ -11,14 +11,11 @@ returns c = rw (← c .before .idle-in .ensures, c .if1 .taken)
 made-in-requires : tie.Need-made-in-requires
 made-in-requires c κs = sym (c .before .before .idle-in .ensures) ∙ c .before .if1 .left
 
-frame-in-requires : tie.Need-frame-in-requires
-frame-in-requires c κs = sym (c .before .before .before .idle-in .ensures) ∙ c .before .before .if1 .left
-
 returns-2 : tie.Need-returns-2
 unfolding pendingOk
 returns-2 c =
-    let o = c .before .before .before in
-    rw (← o .before .before .idle-in .ensures, o .before .if1 .left) (rw (o .op-in .ensures, c .before .before .made-in .ensures, c .before .frame-in .ensures) at (c .op-ok .ensures))
+    let o = c .before .before in
+    rw (← o .before .before .idle-in .ensures, o .before .if1 .left) (rw (o .op-in .ensures, c .before .made-in .ensures) at (c .op-ok .ensures))
 
 pub pending-ok-spec : {M : Type 1} → statement M
 pending-ok-spec =
@@ -28,6 +25,5 @@ pending-ok-spec =
     returns
     (λ c κs. search needs)
     made-in-requires
-    frame-in-requires
     (λ c κs. search needs)
     returns-2)

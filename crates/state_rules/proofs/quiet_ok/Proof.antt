@@ -5,6 +5,7 @@ use borrow.Author.Tests.{le-ltb, lt-ltb}
 use Rattle.bounded.proofs.Tests.{and-stops, held}
 use Rattle.replay.specs.declared.Table.{Table}
 use Rattle.state_words.specs.Decoded.{decoded}
+use Rattle.state.specs.State.{ownFrame}
 use Rattle.state.specs.Held.{heldOk}
 use Rattle.validity.specs.Validity.{slotsOk, lastsOk, preparedOk, quietOk}
 use Rattle.validity.proofs.Ranged.{PositionsLow, positions-low}
@@ -14,11 +15,11 @@ use Rattle.state_rules.proofs.quiet_ok.Tie as tie
 abbrev slots : tie.Start → Table
 slots c = decoded (c .args .words .now) .table
 
-slots1 : (c : tie.Else1) → let a = c .before .before .args in slotsOk (a .z) (a .at .head) (a .at .tail) (slots (c .before .before)) ≡ true
+slots1 : (c : tie.Else1) → let a = c .before .before .args in slotsOk (a .z) (a .at .head) (a .at .tail) (slots (c .before .before)) (ownFrame (decoded (a .words .now))) ≡ true
 slots1 c = held _ _ (c .before .slots-ok .ensures) (c .if1 .left)
 
 low1 : (c : tie.Else1) → let a = c .before .before .args in PositionsLow (a .z) (a .at .head) (a .at .tail)
-low1 c = let a = c .before .before .args in positions-low (a .z) (a .at .head) (a .at .tail) (slots (c .before .before)) (slots1 c)
+low1 c = let a = c .before .before .args in positions-low (a .z) (a .at .head) (a .at .tail) (slots (c .before .before)) (ownFrame (decoded (a .words .now))) (slots1 c)
 
 held2 : (c : tie.Else2) → let a = c .before .before .before .before .args in heldOk (a .z) (decoded (a .words .now) .table .page) (decoded (a .words .now) .writers .opened) (decoded (a .words .now) .writers .held) ≡ true
 held2 c = held _ _ (c .before .held-ok .ensures) (c .if2 .left)

@@ -3,7 +3,8 @@ use mathlib.Core.Path.{_∙_}
 use Rattle.bounded.proofs.Tests.{and-stops, and-goes, held}
 use Rattle.layout.proofs.LayoutLaws.{legal}
 use Rattle.validity.specs.Validity.{slotsOk}
-use Rattle.slot_rules.proofs.SlotLaws.{fine-all}
+use Rattle.slot_rules.proofs.SlotLaws.{slots-fine}
+use Rattle.state.specs.State.{ownFrame}
 use Rattle.state_words.specs.Decoded.{decoded}
 use Rattle.state_rules.proofs.slots_ok.Statement.{statement}
 use Rattle.state_rules.proofs.slots_ok.Tie as tie
@@ -25,10 +26,12 @@ slots-fine-requires c κs = legal _ (held _ _ (c .before .before .before .sizes-
 returns-3 : tie.Need-returns-3
 unfolding slotsOk
 returns-3 c =
-    let a = c .before .before .before .before .before .args in
-    and-goes _ _ _ _ (c .before .before .before .before .sizes-ok .ensures) (c .before .before .before .if1 .left)
+    let h = c .before .before .before .before in
+    let a = h .before .args in
+    let st = decoded (a .words .now) in
+    and-goes _ _ _ _ (h .sizes-ok .ensures) (c .before .before .before .if1 .left)
     (and-goes _ _ _ _ (c .before .before .positions-ok .ensures) (c .before .if2 .left)
-    (c .slots-fine .ensures ∙ fine-all (a .z) (decoded (a .words .now) .table)))
+    (c .slots-fine .ensures ∙ slots-fine (ownFrame st) (a .z) (st .table) (legal _ (held _ _ (h .sizes-ok .ensures) (c .before .before .before .if1 .left)))))
 
 pub slots-ok-spec : {M : Type 1} → statement M
 slots-ok-spec =

@@ -1,18 +1,24 @@
 use mathlib.Core.Path.{refl, sym, _∙_}
 use borrow.Author.Needs.{needs}
-use Rattle.workbench.proofs.Formed.{has-called}
+use Rattle.state_words.specs.Decoded.{decoded}
+use Rattle.calling.specs.WriteLine.{writeBy}
+use Rattle.call_turns.proofs.Turned.{has-started}
 use Rattle.transaction_calls.proofs.write.Statement.{statement}
 use Rattle.transaction_calls.proofs.write.Tie as tie
 
-write-requires : tie.Need-write-requires
-write-requires c κs = sym (c .before .before .before .before .before .has-data .ensures) ∙ c .before .before .before .before .if1 .taken
+write-until-requires : tie.Need-write-until-requires
+write-until-requires c κs = let t = c .before .before .before .before .before in sym (t .before .has-data .ensures) ∙ t .if1 .taken
 
 returns : tie.Need-returns
 returns c =
     let a = c .before .before .before in
-    let t = a .before .before .before .before .before in
-    let form = sym (t .before .has-data .ensures) ∙ t .if1 .taken in
-    (has-called _ _ _ _ (a .write .result) _ form (a .write .ensures .0) (c .answered .ensures), a .write .ensures .1 .0)
+    let u = a .before .before .before .before .before in
+    let s = u .before .before .before .before .before .before .args in
+    let img = s .image .now in
+    let st = decoded (s .words .now) in
+    let o = writeBy st img (s .t3 .count) (s .t3 .numbers) in
+    let form = sym (u .before .before .has-data .ensures) ∙ u .before .if1 .taken in
+    has-started _ _ st _ (a .write-until .result) form (c .answered .ensures) _ o img (s .whole) _ (u .until-by .ensures) (a .write-until .ensures .0)
 
 returns-2 : tie.Need-returns-2
 returns-2 c = let form = sym (c .before .has-data .ensures) ∙ c .if1 .left in rw form (refl, refl)
@@ -22,7 +28,8 @@ write-spec =
     tie.close
     (tie.spec
     (λ c κs. search needs)
-    write-requires
+    (λ c κs. search needs)
+    write-until-requires
     (λ c κs. search needs)
     (λ c. search needs)
     returns

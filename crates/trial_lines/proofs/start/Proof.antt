@@ -5,7 +5,7 @@ use Rattle.trial_lines.proofs.start.Statement.{statement}
 use Rattle.trial_lines.proofs.start.Tie as tie
 
 returns : tie.Need-returns
-returns c img = first-told _ img (c .nothing-tried .ensures (replicate 256 0) img)
+returns c img = first-told _ img (c .nothing-tried .ensures (replicate 1280 0) img)
 
 pub start-spec : {M : Type 1} → statement M
 start-spec =

@@ -24,10 +24,10 @@ own-line : (s : tie.Start) (l : ℕ) → l ≡ ownMeter (s .args .kind) (s .args
 own-line s l e = omega (arith, e, own-range (s .args .kind) (s .args .meter) (s .pre .1) .1)
 
 seen-frame-requires : tie.Need-seen-frame-requires
-seen-frame-requires c κs = let s = c .before .before .before in (s .pre .0, omega arith, first-line s _ (c .before .first-meter .ensures))
+seen-frame-requires c κs = let s = c .before .before .before in (s .pre .0, omega arith, omega arith, first-line s _ (c .before .first-meter .ensures))
 
 seen-frame-requires-2 : tie.Need-seen-frame-requires-2
-seen-frame-requires-2 c κs = let s = c .before .before .before .before in (s .pre .0, omega arith, own-line s _ (c .before .own-meter .ensures))
+seen-frame-requires-2 c κs = let s = c .before .before .before .before in (s .pre .0, omega arith, omega arith, own-line s _ (c .before .own-meter .ensures))
 
 first-frame : (c : tie.After-seen-frame2) → c .before .seen-frame .result < frames (c .before .before .before .before .before .args .z)
 first-frame c = rw (c .before .seen-frame .ensures) (c .before .before .before .before .before .pre .2 (c .before .before .before .first-meter .result))
@@ -41,7 +41,7 @@ returns c =
     let l = c .before .before .before .before .first-meter in
     let z = s .args .z in
     let img = s .args .image .now in
-    let from : ℕ → ℕ = lineFrom z (st s) (s .args .s) (s .args .frame) in
+    let from : ℕ → ℕ = lineFrom z (st s) (s .args .s) in
     let one : c .before .before .seen-frame .result ≡ from (firstMeter (s .args .kind) (s .args .meter)) = c .before .before .seen-frame .ensures ∙ ap from (l .ensures) in
     let two : c .before .seen-frame2 .result ≡ from (ownMeter (s .args .kind) (s .args .meter)) = c .before .seen-frame2 .ensures ∙ ap from (c .before .before .before .own-meter .ensures) in
     let number : c .read-line-word .result ≡ wordAt (lineBytes img z (from (firstMeter (s .args .kind) (s .args .meter))) (firstMeter (s .args .kind) (s .args .meter))) 0 =

@@ -15,9 +15,9 @@ returns : tie.Need-returns
 unfolding exec
 returns c =
     let at-call = c .before .before .before in
-    let s = at-call .before .before .before .before in
+    let s = at-call .before .before .before .before .before .before .before .before in
     let a = s .args in
-    let f = at-call .free-slot in
+    let f = at-call .free-valid in
     let v = worldOf (decoded (a .words .now)) (a .image .now) in
     let d = free in
     let e =
@@ -31,6 +31,8 @@ pub free-made-spec : {M : Type 1} → statement M
 free-made-spec =
     tie.close
     (tie.spec
+    (λ c κs. search needs)
+    (λ c κs. search needs)
     (λ c κs. search needs)
     (λ c κs. search needs)
     (λ c. search needs)

@@ -20,7 +20,7 @@ same : (s : tie.Start) → seen (s .args .z) (s .args .at) (st s) ≡ st s
 same s = rw (s .pre .0, s .pre .1)
 
 returns : tie.Need-returns
-returns c = let s = c .before .before in rows-first (quietRows (st s) (s .args .n)) (opRows (st s) (s .args .op) 0) _ (c .before .quiet-row .ensures) (c .if1 .taken)
+returns c = let s = c .before .before in rows-first (quietRows (st s) (s .args .n)) (opRows (st s) (s .args .op)) _ (c .before .quiet-row .ensures) (c .if1 .taken)
 
 op-row-requires : tie.Need-op-row-requires
 op-row-requires c κs =
@@ -32,8 +32,8 @@ returns-2 : tie.Need-returns-2
 returns-2 c =
     let e = c .before in
     let s = e .before .before in
-    rows-then (quietRows (st s) (s .args .n)) (opRows (st s) (s .args .op) 0) _ (quiet (st s) (s .args .n) _ (e .before .quiet-row .ensures) (e .if1 .left) .past)
-    (c .op-row .ensures ∙ ap (λ (u : State). refusal (opRows u (s .args .op) 0)) (same s))
+    rows-then (quietRows (st s) (s .args .n)) (opRows (st s) (s .args .op)) _ (quiet (st s) (s .args .n) _ (e .before .quiet-row .ensures) (e .if1 .left) .past)
+    (c .op-row .ensures ∙ ap (λ (u : State). refusal (opRows u (s .args .op))) (same s))
 
 pub ask-row-spec : {M : Type 1} → statement M
 ask-row-spec = tie.close (tie.spec (λ c κs. search needs) returns op-row-requires returns-2)

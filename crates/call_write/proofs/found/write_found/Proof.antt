@@ -13,8 +13,6 @@ use Rattle.layout.specs.declared.Sizes.{Sizes}
 use Rattle.state.specs.State.{State}
 use Rattle.state.specs.declared.Places.{Places}
 use Rattle.state.specs.Wide.{isWide}
-use Rattle.operations.specs.Operations.{slotFor}
-use Rattle.refinement.specs.Frames.{frameAt}
 use Rattle.call_write.specs.declared.found.Found.{Found}
 use Rattle.call_write.specs.Found.{FoundAfter, WriteFound}
 use Rattle.call_write.proofs.FoundLine.{back-row, entry-after, frames-after}
@@ -32,7 +30,7 @@ short s = ltb (length (s .args .«data» .now)) (s .args .a .length)
 
 -- what is found after the rows that come first is what is found
 whole : (c : tie.After-valid-row) (r : Found) → let s = c .before .before .before in let a = s .args in
-    FoundAfter (c .valid-row .result) (st s) (a .image .now) (a .writer) (a .a .page) (a .a .line) (a .a .offset) (a .a .length) (a .«data» .now) r
+    FoundAfter (c .valid-row .result) (st s) (a .writer) (a .a .page) (a .a .line) (a .a .offset) (a .a .length) (a .«data» .now) r
     → WriteFound (st s) (a .image .now) (a .writer) (a .a .page) (a .a .line) (a .a .offset) (a .a .length) (a .«data» .now) r
 whole c r f =
     let s = c .before .before .before in
@@ -60,18 +58,16 @@ returns-2 : tie.Need-returns-2
 returns-2 c =
     let s = c .before .before .before .before .before .before .before .before .before in
     let a = s .args in
-    let slot = slotFor (st s) (a .a .page) in
-    let frame = frameAt (st s .sizes) (st s .table .original) (a .image .now) (a .a .page) slot in
     let row = back-row _ _ (c .turned-back2 .ensures) in
     let over = rw (ap (λ (z : Sizes). z .pages) (s .pre .0)) at (c .before .if2 .taken) in
-    let bad = write-bad (short s) (isWide (st s .wide) (a .writer)) (st s) (a .writer) (a .a .page) (a .a .line) (a .a .offset) (a .a .length) frame over in
+    let bad = write-bad (short s) (isWide (st s .wide) (a .writer)) (st s) (a .writer) (a .a .page) (a .a .line) (a .a .offset) (a .a .length) over in
     whole (c .before .before .before .before .before .before) _ (row ∙ rw (eq-eqb _ _ (c .before .before .before .before .before .if1 .left)) bad, λ z. absurd (omega (arith, row, z)))
 
 entry-found-requires : tie.Need-entry-found-requires
 entry-found-requires c κs =
     let e = c .before .before in
     let q = leans e in
-    (q .0, q .2, page-low e, q .3)
+    (q .0, q .2, page-low e)
 
 returns-3 : tie.Need-returns-3
 returns-3 c =
@@ -79,14 +75,14 @@ returns-3 c =
     let s = c .before .before .before .before .before .before .before .before .before .before .before in
     let a = s .args in
     let wide : st s .wide .writer ≡ a .writer = sym (ap (λ (p : Places). p .wide) (s .pre .1)) ∙ c .before .if3 .taken in
-    whole (c .before .before .before .before .before .before .before .before) _ (entry-after _ (c .before .before .before .before .before .before .before .if1 .left) (st s) (a .image .now) (a .writer) (a .a .page) (a .a .line) (a .a .offset) (a .a .length) (a .«data» .now)
+    whole (c .before .before .before .before .before .before .before .before) _ (entry-after _ (c .before .before .before .before .before .before .before .if1 .left) (st s) (a .writer) (a .a .page) (a .a .line) (a .a .offset) (a .a .length) (a .«data» .now)
     (long2 e) _ wide (rw (s .pre .0, s .pre .1) at (c .entry-found .ensures)))
 
 frames-found-requires : tie.Need-frames-found-requires
 frames-found-requires c κs =
     let e = c .before .before in
     let q = leans e in
-    (q .0, q .1, page-low e, q .3)
+    (q .0, q .1, page-low e)
 
 returns-4 : tie.Need-returns-4
 returns-4 c =
@@ -94,7 +90,7 @@ returns-4 c =
     let s = c .before .before .before .before .before .before .before .before .before .before .before in
     let a = s .args in
     let narrow : isWide (st s .wide) (a .writer) ≡ false = ne-eqb (st s .wide .writer) (a .writer) (λ q. c .before .if3 .left (ap (λ (p : Places). p .wide) (s .pre .1) ∙ q)) in
-    whole (c .before .before .before .before .before .before .before .before) _ (frames-after _ (c .before .before .before .before .before .before .before .if1 .left) (st s) (a .image .now) (a .writer) (a .a .page) (a .a .line) (a .a .offset) (a .a .length) (a .«data» .now)
+    whole (c .before .before .before .before .before .before .before .before) _ (frames-after _ (c .before .before .before .before .before .before .before .if1 .left) (st s) (a .writer) (a .a .page) (a .a .line) (a .a .offset) (a .a .length) (a .«data» .now)
     (long2 e) _ narrow (rw (s .pre .0, s .pre .1) at (c .frames-found .ensures)))
 
 pub write-found-spec : {M : Type 1} → statement M

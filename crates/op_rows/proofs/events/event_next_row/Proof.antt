@@ -20,7 +20,7 @@ use Rattle.op_rows.proofs.events.event_next_row.Tie as tie
 abbrev rows : tie.Start → List Row
 rows c =
     let a = c .args in
-    eventNextRowsIn (a .z) (a .at) (decoded (a .words .now)) (a .kind) (a .meter) (a .s) (a .frame)
+    eventNextRowsIn (a .z) (a .at) (decoded (a .words .now)) (a .kind) (a .meter) (a .s)
 
 past1 : (c : tie.Else1) → Past (rows (c .before .before)) 1
 past1 c = (sym (c .before .open-at .ensures) ∙ c .if1 .left, tt)
@@ -69,12 +69,7 @@ returns-4 : tie.Need-returns-4
 returns-4 c = row-at (rows (c .before .before .before .before .before .before .before .before .before .before .before)) 3 (omega arith) (past3 (c .before .before)) (sym (c .before .none-free .ensures) ∙ c .if4 .taken)
 
 returns-5 : tie.Need-returns-5
-returns-5 c = row-at (rows (c .before .before .before .before .before .before .before .before .before .before .before .before .before)) 4 (omega arith) (past4 (c .before .before)) (sym (c .before .frame-bad .ensures) ∙ c .if5 .taken)
-
-returns-6 : tie.Need-returns-6
-returns-6 c =
-    let p = past4 (c .before .before) in
-    row-none (rows (c .before .before .before .before .before .before .before .before .before .before .before .before .before)) (p .0, (p .1 .0, (p .1 .1 .0, (p .1 .1 .1 .0, (sym (c .before .frame-bad .ensures) ∙ c .if5 .left, tt)))))
+returns-5 c = row-none (rows (c .before .before .before .before .before .before .before .before .before .before .before)) (past4 c)
 
 pub event-next-row-spec : {M : Type 1} → statement M
 event-next-row-spec =
@@ -90,6 +85,4 @@ event-next-row-spec =
     returns-3
     (λ c κs. search needs)
     returns-4
-    (λ c κs. search needs)
-    returns-5
-    returns-6)
+    returns-5)

@@ -20,7 +20,7 @@ use Rattle.op_rows.proofs.events.event_row.Tie as tie
 abbrev first : tie.Start → List Row
 first c =
     let a = c .args in
-    eventNextRowsIn (a .z) (a .at) (decoded (a .words .now)) (a .kind) (a .meter) (slotOfPage (a .z) (decoded (a .words .now) .table .page) 0) (a .frame)
+    eventNextRowsIn (a .z) (a .at) (decoded (a .words .now)) (a .kind) (a .meter) (slotOfPage (a .z) (decoded (a .words .now) .table .page) 0)
 
 abbrev last : tie.Start → List Row
 last c = let a = c .args in (journalFullOf (a .z) (a .at .head) (a .at .tail) 1, 19) ∷ []

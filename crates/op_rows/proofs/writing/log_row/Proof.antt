@@ -16,7 +16,7 @@ use Rattle.op_rows.proofs.writing.log_row.Tie as tie
 abbrev rows : tie.Start → List Row
 rows c =
     let a = c .args in
-    logRowsIn (a .z) (a .at) (decoded (a .words .now)) (a .span) (a .s) (a .frame)
+    logRowsIn (a .z) (a .at) (decoded (a .words .now)) (a .span)
 
 past1 : (c : tie.Else1) → Past (rows (c .before .before)) 1
 past1 c = (sym (c .before .write-args-bad .ensures) ∙ c .if1 .left, tt)
@@ -49,12 +49,7 @@ returns-3 : tie.Need-returns-3
 returns-3 c = row-at (rows (c .before .before .before .before .before .before)) 2 (omega arith) (past2 (c .before .before)) (sym (c .before .no-entry-left .ensures) ∙ c .if3 .taken)
 
 returns-4 : tie.Need-returns-4
-returns-4 c = row-at (rows (c .before .before .before .before .before .before .before .before)) 3 (omega arith) (past3 (c .before .before)) (sym (c .before .frame-bad .ensures) ∙ c .if4 .taken)
-
-returns-5 : tie.Need-returns-5
-returns-5 c =
-    let p = past3 (c .before .before) in
-    row-none (rows (c .before .before .before .before .before .before .before .before)) (p .0, (p .1 .0, (p .1 .1 .0, (sym (c .before .frame-bad .ensures) ∙ c .if4 .left, tt))))
+returns-4 c = row-none (rows (c .before .before .before .before .before .before)) (past3 c)
 
 pub log-row-spec : {M : Type 1} → statement M
 log-row-spec =
@@ -66,6 +61,4 @@ log-row-spec =
     returns-2
     no-entry-left-requires
     returns-3
-    (λ c κs. search needs)
-    returns-4
-    returns-5)
+    returns-4)

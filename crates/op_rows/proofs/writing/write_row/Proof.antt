@@ -17,7 +17,7 @@ use Rattle.op_rows.proofs.writing.write_row.Tie as tie
 abbrev rows : tie.Start → List Row
 rows c =
     let a = c .args in
-    writeRowsIn (a .z) (a .at) (decoded (a .words .now)) (a .writer) (a .span) (a .s) (a .frame)
+    writeRowsIn (a .z) (a .at) (decoded (a .words .now)) (a .writer) (a .span) (a .s)
 
 past1 : (c : tie.Else1) → Past (rows (c .before .before)) 1
 past1 c = (sym (c .before .write-args-bad .ensures) ∙ c .if1 .left, tt)
@@ -59,12 +59,7 @@ returns-5 : tie.Need-returns-5
 returns-5 c = row-at (rows (c .before .before .before .before .before .before .before .before .before .before)) 4 (omega arith) (past4 (c .before .before)) (sym (c .before .none-free .ensures) ∙ c .if5 .taken)
 
 returns-6 : tie.Need-returns-6
-returns-6 c = row-at (rows (c .before .before .before .before .before .before .before .before .before .before .before .before)) 5 (omega arith) (past5 (c .before .before)) (sym (c .before .frame-bad .ensures) ∙ c .if6 .taken)
-
-returns-7 : tie.Need-returns-7
-returns-7 c =
-    let p = past5 (c .before .before) in
-    row-none (rows (c .before .before .before .before .before .before .before .before .before .before .before .before)) (p .0, (p .1 .0, (p .1 .1 .0, (p .1 .1 .1 .0, (p .1 .1 .1 .1 .0, (sym (c .before .frame-bad .ensures) ∙ c .if6 .left, tt))))))
+returns-6 c = row-none (rows (c .before .before .before .before .before .before .before .before .before .before)) (past5 c)
 
 pub write-row-spec : {M : Type 1} → statement M
 write-row-spec =
@@ -79,6 +74,4 @@ write-row-spec =
     returns-4
     (λ c κs. search needs)
     returns-5
-    (λ c κs. search needs)
-    returns-6
-    returns-7)
+    returns-6)

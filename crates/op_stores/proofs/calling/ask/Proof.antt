@@ -31,7 +31,7 @@ returns c =
     let n = c .before .before .before in
     let s = n .before .before .before in
     let none : needsOf (st s) (s .args .op) ≡ 0 = sym (all n) ∙ c .before .before .if1 .taken in
-    (ap Taken (sym none), started-done (st s) (s .args .image .now) (s .args .until) [] 0 refl refl (s .args .op) (replicate 8 0) 0 none (Taken 0) _ refl (c .complete-now .ensures))
+    (ap Taken (sym none), started-done (st s) (s .args .image .now) (s .args .until) [] 0 refl refl (s .args .op) (replicate 8 0) none (Taken 0) _ refl (c .complete-now .ensures))
 
 start-requires : tie.Need-start-requires
 start-requires c κs =

@@ -21,7 +21,7 @@ complete-write-requires c κs =
     let e = c .before .before .op .given .1 in
     let t = write-taken (s .args .z) (s .args .at) (st s) (s .pre .0) (s .pre .1) e in
     let n = next-low (s .args .z) (s .args .at) (st s) (s .pre .0) in
-    (s .pre .0 .sizes, legal (s .args .z) (s .args .at) (st s) (s .pre .0), rw (s .pre .0 .places) at n, s .pre .0 .busy, t .args .writer-low, t .args .line-low)
+    (s .pre .0 .sizes, legal (s .args .z) (s .args .at) (st s) (s .pre .0), rw (s .pre .0 .places) at n, t .args .writer-low, omega (arith, t .args .page-low, ranges-of (st s) (s .pre .0 .ok) .legal .pages-high), t .args .line-low)
 
 complete-commit-requires : tie.Need-complete-commit-requires
 complete-commit-requires c κs =
@@ -34,7 +34,8 @@ complete-consolidate-requires : tie.Need-complete-consolidate-requires
 complete-consolidate-requires c κs =
     let s = c .before .before .before .before in
     let e = c .before .before .op3 .given .1 in
-    (s .pre .0 .sizes, s .pre .0 .places, ranges-of (st s) (s .pre .0 .ok), consolidate-leans (s .args .z) (s .args .at) (st s) (s .pre .0) (s .pre .1) e .1)
+    let t = consolidate-leans (s .args .z) (s .args .at) (st s) (s .pre .0) (s .pre .1) e in
+    (s .pre .0 .sizes, s .pre .0 .places, ranges-of (st s) (s .pre .0 .ok), t .1, omega (arith, t .0 .page-low, t .0 .legal .pages-high))
 
 complete-checkpoint-requires : tie.Need-complete-checkpoint-requires
 complete-checkpoint-requires c κs =
@@ -47,7 +48,7 @@ complete-event-requires c κs =
     let e = c .before .before .op4 .given .1 in
     let n = head-low (s .args .z) (s .args .at) (st s) (s .pre .0) in
     let m = next-low (s .args .z) (s .args .at) (st s) (s .pre .0) in
-    (s .pre .0 .sizes, legal (s .args .z) (s .args .at) (st s) (s .pre .0), rw (s .pre .0 .places) at n, rw (s .pre .0 .places) at m, s .pre .0 .busy, event-leans (s .args .z) (s .args .at) (st s) (s .pre .0) (s .pre .1) e .1)
+    (s .pre .0 .sizes, legal (s .args .z) (s .args .at) (st s) (s .pre .0), rw (s .pre .0 .places) at n, rw (s .pre .0 .places) at m, event-leans (s .args .z) (s .args .at) (st s) (s .pre .0) (s .pre .1) e .1)
 
 complete-commit-requires-2 : tie.Need-complete-commit-requires-2
 complete-commit-requires-2 c κs =

@@ -69,7 +69,7 @@ loop-again c =
     let s = c .before .before .before .before .before .before .before .before .before .before .before in (
       omega (arith, m, c .before .before .before .before .before .before .before .before .loop-test .taken),
       search needs,
-      piece-turn (λ u. storeAt (st s) u (st s .pending .op)) (λ u. storeValue (st s) u (st s .pending .op)) (st s .pending .made) (l .i) _ _ _ (s .args .image .now) (l .image) _ (l .inv .2)
+      piece-turn (λ u. storeAt (st s) (st s .pending .op)) (λ u. storeValue (st s) u (st s .pending .op)) (st s .pending .made) (l .i) _ _ _ (s .args .image .now) (l .image) _ (l .inv .2)
           (pending-next (s .args .z) (st s) (s .args .op) (s .args .made) (l .i) (l .image) _ (s .pre .1) (s .pre .2) (omega (arith, s .pre .5, l .inv .1)) h)
           (omega (arith, h .some, m)) (c .before .before .put-piece .ensures),
     )

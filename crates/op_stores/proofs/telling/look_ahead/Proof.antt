@@ -6,10 +6,9 @@ use native.Mathlib.Omega.{arith}
 use Rattle.layout.specs.Layout.{imageLength}
 use Rattle.state.specs.State.{State}
 use Rattle.operations.specs.Operations.{needs as needsOf}
-use Rattle.refinement.specs.Stores.{storeAt, storeValue, storesMade}
+use Rattle.refinement.specs.Stores.{storeAt, storeValue}
 use Rattle.op_pieces.specs.declared.Piece.{Piece}
 use Rattle.op_pieces.specs.Pieces.{Next}
-use Rattle.op_pieces.proofs.Turns.{piece-made}
 use Rattle.state_words.specs.Decoded.{decoded}
 use Rattle.op_stores.proofs.Leaning.{made-low, first-place, pending-here}
 use Rattle.op_stores.proofs.telling.look_ahead.Statement.{statement}
@@ -20,14 +19,13 @@ st s = decoded (s .args .words .now)
 
 -- the words of a piece lie side by side
 beside : (st : State) (bound : ℕ) (img : List ℕ) (p : Piece)
-    → Next (λ m. storeAt st m (st .pending .op)) (λ m. storeValue st m (st .pending .op)) (st .pending .made) bound img p
+    → Next (λ m. storeAt st (st .pending .op)) (λ m. storeValue st m (st .pending .op)) (st .pending .made) bound img p
     → (d : ℕ) → p .from + d < p .count
-    → storeAt st (storesMade st d img) (st .pending .op) (st .pending .made + d) ≡ storeAt st img (st .pending .op) (st .pending .made) + d
+    → storeAt st (st .pending .op) (st .pending .made + d) ≡ storeAt st (st .pending .op) (st .pending .made) + d
 beside st bound img p n d l =
-    let same = piece-made (λ m. storeAt st m (st .pending .op)) (λ m. storeValue st m (st .pending .op)) (st .pending .made) bound img p n d (omega (arith, l)) in
     let first = first-place st (st .pending .op) (st .pending .made) bound img p refl refl n in
     let e : p .at + (p .from + d) ≡ p .at + p .from + d = omega arith in
-    ap (λ (m : List ℕ). storeAt st m (st .pending .op) (st .pending .made + d)) (sym same) ∙ n .place d l ∙ e ∙ ap (λ (a : ℕ). a + d) first
+    n .place d l ∙ e ∙ ap (λ (a : ℕ). a + d) first
 
 next-piece-requires : tie.Need-next-piece-requires
 next-piece-requires c κs =

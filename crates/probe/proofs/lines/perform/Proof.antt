@@ -1,27 +1,27 @@
-use mathlib.Core.Path.{_≡_, ap, ap₂, _∙_}
+use mathlib.Core.Path.{_≡_, ap}
 use Prim.Native.Nat.{ℕ}
-use lib.ListN.{length}
+use mathlib.Core.List.{List}
 use borrow.Author.Needs.{needs}
 use Rattle.state.specs.State.{State}
-use Rattle.state_words.specs.Decoded.{decoded}
-use Rattle.text.specs.Fields.{parsed}
-use Rattle.text.specs.declared.Line.{Line}
-use Rattle.workbench.specs.Turns.{Turn, turnAt}
-use Rattle.probing.specs.Lines.{turnOf, lentAfter}
+use Rattle.workbench.specs.Turns.{Turn}
 use Rattle.probe.specs.Program.{Bench}
 use Rattle.probe.proofs.lines.perform.Statement.{statement}
 use Rattle.probe.proofs.lines.perform.Tie as tie
 
+same-bench : {x y : State} {t u : List ℕ} {m n : ℕ} → x ≡ y → t ≡ u → m ≡ n
+    → _≡_ {A = Bench} (record { st = x; table = t; lent = m }) (record { st = y; table = u; lent = n })
+same-bench e d l = cc
+
 returns : tie.Need-returns
 returns c =
-    let a = c .before .before .before .before .before .before .before .before .before .before .before .before .before .before .before .args in
-    let l = c .before .before .before .before .before .before .before .before .before .before .before .parse in
-    let later = c .before .before .before .before .before .before .before .before .before .before .lent-after in
+    let l = c .before .before .before .before .before .before .before .before .before .before .before .before .parse in
+    let later = c .before .before .before .before .before .before .before .before .before .before .before .lent-after in
     let t = c .before .before .before .before .before .before .before .turn in
     let st = rw (l .ensures) at (ap (λ (x : Turn). x .st) (t .ensures .0)) in
+    let table = rw (l .ensures) at (t .ensures .1 .1) in
     let lent = rw (l .ensures) at (later .ensures) in
     let printed = c .before .before .print .ensures in
-    (ap₂ (λ (x : State) (n : ℕ). record { st = x; lent = n }) st lent, (rw (← l .ensures) (t .ensures .1), rw (← l .ensures, ← t .ensures .0) printed))
+    (same-bench st table lent, (rw (← l .ensures) (t .ensures .1 .0), rw (← l .ensures, ← t .ensures .0) printed))
 
 pub perform-spec : {M : Type 1} → statement M
 perform-spec =

@@ -15,7 +15,7 @@ slice-aggregate-perform c = sym (length-take-le _ _ (omega arith))
 returns : tie.Need-returns
 returns c f h =
     let p = c .perform in
-    let count = c .before .before .before .before .before in
+    let count = c .before .before .before .before .before .before in
     let k = count .before .smaller in
     let room = count .before .before in
     let a = room .before .before .before .before .args in
@@ -25,7 +25,7 @@ returns c f h =
     let at : m .at ≡ roomed (a .s .at) = ap (λ (x : Session). x .at) e in
     let kept : m .kept ≡ a .s .kept = ap (λ (x : Session). x .kept) e in
     let all : k .result ≡ a .s .kept = omega (arith, k .ensures, h .begun .within) in
-    shows-performed (stand (a .s) (a .buffer .now) (a .words .now) (a .line .now) (a .out .now)) _ (room .before .before .before .before .pre)
+    shows-performed (stand (a .s) (a .buffer .now) (a .words .now) (a .table .now) (a .line .now) (a .out .now)) _ (room .before .before .before .before .pre)
     (rw (← at) (omega (arith, room .make-room .ensures .0)))
     (record {
       lines = count .wrapping-add-u64 .ensures ∙ ap (λ (x : Session). (x .lines + 1) % 2 ^ 64) e;
@@ -33,7 +33,7 @@ returns c f h =
       bench = rw (← lent, ← all) (p .ensures .0);
       buffer = rw (← lent, ← all) (p .ensures .1 .0);
       text = rw (← lent, ← all, ← at) (p .ensures .1 .1);
-      same-size = p .kept .1 .1 .1 .1 .1 .0;
+      same-size = p .kept .1 .1 .1 .1 .1 .1 .0;
     })
     f h
 

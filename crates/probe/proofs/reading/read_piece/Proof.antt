@@ -8,7 +8,7 @@ unfolding fed
 returns c = (0, λ f h. record { bench = h .bench; buffer = h .buffer; lines = h .lines; waiting = h .waiting; begun = h .begun; unwritten = h .unwritten })
 
 returns-2 : tie.Need-returns-2
-returns-2 c = (c .before .before .before .before .before .before .before .count .result, c .perform-piece .ensures)
+returns-2 c = (c .before .before .before .before .before .before .before .before .count .result, c .perform-piece .ensures)
 
 pub read-piece-spec : {M : Type 1} → statement M
 read-piece-spec =
