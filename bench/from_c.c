@@ -1,10 +1,12 @@
-// This store from C, by libbadgerdross.a. Plainly every call runs to its end. With -DFENCED each is asked for and finished: what was stored is
-// written back from the cache, and each store that decides stands alone between two fences, as libpmemobj flushes and fences its own.
+// This store from C, by libbadgerdross.a. Plainly every call runs to its end; with -DONE_CALL a round is one call. With -DFENCED each call is asked
+// for and finished: what was stored is written back from the cache, and each store that decides stands alone between two fences, as libpmemobj
+// flushes and fences its own.
 #include <cpuid.h>
 #include <fcntl.h>
 #include <immintrin.h>
 #include <stdio.h>
 #include <stdlib.h>
+#include <string.h>
 #include <sys/mman.h>
 #include <unistd.h>
 #include "badgerdross.h"
@@ -58,7 +60,7 @@ void open_store(void)
     __get_cpuid_count(7, 0, &a, &b, &c, &d);
     has_clwb = b >> 24 & 1;
 #endif
-    length = badgerdross_image_length(PAGES, 4, 64, 0);
+    length = badgerdross_image_length(PAGES, SLOTS, PLACES, 0);
     int file = open(path, O_RDWR | O_CREAT, 0600);
     if (file < 0 || ftruncate(file, (off_t)length) != 0)
         exit(1);
@@ -66,9 +68,25 @@ void open_store(void)
     if (image == MAP_FAILED)
         exit(1);
     close(file);
-    must(done(badgerdross_format(&store, image, length, PAGES, 4, 64, 0, UNTIL)));
+    must(done(badgerdross_format(&store, image, length, PAGES, SLOTS, PLACES, 0, UNTIL)));
 }
 
+#ifdef ONE_CALL
+void play(const struct put put[2])
+{
+    uint64_t writes[8], data[2][WORDS];
+    size_t call;
+    for (int i = 0; i < 2; i++) {
+        writes[4 * i] = put[i].page;
+        writes[4 * i + 1] = put[i].line;
+        writes[4 * i + 2] = 0;
+        writes[4 * i + 3] = sizeof data[i];
+        memcpy(data[i], put[i].word, sizeof data[i]);
+    }
+    size_t room = BADGERDROSS_CHECKPOINT | BADGERDROSS_FREE;
+    must(badgerdross_round(&store, image, length, 0, writes, 8, (const uint8_t *)data, sizeof data, room, &call));
+}
+#else
 static void empty_journal(void)
 {
     must(done(badgerdross_checkpoint(&store, image, length, UNTIL)));
@@ -107,6 +125,7 @@ void play(const struct put put[2])
     }
     must(answer);
 }
+#endif
 
 void show(unsigned page, unsigned line, uint64_t word[WORDS])
 {

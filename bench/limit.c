@@ -2,7 +2,7 @@
 #include <string.h>
 #include "round.h"
 
-static uint64_t pages[PAGES][LINES][WORDS], journal[64][4];
+static uint64_t pages[PAGES][LINES][WORDS], journal[PLACES][4];
 static volatile uint64_t head;
 static uint64_t stored;
 
@@ -17,7 +17,7 @@ void play(const struct put put[2])
     }
     uint64_t at = head;
     for (int i = 0; i < 2; i++) {
-        volatile uint64_t *record = journal[(at + i) % 64];
+        volatile uint64_t *record = journal[(at + i) % PLACES];
         for (int k = 0; k < 4; k++)
             record[k] = at + k;
     }

@@ -36,7 +36,7 @@ void open_store(void)
     static char none[SIZE];
     MDB_txn *txn;
     must(mdb_env_create(&env));
-    must(mdb_env_set_mapsize(env, 4 << 20));
+    must(mdb_env_set_mapsize(env, PAGES * (256ul << 10)));
     must(mdb_env_open(env, path, MDB_NOSUBDIR | MDB_NOSYNC | MDB_WRITEMAP, 0600));
     must(mdb_txn_begin(env, 0, 0, &txn));
     must(mdb_dbi_open(txn, 0, MDB_INTEGERKEY, &table));

@@ -18,7 +18,7 @@ static void fail(void)
 void open_store(void)
 {
     size_t size = PAGES * sizeof *pages;
-    pool = pmemobj_create(path, "rounds", PMEMOBJ_MIN_POOL, 0600);
+    pool = pmemobj_create(path, "rounds", PMEMOBJ_MIN_POOL + 2 * size, 0600);
     if (!pool)
         fail();
     // lines lie on cache lines, as ours do

@@ -1,8 +1,14 @@
-// The game round that every program of this folder plays, as crates/rounds does: atomically one line of 64 bytes to each of two pages of 16.
+// The game round that every program of this folder plays, as crates/rounds does: atomically one line of 64 bytes to each of two pages of 16, or,
+// with -DLARGE, of 1,024.
 // A pair of pages stays for so many rounds; the first page's line is one of 24, as meters are, the second's the next of 64, as a history is.
 #include <stdint.h>
 
-enum { PAGES = 16, LINES = 64, WORDS = 8 };
+#ifdef LARGE
+enum { PAGES = 1024, SLOTS = 16, PLACES = 256 };
+#else
+enum { PAGES = 16, SLOTS = 4, PLACES = 64 };
+#endif
+enum { LINES = 64, WORDS = 8 };
 
 // A line of eight equal words.
 struct put {

@@ -5,8 +5,7 @@ set -euo pipefail
 cd "$(dirname "${BASH_SOURCE[0]}")/.."
 
 if [ ! -x target/bin/powerhit ]; then
-    echo "The first time, the program and all that it leans on are proved and built: some five minutes." >&2
-    rt check powerhit > /dev/null
+    tools/proved powerhit rt check powerhit
 fi
 
 stores=("nothing: the power goes as the commit is asked for"
