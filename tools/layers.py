@@ -23,7 +23,7 @@ LAYERS = [
     ("theory", "the calls' definitions, demand 3 and what stands on it; no code",
      "refinement cases leftovers any_order torn_case witnesses placing asked"),
     ("answers", "document 01's numbers; where the copies of a line lie", "answers frames entry_lines"),
-    ("state in words", "256 words that a host keeps; rows tested on them", "state_words state_held state_lines state_rules state_pending op_rows"),
+    ("state in words", "1,280 words that a host keeps; rows tested on them", "state_words state_held state_lines state_rules state_pending op_rows"),
     ("operations", "store i of each; the one function that stores, in turn", "op_*"),
     ("calls", "every call of documents 01 and 02, a round in one call, recall", "call_* recalling host calling"),
     ("reasons", "a refusal as a sentence, and read back", "wording reasons reason_reading refusals"),

@@ -1,10 +1,10 @@
 #!/usr/bin/env python3
 """Holds the Markdown files to the repository.
 
-- every link to a file or to a heading resolves;
+- every link to a file or to a heading resolves, those by a name that the page defines too;
 - every path in code quotes that names a file, a folder, a crate's file or a must-fail edit of the repository exists (the landings' notes aside, which
   name things as they stood then);
-- no line is longer than 120 characters but rows of tables and quoted code.
+- no line is longer than 120 characters but quoted code, and rows of tables on the pages in WIDE.
 """
 import glob
 import os
@@ -12,6 +12,8 @@ import re
 import sys
 
 LONGEST = 120
+# pages whose tables may be wide: bench/RESULTS.md is printed by bench/run and the model, and the gate holds its last table to what the model prints
+WIDE = {"bench/RESULTS.md"}
 CRATES = set(os.listdir("crates"))
 EDITS = ("crates/{}/must-fail/{}.edit", "tests/merge_edits/{}/{}.edit", "tests/release_edits/{}/{}.edit")
 PLACEHOLDER = re.compile(r"\b[A-Z]{2,}\b|\.\.|\*|…")
@@ -85,15 +87,18 @@ def check_quote(path, number, words):
 
 
 for path in pages():
-    text = read(path)
+    named = dict(re.findall(r"^\[([^]]+)\]: (\S+)$", read(path), re.M))
     for number, line, code in lines_of(path):
-        if len(line) > LONGEST and not code and not line.startswith("|"):
+        if len(line) > LONGEST and not code and not (path in WIDE and line.startswith("|")):
             problems.append(f"{path}:{number}: {len(line)} characters")
         if code:
             continue
         plain = re.sub(r"`[^`]*`", "", line)
-        for target in re.findall(r"\]\(([^)\s]+)\)", plain):
-            check_link(path, number, target)
+        for target in re.findall(r"\]\(([^)\s]+)\)|^\[[^]]+\]: (\S+)$", plain):
+            check_link(path, number, "".join(target))
+        for name in re.findall(r"\]\[(\w+)\]", plain):
+            if name not in named:
+                problems.append(f"{path}:{number}: no link is named {name}")
         for words in re.findall(r"`([^`\n]+)`", line) if not path.startswith("docs/landings/L") else []:
             check_quote(path, number, words)
 print(*problems, f"{len(pages())} pages, {len(problems)} problems", sep="\n")

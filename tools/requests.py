@@ -8,6 +8,7 @@ import os
 import re
 import subprocess
 import sys
+import textwrap
 
 PAGE = "docs/REQUESTS.md"
 DEMAND = "crates/refinement/proofs/"
@@ -49,11 +50,18 @@ REQUESTS = {
 }
 HEAD = """# The requests of document 02
 
-Written by `python3 tools/requests.py`; the gate looks up every crate, theorem and note. "Landed" is the commit that
-brought the note to the main line; `-` where the page was written before it.
+All fourteen have landed, each with its note. Written by `python3 tools/requests.py`; the gate looks up every crate,
+theorem and note. "Landed" is the commit that brought the note to the main line; `-` where the page was written before
+it.
 
-| Request | What | Where (crates) | Theorems (L4: the definition that the code is) | Note | Landed |
-|---|---|---|---|---|---|
+| Request | What | Note | Landed |
+|---|---|---|---|
+"""
+LIST_HEAD = """
+## Crates and theorems
+
+Of each request its crates, and below them its theorems (of L4 the definition that the code is).
+
 """
 problems = []
 
@@ -83,22 +91,34 @@ def stands_in(commit, note):
 
 def row(number, said):
     """The line of a request; said is the commit that the page names."""
-    what, crates, theorems = REQUESTS[number]
-    note = f"docs/landings/L{number}.md"
+    what, note = REQUESTS[number][0], f"docs/landings/L{number}.md"
     if not os.path.exists(note):
-        return f"| L{number} | {what} | open | | | |"
+        return f"| L{number} | {what} | open | |"
+    commit = said if said and stands_in(said, note) else landed(note) or "-"
+    return f"| L{number} | {what} | [L{number}](landings/L{number}.md) | {commit} |"
+
+
+def item(number):
+    """The crates and theorems of a request, if it is not open."""
+    _, crates, theorems = REQUESTS[number]
+    if not os.path.exists(f"docs/landings/L{number}.md"):
+        return []
     problems.extend(f"L{number}: there is no crate {crate}" for crate in crates.split() if not os.path.isdir(f"crates/{crate}"))
     problems.extend(f"L{number}: {path} has no {name}" for path, name in theorems
                     if not re.search(rf"^ *(?:abbrev |unfoldable )*pub {re.escape(name)} :", read(path), re.M))
     where = ", ".join(f"`{crate}`" for crate in crates.split())
     proved = ", ".join(f"`{name}` (`{path}`)" for path, name in theorems)
-    commit = said if said and stands_in(said, note) else landed(note) or "-"
-    return f"| L{number} | {what} | {where} | {proved} | [L{number}](landings/L{number}.md) | {commit} |"
+    return [wrapped(f"- **L{number}** {where}"), wrapped(f"  - {proved}", "    ")]
+
+
+def wrapped(words, indent="  "):
+    return textwrap.fill(words, 118, subsequent_indent=indent, break_long_words=False, break_on_hyphens=False)
 
 
 check = "--check" in sys.argv
 stands = {int(n): commit for n, commit in re.findall(r"^\| L(\d+) \|.*\| ([-\w]*) \|$", read(PAGE), re.M)} if check else {}
 text = HEAD + "\n".join(row(number, stands.get(number)) for number in REQUESTS) + "\n"
+text += LIST_HEAD + "\n".join(line for number in REQUESTS for line in item(number)) + "\n"
 notes = {name for name in os.listdir("docs/landings") if re.fullmatch(r"L\d+\.md", name)}
 problems += [f"docs/landings/{name} is of no request listed" for name in sorted(notes - {f"L{n}.md" for n in REQUESTS})]
 if not check:

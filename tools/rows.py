@@ -318,8 +318,8 @@ def in_order(path, name):
     return ", ".join(numbers for _, numbers in sorted(found))
 
 
-def call_row(call):
-    """A call's line: its rows in order, its definition, its code and its law."""
+def parts_of(call):
+    """What is said of a call: its rows in order, and where its definition, its table of rows and its code stand."""
     law, table = laws()[call]
     rows = resolved(LAWS, table)
     names = [f"{call}Of", f"{call.replace('Slot', '')}Of", f"{call}Row", f"{call}Call"]
@@ -328,20 +328,28 @@ def call_row(call):
             and f.lines[0].startswith("pub ") and "call_round" not in f.path]
     if not where or len(code) != 1 or not os.path.exists(code[0].proof):
         problems.append(f"the call {call} has the definition {where} and {len(code)} functions")
-        return ""
+        return None
     # the law of a write speaks of a table of its own, which it shows to be the call's
-    tables = f"`{call}CallRows`" if rows[0] == LAWS else f"`{table}`" + (f" (`{rows[0]}`)" if rows[0] != where[0] else "")
-    return f"| {call} | {in_order(LAWS, table)} | `{where[1]}` (`{where[0]}`) | {tables} | `{code[0].name}` (`{code[0].path}`) | `{law}` |"
+    tabled = (where[0], f"{call}CallRows") if rows[0] == LAWS else (rows[0], table)
+    line = f"| {call} | {in_order(LAWS, table)} | `{where[1]}` | `{tabled[1]}` | `{law}` |"
+    return line, where, tabled, (code[0].path, code[0].name)
 
 
 CALLS_HEAD = """## The calls
 
 The rows of each call in their order. Of a write the first bracket is the wide writer's, the second any other's. What a
-taken call does is in its definition, on the same page as its rows where no other is named.
+taken call does is in its definition. Where definitions, tables and code stand is said below.
 
-| Call | Rows | Definition | Table | Code | Law |
-|---|---|---|---|---|---|
+| Call | Rows | Definition | Table | Law |
+|---|---|---|---|---|
 """
+
+
+def calls_part():
+    """The calls: a narrow table, and the files of what it names."""
+    lines, defined, tables, code = zip(*filter(None, (parts_of(call) for call in laws())))
+    files = [wrapped("Definitions", by_file(defined)), wrapped("Tables", by_file(tables)), wrapped("Code", by_file(code))]
+    return CALLS_HEAD + "\n".join(lines) + "\n\n" + "\n".join(files) + "\n"
 
 
 def gone(number):
@@ -352,7 +360,7 @@ def gone(number):
 def page():
     calls, told, names = calls_of(), sentences(), answers()
     parts = [section(n, calls[n], told[n], names[n]) if calls.get(n) else gone(n) for n in range(1, max(calls) + 1)]
-    return HEAD + "\n" + "\n".join(parts) + "\n" + CALLS_HEAD + "\n".join(call_row(call) for call in laws()) + "\n"
+    return HEAD + "\n" + "\n".join(parts) + "\n" + calls_part()
 
 
 text = page()
