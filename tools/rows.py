@@ -173,7 +173,7 @@ class Function:
     def refuses(self):
         """Whether its contract tells a row's number, an answer or what turns a call back."""
         contract = "\n".join(self.lines).split("\n{\n")[0].partition("ensures")[2]
-        return bool(re.search(r"refusal|Row|turnedBack|answeredAt|Found|Leaves|Started|Keeps|mountOf|readOf|loadOf", contract))
+        return bool(re.search(r"refusal|Row|turned_back|answered_at|Found|Leaves|Started|Keeps|mount_of|readOf|loadOf", contract))
 
 
 def functions():

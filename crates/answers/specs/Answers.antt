@@ -76,16 +76,16 @@ stores_of OtherOpen = 0
 stores_of EntriesUsed = 0
 
 -- an answer with the state after the call
-abbrev pub answeredAt : Answer → State → Outcome
-answeredAt a st = record { number = number_of a; stores = stores_of a; state = st }
+abbrev pub answered_at : Answer → State → Outcome
+answered_at a st = record { number = number_of a; stores = stores_of a; state = st }
 
 -- the numbers that calls answer: 0 to 30 without 16, whose row document 02's L5 takes from the table
-abbrev pub isAnswer : ℕ → Bool
-isAnswer n = leb n 30 && not (eqb n 16)
+abbrev pub is_answer : ℕ → Bool
+is_answer n = leb n 30 && not (eqb n 16)
 
 -- the answer with a number
-abbrev pub asAnswer : ℕ → ℕ → Answer
-asAnswer row n =
+abbrev pub as_answer : ℕ → ℕ → Answer
+as_answer row n =
     cond (eqb row 0) (Taken n) (cond (eqb row 1) ImageTooShort (cond (eqb row 2) UnknownLayout
     (cond (eqb row 3) SizesOutOfRange (cond (eqb row 4) BufferTooShort (
     cond (eqb row 5) BadPositions (cond (eqb row 6) BadRecord (cond (eqb row 7) BadSlots (cond (eqb row 8) BadState (cond (eqb row 9) OperationPending (

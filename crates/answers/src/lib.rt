@@ -1,6 +1,6 @@
 // Answers by the numbers of documents 01 and 02.
 ghost use Rattle.std.specs.Prelude.{◌≡◌};
-ghost use Rattle.answers.specs.Answers.{number_of, asAnswer};
+ghost use Rattle.answers.specs.Answers.{number_of, as_answer};
 
 // A taken call says how many stores it needs or made; a refused one names the first rule that it breaks.
 #[derive(Drop)]
@@ -39,7 +39,7 @@ pub enum Answer {
 
 // The answer with a row's number; 0 is taken, with its stores.
 pub fn answer_of(row: usize, stores: usize) -> Answer
-    ensures { result ≡ asAnswer row stores }
+    ensures { result ≡ as_answer row stores }
 {
     match row {
         0 => Answer::Taken(stores),

@@ -5,14 +5,14 @@ use mathlib.Core.List.{List}
 use mathlib.Core.Path.{◌≡◌, refl, sym, ap, ◌∙◌, subst}
 use lib.ListN.{length, drop}
 use Rattle.layout.specs.declared.Sizes.{Sizes}
-use Rattle.layout.specs.Layout.{imageLength}
+use Rattle.layout.specs.Layout.{image_length}
 use Rattle.words.specs.Words.{word}
 use Rattle.mount.proofs.View.{View, view_of, Shows}
 use Rattle.mount.proofs.Verdict.{Taken}
 use Rattle.state.specs.State.{State, Wide}
 use Rattle.state.specs.declared.Pending.{Pending}
 use Rattle.refinement.specs.Stores.{World}
-use Rattle.refinement.specs.Calls.{worldOf}
+use Rattle.refinement.specs.Calls.{world_of}
 use Rattle.refinement.specs.Run.{Result, mount, exec}
 use Rattle.refinement.specs.Reference.{Reference, turn}
 use Rattle.refinement.specs.Beside.{line_of}
@@ -22,7 +22,7 @@ use Rattle.refinement.proofs.MountReadsBack.{reached-finds}
 use Rattle.refinement.proofs.Reached.{Reached, past_same}
 use Rattle.refinement.proofs.Remount.{remounted}
 use Rattle.leftovers.specs.Leftovers.{Replaced}
-use Rattle.leftovers.proofs.AfterMount.{foundState, Found, found-invariant}
+use Rattle.leftovers.proofs.AfterMount.{found_state, Found, found-invariant}
 use Rattle.leftovers.proofs.Replaced.{still-shows, still-taken, still-shown, still_alike}
 use Rattle.leftovers.proofs.Alike.{Alike}
 use Rattle.any_order.specs.AnyOrder.{Machine, Torn, Survives}
@@ -45,20 +45,20 @@ module _ {z : Sizes} {past : List ℕ} (m : Machine) (h : Reached z past m.world
   found = view_of (word x)
 
   abbrev u : World
-  u = worldOf v.st image
+  u = world_of v.st image
 
   T : Taken (length x) found
   T = taken v b h
 
-  past-mixed : drop (imageLength z) image ≡ past
+  past-mixed : drop (image_length z) image ≡ past
   past-mixed =
       let e = past_same v b h in
-      mixed-past m.since image torn.bytes (imageLength z) x torn.as_long (all_map (λ y q. q ∙ sym e) m.since s.pasts) ∙ e
+      mixed-past m.since image torn.bytes (image_length z) x torn.as_long (all_map (λ y q. q ∙ sym e) m.since s.pasts) ∙ e
 
   module _ (d : Wide) (p : Pending) (F : Found found d p) where
-    R : Replaced (worldOf (foundState found d p) x) image
+    R : Replaced (world_of (found_state found d p) x) image
     R =
-        mixed-replaced m.since image torn.bytes (worldOf (foundState found d p) x) (bytes v b h) T.fits torn.as_long (s.mixable d p F)
+        mixed-replaced m.since image torn.bytes (world_of (found_state found d p) x) (bytes v b h) T.fits torn.as_long (s.mixable d p F)
 
     shows : Shows image found
     shows = still-shows x found refl T d p F image R
@@ -66,19 +66,19 @@ module _ {z : Sizes} {past : List ℕ} (m : Machine) (h : Reached z past m.world
     takes : Taken (length image) found
     takes = still-taken x found refl T d p F image R
 
-    mounts : ((exec mount u).number ≡ 0) × ((exec mount u).world ≡ worldOf (foundState found d p) image)
+    mounts : ((exec mount u).number ≡ 0) × ((exec mount u).world ≡ world_of (found_state found d p) image)
     mounts =
         let e = mount-viewed u found shows takes in
-        (ap (λ (r : Result). r.number) e, ap (λ (r : Result). r.world) e ∙ ap (λ (t : State). worldOf t image) F.is)
+        (ap (λ (r : Result). r.number) e, ap (λ (r : Result). r.world) e ∙ ap (λ (t : State). world_of t image) F.is)
 
-    again : Reached z past (worldOf (foundState found d p) image) (remounted b)
+    again : Reached z past (world_of (found_state found d p) image) (remounted b)
     again =
         let e : (view v b h).sizes ≡ z = sizes v b h in
         record {
           sizes = e;
           related =
-              subst (λ (q : List ℕ). Invariant q (worldOf (foundState found d p) image) (remounted b))
-              (ap (λ (y : Sizes). drop (imageLength y) image) e ∙ past-mixed)
+              subst (λ (q : List ℕ). Invariant q (world_of (found_state found d p) image) (remounted b))
+              (ap (λ (y : Sizes). drop (image_length y) image) e ∙ past-mixed)
               (found-invariant image found b R.bytes shows takes (still-shown x found refl T d p F image R b (bytes v b h) (shown v b h)) d p F);
         }
 
@@ -86,7 +86,7 @@ module _ {z : Sizes} {past : List ℕ} (m : Machine) (h : Reached z past m.world
     reached-again =
         let r = exec mount u in
         subst (λ (w : World). Reached z past w (turn mount r.number r.stores b)) (sym mounts.1)
-        (subst (λ (n : ℕ). Reached z past (worldOf (foundState found d p) image) (turn mount n r.stores b)) (sym mounts.0) again)
+        (subst (λ (n : ℕ). Reached z past (world_of (found_state found d p) image) (turn mount n r.stores b)) (sym mounts.0) again)
 
     -- the mount of it is told apart from one of all stores by nothing
     pub number_same : (exec mount v).number ≡ (exec mount u).number
@@ -101,10 +101,10 @@ module _ {z : Sizes} {past : List ℕ} (m : Machine) (h : Reached z past m.world
     pub alike-mixed : Alike x image
     alike-mixed = still_alike x found refl T d p F image R
 
-    pub survived : (buffer : List ℕ) → past ≡ drop (imageLength z) buffer → Survives z buffer m image
+    pub survived : (buffer : List ℕ) → past ≡ drop (image_length z) buffer → Survives z buffer m image
     survived buffer q =
         let e = mount-viewed u found shows takes in
-        let w : World = worldOf (foundState found d p) image in
+        let w : World = world_of (found_state found d p) image in
         let g = mount-viewed w found shows takes in
         let F₂ = reached-finds z w (remounted b) again in
         record {

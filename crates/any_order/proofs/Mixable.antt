@@ -7,19 +7,19 @@ use mathlib.Core.Path.{◌≡◌, sym, ◌∙◌, subst}
 use lib.Dec.{eqb}
 use lib.ListN.{length}
 use borrow.Author.Tests.{eqb-true, eqb-false}
-use Rattle.bounded.proofs.Tests.{caseOn}
+use Rattle.bounded.proofs.Tests.{case_on}
 use Rattle.words.specs.Words.{Bytes, store}
 use Rattle.mount.proofs.View.{View, Shows}
 use Rattle.mount.proofs.Verdict.{Taken}
 use Rattle.state.specs.State.{Wide}
 use Rattle.state.specs.declared.Pending.{Pending}
-use Rattle.state.specs.Wide.{noWide}
+use Rattle.state.specs.Wide.{no_wide}
 use Rattle.refinement.specs.Mount.{copying}
-use Rattle.refinement.specs.Settled.{noPending}
+use Rattle.refinement.specs.Settled.{no_pending}
 use Rattle.refinement.specs.Stores.{World}
-use Rattle.refinement.specs.Calls.{worldOf}
+use Rattle.refinement.specs.Calls.{world_of}
 use Rattle.leftovers.specs.Leftovers.{Leftover, journal-place, under-record, slotted-page, padding, other-copy, past-entries, under-entry, Replaced, Scribbled}
-use Rattle.leftovers.proofs.AfterMount.{foundState, Found, copies, quiet-found, copying-found}
+use Rattle.leftovers.proofs.AfterMount.{found_state, Found, copies, quiet-found, copying-found}
 use Rattle.leftovers.proofs.EveryWord.{scribbled}
 use Rattle.leftovers.proofs.Replaced.{copied-inside, still-shows, still-taken}
 use Rattle.any_order.proofs.Harmless.{LeftIn, Harmless}
@@ -36,25 +36,25 @@ all_map f (x ∷ xs) h = (f x h.0, all_map f xs h.1)
 -- a mount that finds this view returns some state
 pub some-found : {X : Type 0} (v : View) → ((d : Wide) (p : Pending) → Found v d p → X) → X
 some-found v f =
-    caseOn (eqb v.count 0)
-    (λ t. f noWide noPending (quiet-found v (eqb-true v.count 0 t)))
+    case_on (eqb v.count 0)
+    (λ t. f no_wide no_pending (quiet-found v (eqb-true v.count 0 t)))
     (λ t. f (copies v) copying (copying-found v (eqb-false v.count 0 t)))
 
 -- each of these images is the image with leftovers replaced
 abbrev pub Mixable : View → List ℕ → List (List ℕ) → Type 0
-Mixable view img since = (d : Wide) (p : Pending) → Found view d p → All (Replaced (worldOf (foundState view d p) img)) since
+Mixable view img since = (d : Wide) (p : Pending) → Found view d p → All (Replaced (world_of (found_state view d p) img)) since
 
 module _ (img : List ℕ) (view : View) (shows : Shows img view) (taken : Taken (length img) view) (bytes : Bytes img) where
-  itself : (d : Wide) (p : Pending) → Found view d p → Scribbled (worldOf (foundState view d p) img)
-  itself d p F = scribbled (worldOf (foundState view d p) img) taken.legal (copied-inside img view shows taken d p F) bytes taken.fits
+  itself : (d : Wide) (p : Pending) → Found view d p → Scribbled (world_of (found_state view d p) img)
+  itself d p F = scribbled (world_of (found_state view d p) img) taken.legal (copied-inside img view shows taken d p F) bytes taken.fits
 
   pub mixable-one : Mixable view img (img ∷ [])
   mixable-one d p F = ((itself d p F).none, tt)
 
   module _ (image : List ℕ) (s : Harmless view img image) where
-    harmless-replaced : (d : Wide) (p : Pending) → Found view d p → Replaced (worldOf (foundState view d p) img) image
+    harmless-replaced : (d : Wide) (p : Pending) → Found view d p → Replaced (world_of (found_state view d p) img) image
     harmless-replaced d p F =
-        let v : World = worldOf (foundState view d p) img in
+        let v : World = world_of (found_state view d p) img in
         let S = itself d p F in
         ⊎_elim
         (λ e. subst (Replaced v) (sym e) S.none)
@@ -66,11 +66,11 @@ module _ (img : List ℕ) (view : View) (shows : Shows img view) (taken : Taken 
     harmless-shows = some-found view (λ d p F. still-shows img view shows taken d p F image (harmless-replaced d p F))
 
     module _ (d : Wide) (p : Pending) (F : Found view d p) where
-      R : Replaced (worldOf (foundState view d p) img) image
+      R : Replaced (world_of (found_state view d p) img) image
       R = harmless-replaced d p F
 
       -- what is left over stays so: the state tells it
-      left-stays : (a : ℕ) → Leftover (worldOf (foundState view d p) img) a → Leftover (worldOf (foundState view d p) image) a
+      left-stays : (a : ℕ) → Leftover (world_of (found_state view d p) img) a → Leftover (world_of (found_state view d p) image) a
       left-stays a (journal-place q k l f e) = journal-place q k l f e
       left-stays a (under-record s k h l f e) = under-record s k h l f e
       left-stays a (slotted-page q h f e) = slotted-page q h f e
@@ -79,7 +79,7 @@ module _ (img : List ℕ) (view : View) (shows : Shows img view) (taken : Taken 
       left-stays a (past-entries e k l m lk q) = past-entries e k l m lk q
       left-stays a (under-entry e k l lk q) = under-entry e k l lk q
 
-      one-stays : (x : List ℕ) → Replaced (worldOf (foundState view d p) img) x → Replaced (worldOf (foundState view d p) image) x
+      one-stays : (x : List ℕ) → Replaced (world_of (found_state view d p) img) x → Replaced (world_of (found_state view d p) image) x
       one-stays x Q =
           record {
             bytes = Q.bytes;
@@ -87,7 +87,7 @@ module _ (img : List ℕ) (view : View) (shows : Shows img view) (taken : Taken 
             kept = λ a l n. Q.kept a l (λ m. n (left-stays a m)) ∙ sym (R.kept a l (λ m. n (left-stays a m)));
           }
 
-      stays : (since : List (List ℕ)) → All (Replaced (worldOf (foundState view d p) img)) since → All (Replaced (worldOf (foundState view d p) image)) (image ∷ since)
+      stays : (since : List (List ℕ)) → All (Replaced (world_of (found_state view d p) img)) since → All (Replaced (world_of (found_state view d p) image)) (image ∷ since)
       stays since h = (one-stays image R, all_map one-stays since h)
 
     pub mixable-more : (since : List (List ℕ)) → Mixable view img since → Mixable view image (image ∷ since)

@@ -6,7 +6,7 @@ use mathlib.Core.Path.{◌≡◌, sym, ap, ◌∙◌, subst}
 use native.Mathlib.Omega.{arith}
 use lib.ListN.{length, drop, get_or, length-drop}
 use lib.Seq.{get_or-take, get_or-drop, ext_get_or}
-use Rattle.layout.specs.Layout.{imageLength}
+use Rattle.layout.specs.Layout.{image_length}
 use Rattle.words.specs.Words.{Bytes, part, le_of, bytes_of, word_at, word}
 use Rattle.words.proofs.Parts.{length_part}
 use Rattle.words.proofs.WordLaws.{bytes_word}
@@ -43,7 +43,7 @@ stood P i [] h b q = absurd q
 stood P i (x ∷ xs) h b q = ⊎_elim (λ e. subst P (sym e) h.0) (λ r. stood P i xs h.1 b r) q
 
 module _ (since : List (List ℕ)) (image : List ℕ) (torn : (i : ℕ) → StoodAt since i (get_or image i 0)) where
-  pub mixed-replaced : (v : World) → Bytes v.image → imageLength v.st.sizes ≤ length v.image → length image ≡ length v.image → All (Replaced v) since → Replaced v image
+  pub mixed-replaced : (v : World) → Bytes v.image → image_length v.st.sizes ≤ length v.image → length image ≡ length v.image → All (Replaced v) since → Replaced v image
   mixed-replaced v bytes whole long h =
       record {
         bytes = λ i. stood (λ b. b < 256) i since (all_map (λ x R. R.bytes i) since h) (get_or image i 0) (torn i);

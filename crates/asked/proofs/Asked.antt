@@ -13,11 +13,11 @@ use Rattle.operations.specs.Operations.{needs}
 use Rattle.refinement.proofs.EventRows.{event-some}
 
 -- an operation with none of its stores made, and the state with it pending
-abbrev pub pendingFrom : Op → List ℕ → Pending
-pendingFrom op line = record { op = op; made = 0; line = line; second = replicate 8 0 }
+abbrev pub pending_from : Op → List ℕ → Pending
+pending_from op line = record { op = op; made = 0; line = line; second = replicate 8 0 }
 
-abbrev pub pendingWith : State → Pending → State
-pendingWith st p =
+abbrev pub pending_with : State → Pending → State
+pending_with st p =
     record {
       sizes = st.sizes;
       head = st.head;

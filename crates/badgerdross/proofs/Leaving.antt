@@ -3,18 +3,18 @@ use Prim.Native.Nat.{ℕ}
 use mathlib.Core.List.{List}
 use mathlib.Core.Path.{◌≡◌, ap, subst, ◌∙◌}
 use lib.Dec.{eqb}
-use Rattle.bounded.proofs.Tests.{caseOn}
+use Rattle.bounded.proofs.Tests.{case_on}
 use Rattle.state.specs.State.{State}
 use Rattle.refinement.specs.Outcome.{Outcome}
 use Rattle.answers.specs.declared.Answer.{Answer}
 use Rattle.answers.specs.Answers.{number_of, stores_of}
 use Rattle.op_stores.specs.declared.Until.{Until}
-use Rattle.op_stores.specs.Started.{startedOf, Started}
+use Rattle.op_stores.specs.Started.{started_of, Started}
 use Rattle.refinement.specs.Stores.{World}
-use Rattle.refinement.specs.Calls.{worldOf}
+use Rattle.refinement.specs.Calls.{world_of}
 use Rattle.call_round.specs.declared.Room.{Room}
 use Rattle.call_round.specs.declared.Round.{Round}
-use Rattle.call_round.specs.Round.{Played, roundOf}
+use Rattle.call_round.specs.Round.{Played, round_of}
 use Rattle.badgerdross.specs.Left.{Leaves, Starts, Keeps, Plays}
 
 -- r is the answer's number
@@ -25,7 +25,7 @@ module _ (a : Answer) (r : ℕ) (e : r ≡ number_of a) where
   pub starts : (after : State) (bytes : List ℕ) (o : Outcome) (image : List ℕ) (u v : Until) → u ≡ v → Started a after bytes o image u
       → Starts r after bytes o image v
   starts after bytes o image u v s h =
-      let same : (startedOf o image v).number ≡ o.number = caseOn (eqb o.stores 0) (λ t. rw t) (λ t. rw t) in
+      let same : (started_of o image v).number ≡ o.number = case_on (eqb o.stores 0) (λ t. rw t) (λ t. rw t) in
       let g = subst (λ (w : Until). Started a after bytes o image w) s h in
       (e ∙ ap (λ (x : Outcome). x.number) g.0 ∙ same, ap (λ (x : Outcome). x.state) g.0, g.1)
 
@@ -34,8 +34,8 @@ module _ (a : Answer) (r : ℕ) (e : r ≡ number_of a) where
 
 -- a round in one call
 pub plays : (r : Round) (after : State) (bytes : List ℕ) (room asked : Room) (w : ℕ) (writes lent : List ℕ) (v : World) → room ≡ asked
-    → record { world = worldOf after bytes; number = r.number; call = r.call; stores = r.stores } ≡ roundOf room w writes lent v
-    → Plays r.number after bytes r.call (roundOf asked w writes lent v)
+    → record { world = world_of after bytes; number = r.number; call = r.call; stores = r.stores } ≡ round_of room w writes lent v
+    → Plays r.number after bytes r.call (round_of asked w writes lent v)
 plays r after bytes room asked w writes lent v s h =
     let g = rw s at h in
     (ap (λ (t : Played). t.number) g, ap (λ (t : Played). t.world.st) g, ap (λ (t : Played). t.world.image) g, ap (λ (t : Played). t.call) g)

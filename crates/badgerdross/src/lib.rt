@@ -7,12 +7,12 @@ mod service;
 mod whole;
 
 ghost use Rattle.std.specs.Prelude.{cond, ◌≡◌};
-ghost use Rattle.layout.specs.Layout.{sizesOk, imageLength};
-ghost use Rattle.refinement.specs.Mount.{format_of, mountCall};
-ghost use Rattle.refinement.specs.Recall.{recallRow, recallBytes};
+ghost use Rattle.layout.specs.Layout.{sizes_ok, image_length};
+ghost use Rattle.refinement.specs.Mount.{format_of, mount_call};
+ghost use Rattle.refinement.specs.Recall.{recall_row, recall_bytes};
 ghost use Rattle.state_words.specs.Decoded.{decoded};
 ghost use Rattle.call_mount.specs.Replacing.{replacing};
-ghost use Rattle.badgerdross.specs.Left.{Leaves, Starts, Keeps, untilBy, sizesBy, version};
+ghost use Rattle.badgerdross.specs.Left.{Leaves, Starts, Keeps, until_by, sizes_by, version};
 
 use layout::Sizes;
 use op_stores::Until;
@@ -20,7 +20,7 @@ use state_words::Words;
 
 // How far an operation is taken: 0 not at all, 1 to before the store that decides, else to its end.
 fn until_of(n: usize) -> Until
-    ensures { result ≡ untilBy n }
+    ensures { result ≡ until_by n }
 {
     if n == 0 {
         return Until::Asked;
@@ -47,7 +47,7 @@ pub extern "C" fn badgerdross_image_length(
     places: usize,
     entries: usize,
 ) -> usize
-    ensures { result ≡ cond (sizesOk (sizesBy pages slots places entries)) (imageLength (sizesBy pages slots places entries)) 0 }
+    ensures { result ≡ cond (sizes_ok (sizes_by pages slots places entries)) (image_length (sizes_by pages slots places entries)) 0 }
 {
     let z = Sizes {
         pages,
@@ -73,7 +73,7 @@ pub extern "C" fn badgerdross_format(
     until: usize,
 ) -> usize
     ensures state { Starts result (decoded words.new) image.new
-        (replacing (decoded words.old) (format_of (sizesBy pages slots places entries) image.old)) image.old (untilBy until) }
+        (replacing (decoded words.old) (format_of (sizes_by pages slots places entries) image.old)) image.old (until_by until) }
     ensures words { Keeps result words.new words.old }
 {
     let z = Sizes {
@@ -89,7 +89,7 @@ pub extern "C" fn badgerdross_format(
 // Mounts an image.
 #[unsafe(no_mangle)]
 pub extern "C" fn badgerdross_mount(words: &mut Words, image: &[u8]) -> usize
-    ensures state { Leaves result (decoded words.new) (replacing (decoded words.old) (mountCall image.now)) }
+    ensures state { Leaves result (decoded words.new) (replacing (decoded words.old) (mount_call image.now)) }
     ensures words { Keeps result words.new words.old }
 {
     answers::number_of(call_mount::mount(image, words))
@@ -103,8 +103,8 @@ pub extern "C" fn badgerdross_recall(
     image: &[u8],
     target: &mut [u8],
 ) -> usize
-    ensures number { result ≡ recallRow image.now page line target.old }
-    ensures bytes { target.new ≡ recallBytes image.now page line target.old }
+    ensures number { result ≡ recall_row image.now page line target.old }
+    ensures bytes { target.new ≡ recall_bytes image.now page line target.old }
 {
     recalling::recall(page, line, image, target)
 }

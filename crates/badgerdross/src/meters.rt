@@ -1,8 +1,8 @@
 // Meters: an event, and a venue's own moduli.
 ghost use Rattle.std.specs.Prelude.{cond, ◌≡◌, eqb};
-ghost use Rattle.refinement.specs.Calls.{eventOf, load_of};
+ghost use Rattle.refinement.specs.Calls.{event_of, load_of};
 ghost use Rattle.state_words.specs.Decoded.{decoded};
-ghost use Rattle.badgerdross.specs.Left.{Starts, Keeps, untilBy};
+ghost use Rattle.badgerdross.specs.Left.{Starts, Keeps, until_by};
 
 use state_words::Words;
 
@@ -18,7 +18,7 @@ pub extern "C" fn badgerdross_event(
     until: usize,
 ) -> usize
     ensures state { Starts result (decoded words.new) image.new
-        (eventOf (decoded words.old) image.old moduli.now kind meter amount) image.old (untilBy until) }
+        (event_of (decoded words.old) image.old moduli.now kind meter amount) image.old (until_by until) }
     ensures words { Keeps result words.new words.old }
 {
     let u = crate::until_of(until);

@@ -1,8 +1,8 @@
 // The pending operation: stepped, run, and what its next store is.
 ghost use Rattle.std.specs.Prelude.{cond, ◌≡◌, eqb};
 ghost use Rattle.answers.specs.Answers.{number_of};
-ghost use Rattle.call_step.specs.NextStore.{nextStoreOf};
-ghost use Rattle.refinement.specs.Calls.{step_of, stepBytes, run_of, runBytes};
+ghost use Rattle.call_step.specs.NextStore.{next_store_of};
+ghost use Rattle.refinement.specs.Calls.{step_of, step_bytes, run_of, run_bytes};
 ghost use Rattle.state_words.specs.Decoded.{decoded};
 ghost use Rattle.badgerdross.specs.Left.{Leaves, Keeps};
 ghost use Rattle.badgerdross.specs.Told.{Tells};
@@ -13,7 +13,7 @@ use state_words::Words;
 #[unsafe(no_mangle)]
 pub extern "C" fn badgerdross_step(words: &mut Words, image: &mut [u8]) -> usize
     ensures state { Leaves result (decoded words.new) (step_of (decoded words.old) image.old) }
-    ensures bytes { image.new ≡ stepBytes (decoded words.old) image.old }
+    ensures bytes { image.new ≡ step_bytes (decoded words.old) image.old }
     ensures words { Keeps result words.new words.old }
 {
     answers::number_of(call_step::step(image, words))
@@ -28,7 +28,7 @@ pub extern "C" fn badgerdross_run(
     made: &mut usize,
 ) -> usize
     ensures state { Leaves result (decoded words.new) (run_of (decoded words.old) image.old stores) }
-    ensures bytes { image.new ≡ runBytes (decoded words.old) image.old stores }
+    ensures bytes { image.new ≡ run_bytes (decoded words.old) image.old stores }
     ensures words { Keeps result words.new words.old }
     ensures made { made.new ≡
         cond (eqb result 0) (run_of (decoded words.old) image.old stores).stores made.old }
@@ -49,7 +49,7 @@ pub extern "C" fn badgerdross_next_store(
     image: &[u8],
     next: &mut [usize; 5],
 ) -> usize
-    ensures number { result ≡ number_of (nextStoreOf (decoded words.now) image.now).answer }
+    ensures number { result ≡ number_of (next_store_of (decoded words.now) image.now).answer }
     ensures told { result ≡ 0 → Tells (decoded words.now) image.now next.new }
     ensures kept { Keeps result next.new next.old }
 {

@@ -1,8 +1,8 @@
 // Room: for slots by consolidation, for the journal by a checkpoint.
 ghost use Rattle.std.specs.Prelude.{◌≡◌};
-ghost use Rattle.refinement.specs.Calls.{consolidateOf, freeOf, checkpointOf};
+ghost use Rattle.refinement.specs.Calls.{consolidate_of, free_of, checkpoint_of};
 ghost use Rattle.state_words.specs.Decoded.{decoded};
-ghost use Rattle.badgerdross.specs.Left.{Starts, Keeps, untilBy};
+ghost use Rattle.badgerdross.specs.Left.{Starts, Keeps, until_by};
 
 use state_words::Words;
 
@@ -15,7 +15,7 @@ pub extern "C" fn badgerdross_consolidate(
     until: usize,
 ) -> usize
     ensures state { Starts result (decoded words.new) image.new
-        (consolidateOf (decoded words.old) image.old page) image.old (untilBy until) }
+        (consolidate_of (decoded words.old) image.old page) image.old (until_by until) }
     ensures words { Keeps result words.new words.old }
 {
     let u = crate::until_of(until);
@@ -26,7 +26,7 @@ pub extern "C" fn badgerdross_consolidate(
 #[unsafe(no_mangle)]
 pub extern "C" fn badgerdross_free_slot(words: &mut Words, image: &mut [u8], until: usize) -> usize
     ensures state { Starts result (decoded words.new) image.new
-        (freeOf (decoded words.old) image.old) image.old (untilBy until) }
+        (free_of (decoded words.old) image.old) image.old (until_by until) }
     ensures words { Keeps result words.new words.old }
 {
     let u = crate::until_of(until);
@@ -37,7 +37,7 @@ pub extern "C" fn badgerdross_free_slot(words: &mut Words, image: &mut [u8], unt
 #[unsafe(no_mangle)]
 pub extern "C" fn badgerdross_checkpoint(words: &mut Words, image: &mut [u8], until: usize) -> usize
     ensures state { Starts result (decoded words.new) image.new
-        (checkpointOf (decoded words.old) image.old) image.old (untilBy until) }
+        (checkpoint_of (decoded words.old) image.old) image.old (until_by until) }
     ensures words { Keeps result words.new words.old }
 {
     let u = crate::until_of(until);

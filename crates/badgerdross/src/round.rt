@@ -1,8 +1,8 @@
 // A round: begun, written, read, committed or aborted; and a commit in two parts.
 ghost use Rattle.std.specs.Prelude.{◌≡◌, length};
-ghost use Rattle.refinement.specs.Calls.{beginOf, beginWideOf, abortOf, writeOf, commitOf, prepareOf, confirmOf, withdrawOf, readRow, readBytes};
+ghost use Rattle.refinement.specs.Calls.{begin_of, begin_wide_of, abort_of, write_of, commit_of, prepare_of, confirm_of, withdraw_of, read_row, read_bytes};
 ghost use Rattle.state_words.specs.Decoded.{decoded};
-ghost use Rattle.badgerdross.specs.Left.{Leaves, Starts, Keeps, untilBy};
+ghost use Rattle.badgerdross.specs.Left.{Leaves, Starts, Keeps, until_by};
 
 use call_write::Span;
 use state_words::Words;
@@ -10,7 +10,7 @@ use state_words::Words;
 // Opens a writer.
 #[unsafe(no_mangle)]
 pub extern "C" fn badgerdross_begin(words: &mut Words, writer: usize) -> usize
-    ensures state { Leaves result (decoded words.new) (beginOf (decoded words.old) writer) }
+    ensures state { Leaves result (decoded words.new) (begin_of (decoded words.old) writer) }
     ensures words { Keeps result words.new words.old }
 {
     answers::number_of(call_begin::begin(words, writer))
@@ -19,7 +19,7 @@ pub extern "C" fn badgerdross_begin(words: &mut Words, writer: usize) -> usize
 // Opens a writer for a round wider than the slots.
 #[unsafe(no_mangle)]
 pub extern "C" fn badgerdross_begin_wide(words: &mut Words, writer: usize) -> usize
-    ensures state { Leaves result (decoded words.new) (beginWideOf (decoded words.old) writer) }
+    ensures state { Leaves result (decoded words.new) (begin_wide_of (decoded words.old) writer) }
     ensures words { Keeps result words.new words.old }
 {
     answers::number_of(call_begin::begin_wide(words, writer))
@@ -28,7 +28,7 @@ pub extern "C" fn badgerdross_begin_wide(words: &mut Words, writer: usize) -> us
 // Closes a writer; its held lines are dropped.
 #[unsafe(no_mangle)]
 pub extern "C" fn badgerdross_abort(words: &mut Words, writer: usize) -> usize
-    ensures state { Leaves result (decoded words.new) (abortOf (decoded words.old) writer) }
+    ensures state { Leaves result (decoded words.new) (abort_of (decoded words.old) writer) }
     ensures words { Keeps result words.new words.old }
 {
     answers::number_of(call_begin::abort(words, writer))
@@ -47,8 +47,8 @@ pub extern "C" fn badgerdross_write(
     until: usize,
 ) -> usize
     ensures state { Starts result (decoded words.new) image.new
-        (writeOf (decoded words.old) image.old writer page line offset (length «data».now) «data».now)
-        image.old (untilBy until) }
+        (write_of (decoded words.old) image.old writer page line offset (length «data».now) «data».now)
+        image.old (until_by until) }
     ensures words { Keeps result words.new words.old }
 {
     let span = Span {
@@ -71,8 +71,8 @@ pub extern "C" fn badgerdross_read(
     line: usize,
     target: &mut [u8],
 ) -> usize
-    ensures number { result ≡ readRow (decoded words.now) image.now writer page line target.old }
-    ensures bytes { target.new ≡ readBytes (decoded words.now) image.now writer page line target.old }
+    ensures number { result ≡ read_row (decoded words.now) image.now writer page line target.old }
+    ensures bytes { target.new ≡ read_bytes (decoded words.now) image.now writer page line target.old }
 {
     answers::number_of(call_read::read(image, words, writer, page, line, target))
 }
@@ -86,7 +86,7 @@ pub extern "C" fn badgerdross_commit(
     until: usize,
 ) -> usize
     ensures state { Starts result (decoded words.new) image.new
-        (commitOf (decoded words.old) image.old writer) image.old (untilBy until) }
+        (commit_of (decoded words.old) image.old writer) image.old (until_by until) }
     ensures words { Keeps result words.new words.old }
 {
     let u = crate::until_of(until);
@@ -102,7 +102,7 @@ pub extern "C" fn badgerdross_prepare(
     until: usize,
 ) -> usize
     ensures state { Starts result (decoded words.new) image.new
-        (prepareOf (decoded words.old) image.old writer) image.old (untilBy until) }
+        (prepare_of (decoded words.old) image.old writer) image.old (until_by until) }
     ensures words { Keeps result words.new words.old }
 {
     let u = crate::until_of(until);
@@ -118,7 +118,7 @@ pub extern "C" fn badgerdross_confirm(
     until: usize,
 ) -> usize
     ensures state { Starts result (decoded words.new) image.new
-        (confirmOf (decoded words.old) image.old writer) image.old (untilBy until) }
+        (confirm_of (decoded words.old) image.old writer) image.old (until_by until) }
     ensures words { Keeps result words.new words.old }
 {
     let u = crate::until_of(until);
@@ -128,7 +128,7 @@ pub extern "C" fn badgerdross_confirm(
 // Lets a prepared round go on.
 #[unsafe(no_mangle)]
 pub extern "C" fn badgerdross_withdraw(words: &mut Words, image: &[u8], writer: usize) -> usize
-    ensures state { Leaves result (decoded words.new) (withdrawOf (decoded words.old) image.now writer) }
+    ensures state { Leaves result (decoded words.new) (withdraw_of (decoded words.old) image.now writer) }
     ensures words { Keeps result words.new words.old }
 {
     answers::number_of(call_prepare::withdraw(image, words, writer))

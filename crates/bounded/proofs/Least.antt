@@ -6,20 +6,20 @@ use lib.Dec.{eqb, ltb}
 use borrow.Author.Tests.{eqb-true, eqb-false, ltb-true, ltb-false}
 use native.Mathlib.Nat.{not-suc-le-zero}
 use native.Mathlib.Omega.{arith}
-use Rattle.bounded.specs.Below.{up_to, leastTurn, leastBelow}
-use Rattle.bounded.proofs.Tests.{caseOn, contradicts}
+use Rattle.bounded.specs.Below.{up_to, least_turn, least_below}
+use Rattle.bounded.proofs.Tests.{case_on, contradicts}
 use Rattle.bounded.proofs.Below.{split_below, ends, up_none, up_turn}
 
-pub least-none : (f : ℕ → Bool) (key : ℕ → ℕ) → 0 ≡ leastBelow 0 f key
-unfolding leastBelow
-least-none f key = up_none (leastTurn f key) 0
+pub least-none : (f : ℕ → Bool) (key : ℕ → ℕ) → 0 ≡ least_below 0 f key
+unfolding least_below
+least-none f key = up_none (least_turn f key) 0
 
-pub least-turn : (f : ℕ → Bool) (key : ℕ → ℕ) (i m r : ℕ) → m ≡ leastBelow i f key → r ≡ leastTurn f key i m → r ≡ leastBelow (i + 1) f key
-unfolding leastBelow
-least-turn f key i m r e t = t ∙ up_turn (leastTurn f key) 0 m i e
+pub least-turn : (f : ℕ → Bool) (key : ℕ → ℕ) (i m r : ℕ) → m ≡ least_below i f key → r ≡ least_turn f key i m → r ≡ least_below (i + 1) f key
+unfolding least_below
+least-turn f key i m r e t = t ∙ up_turn (least_turn f key) 0 m i e
 
-pub least-ends : (f : ℕ → Bool) (key : ℕ → ℕ) (n i m : ℕ) → i ≤ n → n ≤ i → m ≡ leastBelow i f key → m ≡ leastBelow n f key
-least-ends f key n i m a b e = e ∙ ends (λ k. leastBelow k f key) n i a b
+pub least-ends : (f : ℕ → Bool) (key : ℕ → ℕ) (n i m : ℕ) → i ≤ n → n ≤ i → m ≡ least_below i f key → m ≡ least_below n f key
+least-ends f key n i m a b e = e ∙ ends (λ k. least_below k f key) n i a b
 
 -- m, where it is below n, passes f, no number that does has a smaller key, and none below m has one as small; else no number passes
 pub record Least (f : ℕ → Bool) (key : ℕ → ℕ) (n m : ℕ) : Type 0 where
@@ -74,23 +74,23 @@ module _ (f : ℕ → Bool) (key : ℕ → ℕ) (n m : ℕ) (h : Least f key n m
   below : eqb m n ≡ false → m < n
   below e = let d : m ≡ n → ⊥ = eqb-false m n e in omega (arith, h.le)
 
-  turn-finds : Least f key (suc n) (leastTurn f key n m)
+  turn-finds : Least f key (suc n) (least_turn f key n m)
   turn-finds =
-      caseOn (f n)
+      case_on (f n)
       (λ t.
-      caseOn (eqb m n)
+      case_on (eqb m n)
       (λ e. rw (t, e) (first_passes t (eqb-true m n e)))
       (λ e.
-      caseOn (ltb (key n) (key m))
+      case_on (ltb (key n) (key m))
       (λ s. rw (t, e, s) (smaller-passes t (below e) (ltb-true (key n) (key m) s)))
       (λ s. rw (t, e, s) (other-stays (below e) (λ p. ltb-false (key n) (key m) s)))))
       (λ t.
-      caseOn (eqb m n)
+      case_on (eqb m n)
       (λ e. rw (t, e) (still-none t (eqb-true m n e)))
       (λ e. rw (t, e) (other-stays (below e) (λ p. contradicts p t))))
 
-pub least-finds : (f : ℕ → Bool) (key : ℕ → ℕ) (n : ℕ) → Least f key n (leastBelow n f key)
-unfolding leastBelow up_to
+pub least-finds : (f : ℕ → Bool) (key : ℕ → ℕ) (n : ℕ) → Least f key n (least_below n f key)
+unfolding least_below up_to
 least-finds f key zero =
     record { le = omega arith; passes = λ l. absurd (omega arith); least = λ l. absurd (omega arith); lowest = λ l. absurd (omega arith); none = λ q k b. absurd (not-suc-le-zero b) }
-least-finds f key (suc n) = turn-finds f key n (leastBelow n f key) (least-finds f key n)
+least-finds f key (suc n) = turn-finds f key n (least_below n f key) (least-finds f key n)

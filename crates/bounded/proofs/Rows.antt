@@ -7,7 +7,7 @@ use lib.ListN.{length, get_or}
 use native.Mathlib.Nat.{not-suc-le-zero, le_of_suc-le-suc}
 use native.Mathlib.Omega.{arith}
 use Rattle.bounded.specs.Rows.{Row, refusal, Past, Numbered}
-use Rattle.bounded.proofs.Tests.{caseOn, row-yes, row-no}
+use Rattle.bounded.proofs.Tests.{case_on, row-yes, row-no}
 
 -- the first k rows do not apply and row k does
 pub row_at : (rs : List Row) (k : ℕ) → k < length rs → Past rs k → (get_or rs k (true, 0)).0 ≡ true → (get_or rs k (true, 0)).1 ≡ refusal rs
@@ -36,7 +36,7 @@ none-apply (r ∷ rs) n e = none-step r.0 r.1 (refusal rs) (Past rs (length rs))
 pub rows-first : (rs ss : List Row) (row : ℕ) → row ≡ refusal rs → (row ≡ 0 → ⊥) → row ≡ refusal (rs ++ ss)
 rows-first [] ss row e n = absurd (n e)
 rows-first (r ∷ rs) ss row e n =
-    caseOn r.0
+    case_on r.0
     (λ t. rw t (rw t at e))
     (λ t. rw t (rows-first rs ss row (rw t at e) n))
 

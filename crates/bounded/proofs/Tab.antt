@@ -17,13 +17,13 @@ module _ {A : Type 0} where
   length-tab zero f = refl
   length-tab (suc n) f = length-append (tab n f) (f n ∷ []) ∙ ap (λ (k : ℕ). k + 1) (length-tab n f) ∙ add-one n
 
-  pub getD-tab : (n : ℕ) (f : ℕ → A) (i : ℕ) (d : A) → i < n → get_or (tab n f) i d ≡ f i
+  pub get_or-tab : (n : ℕ) (f : ℕ → A) (i : ℕ) (d : A) → i < n → get_or (tab n f) i d ≡ f i
   unfolding tab
-  getD-tab zero f i d l = absurd (not-suc-le-zero l)
-  getD-tab (suc n) f i d l =
+  get_or-tab zero f i d l = absurd (not-suc-le-zero l)
+  get_or-tab (suc n) f i d l =
       split_below l
       (λ q. rw q (get_or_at (tab n f) (f n) [] d n (length-tab n f)))
-      (λ lt. get_or-append (tab n f) (f n ∷ []) d i (subst (λ (k : ℕ). i < k) (sym (length-tab n f)) lt) ∙ getD-tab n f i d lt)
+      (λ lt. get_or-append (tab n f) (f n ∷ []) d i (subst (λ (k : ℕ). i < k) (sym (length-tab n f)) lt) ∙ get_or-tab n f i d lt)
 
   pub tab-ext : (n : ℕ) (f g : ℕ → A) → ((i : ℕ) → i < n → f i ≡ g i) → tab n f ≡ tab n g
   unfolding tab
@@ -31,10 +31,10 @@ module _ {A : Type 0} where
   tab-ext (suc n) f g h = ap₂ (λ (l : List A) (x : A). l ++ (x ∷ [])) (tab-ext n f g (λ i l. h i (omega arith))) (h n (omega arith))
 
   -- a list is made of its own entries
-  pub tab-getD : (l : List A) (d : A) → tab (length l) (λ i. get_or l i d) ≡ l
-  tab-getD l d =
+  pub tab-get_or : (l : List A) (d : A) → tab (length l) (λ i. get_or l i d) ≡ l
+  tab-get_or l d =
       ext_get_or d (tab (length l) (λ i. get_or l i d)) l (length-tab (length l) (λ i. get_or l i d))
-      (λ i p. getD-tab (length l) (λ i. get_or l i d) i d (subst (λ (k : ℕ). i < k) (length-tab (length l) (λ i. get_or l i d)) p))
+      (λ i p. get_or-tab (length l) (λ i. get_or l i d) i d (subst (λ (k : ℕ). i < k) (length-tab (length l) (λ i. get_or l i d)) p))
 
   pub tab-append : (m n : ℕ) (f : ℕ → A) → tab (m + n) f ≡ tab m f ++ tab n (λ i. f (m + i))
   unfolding tab
@@ -63,19 +63,19 @@ module _ {A : Type 0} where
   length-filled zero f l = refl
   length-filled (suc n) f l = length-set (filled n f l) n (f n) ∙ length-filled n f l
 
-  pub getD-filled : (n : ℕ) (f : ℕ → A) (l : List A) (i : ℕ) (d : A) → i < n → n ≤ length l → get_or (filled n f l) i d ≡ f i
+  pub get_or-filled : (n : ℕ) (f : ℕ → A) (l : List A) (i : ℕ) (d : A) → i < n → n ≤ length l → get_or (filled n f l) i d ≡ f i
   unfolding filled up_to
-  getD-filled zero f l i d p q = absurd (not-suc-le-zero p)
-  getD-filled (suc n) f l i d p q =
+  get_or-filled zero f l i d p q = absurd (not-suc-le-zero p)
+  get_or-filled (suc n) f l i d p q =
       split_below p
       (λ e. rw e (get_or-set_same (filled n f l) n (f n) d (subst (λ (k : ℕ). n < k) (sym (length-filled n f l)) q)))
-      (λ lt. get_or-set_other (filled n f l) n i (f n) d (λ e. omega arith) ∙ getD-filled n f l i d lt (omega arith))
+      (λ lt. get_or-set_other (filled n f l) n i (f n) d (λ e. omega arith) ∙ get_or-filled n f l i d lt (omega arith))
 
-  pub getD-filled-past : (n : ℕ) (f : ℕ → A) (l : List A) (i : ℕ) (d : A) → n ≤ i → get_or (filled n f l) i d ≡ get_or l i d
+  pub get_or-filled-past : (n : ℕ) (f : ℕ → A) (l : List A) (i : ℕ) (d : A) → n ≤ i → get_or (filled n f l) i d ≡ get_or l i d
   unfolding filled up_to
-  getD-filled-past zero f l i d p = refl
-  getD-filled-past (suc n) f l i d p =
-      get_or-set_other (filled n f l) n i (f n) d (λ e. omega arith) ∙ getD-filled-past n f l i d (omega arith)
+  get_or-filled-past zero f l i d p = refl
+  get_or-filled-past (suc n) f l i d p =
+      get_or-set_other (filled n f l) n i (f n) d (λ e. omega arith) ∙ get_or-filled-past n f l i d (omega arith)
 
   pub filled-ext : (n : ℕ) (f g : ℕ → A) (l : List A) → ((i : ℕ) → i < n → f i ≡ g i) → filled n f l ≡ filled n g l
   unfolding filled up_to

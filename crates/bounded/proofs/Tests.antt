@@ -8,9 +8,9 @@ use borrow.Author.Tests.{not-true, not-false}
 use Rattle.bounded.specs.Tests.{chain, every, Held}
 
 -- by cases on a test
-pub caseOn : {X : Type 0} (b : Bool) → (b ≡ true → X) → (b ≡ false → X) → X
-caseOn true f g = f refl
-caseOn false f g = g refl
+pub case_on : {X : Type 0} (b : Bool) → (b ≡ true → X) → (b ≡ false → X) → X
+case_on true f g = f refl
+case_on false f g = g refl
 
 pub contradicts : {X : Type 0} {b : Bool} → b ≡ true → b ≡ false → X
 contradicts t f = absurd (true≢false (sym t ∙ f))

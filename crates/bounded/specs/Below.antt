@@ -8,13 +8,13 @@ all_below zero f = true
 all_below (suc n) f = all_below n f && f n
 
 -- whether f holds at some number below n
-unfoldable pub someBelow : ℕ → (ℕ → Bool) → Bool
-someBelow n f = not (all_below n (λ i. not (f i)))
+unfoldable pub some_below : ℕ → (ℕ → Bool) → Bool
+some_below n f = not (all_below n (λ i. not (f i)))
 
 -- the least number below n at which f holds, and n where there is none
-unfoldable pub firstBelow : ℕ → (ℕ → Bool) → ℕ
-firstBelow zero f = 0
-firstBelow (suc n) f = cond (eqb (firstBelow n f) n) (cond (f n) n (suc n)) (firstBelow n f)
+unfoldable pub first_below : ℕ → (ℕ → Bool) → ℕ
+first_below zero f = 0
+first_below (suc n) f = cond (eqb (first_below n f) n) (cond (f n) n (suc n)) (first_below n f)
 
 -- 1 where a test holds
 unfoldable pub one : Bool → ℕ
@@ -22,9 +22,9 @@ one true = 1
 one false = 0
 
 -- at how many numbers below n f holds
-unfoldable pub countBelow : ℕ → (ℕ → Bool) → ℕ
-countBelow zero f = 0
-countBelow (suc n) f = countBelow n f + one (f n)
+unfoldable pub count_below : ℕ → (ℕ → Bool) → ℕ
+count_below zero f = 0
+count_below (suc n) f = count_below n f + one (f n)
 
 -- the numbers below n at which f holds, rising
 unfoldable pub those : ℕ → (ℕ → Bool) → List ℕ
@@ -38,8 +38,8 @@ up_to (suc n) f x = f n (up_to n f x)
 
 -- the number below n at which f holds that has the least key, the lowest one on a tie, and n where there is none: turn i goes from
 -- the number found below i to the one below i + 1
-abbrev pub leastTurn : (ℕ → Bool) → (ℕ → ℕ) → ℕ → ℕ → ℕ
-leastTurn f key i m = cond (f i && (eqb m i || ltb (key i) (key m))) i (cond (eqb m i) (i + 1) m)
+abbrev pub least_turn : (ℕ → Bool) → (ℕ → ℕ) → ℕ → ℕ → ℕ
+least_turn f key i m = cond (f i && (eqb m i || ltb (key i) (key m))) i (cond (eqb m i) (i + 1) m)
 
-unfoldable pub leastBelow : ℕ → (ℕ → Bool) → (ℕ → ℕ) → ℕ
-leastBelow n f key = up_to n (leastTurn f key) 0
+unfoldable pub least_below : ℕ → (ℕ → Bool) → (ℕ → ℕ) → ℕ
+least_below n f key = up_to n (least_turn f key) 0

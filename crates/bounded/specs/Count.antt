@@ -8,18 +8,18 @@ count_of x [] = 0
 count_of x (y ∷ l) = one (eqb x y) + count_of x l
 
 -- how many entries of l are not below n
-unfoldable pub notBelow : ℕ → List ℕ → ℕ
-notBelow n [] = 0
-notBelow n (y ∷ l) = one (leb n y) + notBelow n l
+unfoldable pub not_below : ℕ → List ℕ → ℕ
+not_below n [] = 0
+not_below n (y ∷ l) = one (leb n y) + not_below n l
 
 -- f 0 + f 1 + .. + f (n - 1)
-unfoldable pub sumBelow : ℕ → (ℕ → ℕ) → ℕ
-sumBelow zero f = 0
-sumBelow (suc n) f = sumBelow n f + f n
+unfoldable pub sum_below : ℕ → (ℕ → ℕ) → ℕ
+sum_below zero f = 0
+sum_below (suc n) f = sum_below n f + f n
 
 -- whether each number below n stands in l once
-unfoldable pub eachOnce : ℕ → List ℕ → Bool
-eachOnce n l = all_below n (λ x. eqb (count_of x l) 1)
+unfoldable pub each_once : ℕ → List ℕ → Bool
+each_once n l = all_below n (λ x. eqb (count_of x l) 1)
 
 -- the same as a fact
 abbrev pub Once : ℕ → List ℕ → Type 0

@@ -1,13 +1,13 @@
 // L, Y and U: what later calls are lent, a byte of the buffer, a word of the buffer.
 ghost use Rattle.std.specs.Prelude.{◌≡◌, length};
-ghost use Rattle.buffer_edits.specs.Edits.{lendSaid, lent_by, byteSaid, byteSet, wordSaid, word_set};
+ghost use Rattle.buffer_edits.specs.Edits.{lend_said, lent_by, byte_said, byte_set, word_said, word_set};
 
 use text::Line;
 use workbench::Said;
 
 // Later calls are lent the first n of the buffer's bytes.
 pub fn lend(size: usize, line: Line) -> Said
-    ensures { result ≡ lendSaid size line }
+    ensures { result ≡ lend_said size line }
 {
     if (line.count == 1) & (line.numbers[0] as usize <= size) {
         return workbench::edited();
@@ -28,8 +28,8 @@ pub fn lent_by(lent: usize, size: usize, line: Line) -> usize
 
 // A byte of the buffer becomes v.
 pub fn set_byte(buffer: &mut [u8], line: Line) -> Said
-    ensures said { result ≡ byteSaid (length buffer.old) line }
-    ensures bytes { buffer.new ≡ byteSet buffer.old line }
+    ensures said { result ≡ byte_said (length buffer.old) line }
+    ensures bytes { buffer.new ≡ byte_set buffer.old line }
 {
     let at = line.numbers[0] as usize;
     let v = line.numbers[1];
@@ -42,7 +42,7 @@ pub fn set_byte(buffer: &mut [u8], line: Line) -> Said
 
 // A word of the buffer becomes v.
 pub fn set_word(buffer: &mut [u8], line: Line) -> Said
-    ensures said { result ≡ wordSaid (length buffer.old) line }
+    ensures said { result ≡ word_said (length buffer.old) line }
     ensures bytes { buffer.new ≡ word_set buffer.old line }
 {
     let i = line.numbers[0] as usize;

@@ -1,8 +1,8 @@
 // A call on a state in words that asks for an operation by the operation's own rows.
 
 ghost use Rattle.std.specs.Prelude.{◌≡◌, Bool, true, false, ℕ, length};
-ghost use Rattle.operations.specs.Operations.{isIdle};
-ghost use Rattle.validity.specs.Validity.{opFits};
+ghost use Rattle.operations.specs.Operations.{is_idle};
+ghost use Rattle.validity.specs.Validity.{op_fits};
 ghost use Rattle.answers.specs.Answers.{number_of};
 ghost use Rattle.call_asking.specs.Asking.{asked_of};
 ghost use Rattle.op_stores.specs.Started.{Started};
@@ -15,7 +15,7 @@ use state_words::Words;
 
 // Asks for an operation that fits whichever writer is wide, and goes on with it as far as is said. A call that is turned back changes no word.
 pub fn ask_for(image: &mut [u8], words: &mut Words, op: Op, until: Until) -> Answer
-    requires { (isIdle op ≡ false) × ((wide : ℕ) (fresh : Bool) → opFits wide fresh op ≡ true) }
+    requires { (is_idle op ≡ false) × ((wide : ℕ) (fresh : Bool) → op_fits wide fresh op ≡ true) }
     ensures started { Started result (decoded words.new) image.new
         (asked_of (decoded words.old) (length image.old) op op) image.old until }
     ensures words { (number_of result ≡ 0 → ⊥) → words.new ≡ words.old }

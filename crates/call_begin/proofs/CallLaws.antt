@@ -12,45 +12,45 @@ use Rattle.bounded.proofs.Rows.{none-apply}
 use Rattle.layout.specs.declared.Sizes.{Sizes}
 use Rattle.state.specs.State.{State}
 use Rattle.state.specs.Held.{let_go}
-use Rattle.state.specs.Wide.{wide_of, noWide}
-use Rattle.refinement.specs.Commit.{closedWriter}
+use Rattle.state.specs.Wide.{wide_of, no_wide}
+use Rattle.refinement.specs.Commit.{closed_writer}
 use Rattle.refinement.specs.Outcome.{Outcome, answered}
-use Rattle.refinement.specs.Settled.{withWriters, withWide}
-use Rattle.refinement.proofs.Begun.{beginningWide, aborting}
+use Rattle.refinement.specs.Settled.{with_writers, with_wide}
+use Rattle.refinement.proofs.Begun.{beginning_wide, aborting}
 use Rattle.answers.specs.declared.Answer.{Answer}
-use Rattle.answers.specs.Answers.{number_of, answeredAt}
-use Rattle.state_words.specs.Decoded.{withOpened, withHeld}
-use Rattle.call_begin.specs.First.{firstRows}
+use Rattle.answers.specs.Answers.{number_of, answered_at}
+use Rattle.state_words.specs.Decoded.{with_opened, with_held}
+use Rattle.call_begin.specs.First.{first_rows}
 
 -- none of the first rows applies
-module _ (st : State) (w row : ℕ) (e : row ≡ refusal (firstRows st w)) (n : row ≡ 0) where
-  pub first_past : Past (firstRows st w) 3
-  first_past = none-apply (firstRows st w) (omega arith) (sym e ∙ n)
+module _ (st : State) (w row : ℕ) (e : row ≡ refusal (first_rows st w)) (n : row ≡ 0) where
+  pub first_past : Past (first_rows st w) 3
+  first_past = none-apply (first_rows st w) (omega arith) (sym e ∙ n)
 
   pub first-low : w < 4
   first-low = omega (arith, ltb-false 3 w first_past.1.1.0)
 
-pub kept-words : (a : Answer) (st after : State) (rs : List Row) (row : ℕ) (c d : List ℕ) → row ≡ refusal rs → (row ≡ 0 → ⊥) → answeredAt a st ≡ answered (refusal rs) st 0 after
+pub kept-words : (a : Answer) (st after : State) (rs : List Row) (row : ℕ) (c d : List ℕ) → row ≡ refusal rs → (row ≡ 0 → ⊥) → answered_at a st ≡ answered (refusal rs) st 0 after
     → c ≡ cond (eqb (number_of a) 0) d c
 kept-words a st after rs row c d e n h =
     let k : number_of a ≡ row = ap (λ (o : Outcome). o.number) h ∙ sym e in
     rw (k, ne_eqb row 0 n)
 
 -- a wide begin's three changes one after the other
-pub wide-begun : (st s1 s2 s3 : State) (w : ℕ) → s1 ≡ withWriters st (withOpened st.writers (set st.writers.opened w true)) → s2 ≡ withWide s1 noWide
-    → s3 ≡ withWide s2 (wide_of w 0 s2.wide.keys) → s3 ≡ beginningWide st w
-wide-begun st s1 s2 s3 w e1 e2 e3 = e3 ∙ ap (λ (u : State). withWide u (wide_of w 0 u.wide.keys)) (e2 ∙ ap (λ (u : State). withWide u noWide) e1)
+pub wide-begun : (st s1 s2 s3 : State) (w : ℕ) → s1 ≡ with_writers st (with_opened st.writers (set st.writers.opened w true)) → s2 ≡ with_wide s1 no_wide
+    → s3 ≡ with_wide s2 (wide_of w 0 s2.wide.keys) → s3 ≡ beginning_wide st w
+wide-begun st s1 s2 s3 w e1 e2 e3 = e3 ∙ ap (λ (u : State). with_wide u (wide_of w 0 u.wide.keys)) (e2 ∙ ap (λ (u : State). with_wide u no_wide) e1)
 
 -- an abort's: of any writer, then of a narrow one and of the wide one; z is what the code read
 module _ (st s1 s2 : State) (z : Sizes) (w : ℕ) (ez : z ≡ st.sizes)
-    (e1 : s1 ≡ withWriters st (withOpened st.writers (set st.writers.opened w false)))
-    (e2 : s2 ≡ withWriters s1 (withHeld s1.writers (let_go z s1.writers.held w))) where
-  closed : s2 ≡ withWriters st (closedWriter st.sizes st.writers w)
-  unfolding closedWriter
-  closed = e2 ∙ ap (λ (u : State). withWriters u (withHeld u.writers (let_go z u.writers.held w))) e1 ∙ rw ez
+    (e1 : s1 ≡ with_writers st (with_opened st.writers (set st.writers.opened w false)))
+    (e2 : s2 ≡ with_writers s1 (with_held s1.writers (let_go z s1.writers.held w))) where
+  closed : s2 ≡ with_writers st (closed_writer st.sizes st.writers w)
+  unfolding closed_writer
+  closed = e2 ∙ ap (λ (u : State). with_writers u (with_held u.writers (let_go z u.writers.held w))) e1 ∙ rw ez
 
   pub narrow-aborted : (st.wide.writer ≡ w → ⊥) → s2 ≡ aborting st w
   narrow-aborted n = rw (ne_eqb st.wide.writer w n) closed
 
-  pub wide-aborted : (s3 : State) → st.wide.writer ≡ w → s3 ≡ withWide s2 noWide → s3 ≡ aborting st w
-  wide-aborted s3 e e3 = rw (eq-eqb st.wide.writer w e) (e3 ∙ ap (λ (u : State). withWide u noWide) closed)
+  pub wide-aborted : (s3 : State) → st.wide.writer ≡ w → s3 ≡ with_wide s2 no_wide → s3 ≡ aborting st w
+  wide-aborted s3 e e3 = rw (eq-eqb st.wide.writer w e) (e3 ∙ ap (λ (u : State). with_wide u no_wide) closed)

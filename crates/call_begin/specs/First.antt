@@ -2,7 +2,7 @@
 use Rattle.std.specs.Prelude.{ℕ, List, [], ◌∷◌, ltb}
 use Rattle.bounded.specs.Rows.{Row}
 use Rattle.state.specs.State.{State}
-use Rattle.refinement.specs.Calls.{rowState, rowPending}
+use Rattle.refinement.specs.Calls.{row_state, row_pending}
 
-abbrev pub firstRows : State → ℕ → List Row
-firstRows st w = rowState st ∷ rowPending st ∷ (ltb 3 w, 11) ∷ []
+abbrev pub first_rows : State → ℕ → List Row
+first_rows st w = row_state st ∷ row_pending st ∷ (ltb 3 w, 11) ∷ []

@@ -1,11 +1,11 @@
 // Begin, of a wide transaction too, and abort, on a state in words, lent whole. A call that is turned back changes no word.
 ghost use Rattle.std.specs.Prelude.{cond, true, ◌≡◌, ◌+◌, eqb, set};
 ghost use Rattle.bounded.specs.Rows.{refusal};
-ghost use Rattle.validity.specs.Validity.{stateOk};
-ghost use Rattle.refinement.specs.Calls.{beginRows, beginOf, beginWideRows, beginWideOf, abortRows, abortOf};
-ghost use Rattle.answers.specs.Answers.{number_of, answeredAt};
+ghost use Rattle.validity.specs.Validity.{state_ok};
+ghost use Rattle.refinement.specs.Calls.{begin_rows, begin_of, begin_wide_rows, begin_wide_of, abort_rows, abort_of};
+ghost use Rattle.answers.specs.Answers.{number_of, answered_at};
 ghost use Rattle.state_words.specs.Decoded.{decoded, places_of};
-ghost use Rattle.call_begin.specs.First.{firstRows};
+ghost use Rattle.call_begin.specs.First.{first_rows};
 
 use answers::Answer;
 use layout::Sizes;
@@ -14,8 +14,8 @@ use state_words::Words;
 
 // The first of rows 8, 9 and 11, of a state that row 8 accepts.
 fn valid_row(words: &Words, writer: usize) -> usize
-    requires { stateOk (decoded words.now) ≡ true }
-    ensures { result ≡ refusal (firstRows (decoded words.now) writer) }
+    requires { state_ok (decoded words.now) ≡ true }
+    ensures { result ≡ refusal (first_rows (decoded words.now) writer) }
 {
     if !state_words::parts::idle_in(words) {
         return 9;
@@ -28,8 +28,8 @@ fn valid_row(words: &Words, writer: usize) -> usize
 
 // The first row that turns back begin, of a state that row 8 accepts. It wants the writer closed and no wide one.
 fn begin_row(at: Places, words: &Words, writer: usize) -> usize
-    requires { (at ≡ places_of (decoded words.now)) × (stateOk (decoded words.now) ≡ true) }
-    ensures { result ≡ refusal (beginRows (decoded words.now) writer) }
+    requires { (at ≡ places_of (decoded words.now)) × (state_ok (decoded words.now) ≡ true) }
+    ensures { result ≡ refusal (begin_rows (decoded words.now) writer) }
 {
     let row = valid_row(words, writer);
     if row != 0 {
@@ -46,8 +46,8 @@ fn begin_row(at: Places, words: &Words, writer: usize) -> usize
 
 // Begin on a state that row 8 accepts.
 pub fn begin_valid(at: Places, words: &mut Words, writer: usize) -> Answer
-    requires { (at ≡ places_of (decoded words.old)) × (stateOk (decoded words.old) ≡ true) }
-    ensures state { answeredAt result (decoded words.new) ≡ beginOf (decoded words.old) writer }
+    requires { (at ≡ places_of (decoded words.old)) × (state_ok (decoded words.old) ≡ true) }
+    ensures state { answered_at result (decoded words.new) ≡ begin_of (decoded words.old) writer }
     ensures words { words.new ≡ cond (eqb (number_of result) 0) (set words.old (10 + writer) 1) words.old }
 {
     let row = begin_row(at, words, writer);
@@ -60,7 +60,7 @@ pub fn begin_valid(at: Places, words: &mut Words, writer: usize) -> Answer
 
 // Opens a writer. A call that is taken changes one word.
 pub fn begin(words: &mut Words, writer: usize) -> Answer
-    ensures state { answeredAt result (decoded words.new) ≡ beginOf (decoded words.old) writer }
+    ensures state { answered_at result (decoded words.new) ≡ begin_of (decoded words.old) writer }
     ensures words { words.new ≡ cond (eqb (number_of result) 0) (set words.old (10 + writer) 1) words.old }
 {
     let z = state_words::sizes_in(words);
@@ -74,7 +74,7 @@ pub fn begin(words: &mut Words, writer: usize) -> Answer
 // The first of rows 8, 9 and 11.
 fn first_row(z: Sizes, at: Places, words: &Words, writer: usize) -> usize
     requires { (z ≡ (decoded words.now).sizes) × (at ≡ places_of (decoded words.now)) }
-    ensures { result ≡ refusal (firstRows (decoded words.now) writer) }
+    ensures { result ≡ refusal (first_rows (decoded words.now) writer) }
 {
     if !state_rules::state_ok(z, at, words) {
         return 8;
@@ -84,7 +84,7 @@ fn first_row(z: Sizes, at: Places, words: &Words, writer: usize) -> usize
 
 // The first row that turns back a wide begin, which wants entries and every writer closed.
 fn wide_row(words: &Words, writer: usize) -> usize
-    ensures { result ≡ refusal (beginWideRows (decoded words.now) writer) }
+    ensures { result ≡ refusal (begin_wide_rows (decoded words.now) writer) }
 {
     let z = state_words::sizes_in(words);
     let at = state_words::places_in(words);
@@ -103,7 +103,7 @@ fn wide_row(words: &Words, writer: usize) -> usize
 
 // Opens a writer for a wide transaction.
 pub fn begin_wide(words: &mut Words, writer: usize) -> Answer
-    ensures state { answeredAt result (decoded words.new) ≡ beginWideOf (decoded words.old) writer }
+    ensures state { answered_at result (decoded words.new) ≡ begin_wide_of (decoded words.old) writer }
     ensures words { (number_of result ≡ 0 → ⊥) → words.new ≡ words.old }
 {
     let row = wide_row(words, writer);
@@ -118,8 +118,8 @@ pub fn begin_wide(words: &mut Words, writer: usize) -> Answer
 
 // The first row that turns back abort, of a state that row 8 accepts. It wants the writer open and not prepared.
 fn abort_row(at: Places, words: &Words, writer: usize) -> usize
-    requires { (at ≡ places_of (decoded words.now)) × (stateOk (decoded words.now) ≡ true) }
-    ensures { result ≡ refusal (abortRows (decoded words.now) writer) }
+    requires { (at ≡ places_of (decoded words.now)) × (state_ok (decoded words.now) ≡ true) }
+    ensures { result ≡ refusal (abort_rows (decoded words.now) writer) }
 {
     let row = valid_row(words, writer);
     if row != 0 {
@@ -136,8 +136,8 @@ fn abort_row(at: Places, words: &Words, writer: usize) -> usize
 
 // Abort on a state that row 8 accepts.
 pub fn abort_valid(z: Sizes, at: Places, words: &mut Words, writer: usize) -> Answer
-    requires { (z ≡ (decoded words.old).sizes) × (at ≡ places_of (decoded words.old)) × (stateOk (decoded words.old) ≡ true) }
-    ensures state { answeredAt result (decoded words.new) ≡ abortOf (decoded words.old) writer }
+    requires { (z ≡ (decoded words.old).sizes) × (at ≡ places_of (decoded words.old)) × (state_ok (decoded words.old) ≡ true) }
+    ensures state { answered_at result (decoded words.new) ≡ abort_of (decoded words.old) writer }
     ensures words { (number_of result ≡ 0 → ⊥) → words.new ≡ words.old }
 {
     let row = abort_row(at, words, writer);
@@ -155,7 +155,7 @@ pub fn abort_valid(z: Sizes, at: Places, words: &mut Words, writer: usize) -> An
 
 // Closes a writer and empties its held lines; of the wide one also its entries.
 pub fn abort(words: &mut Words, writer: usize) -> Answer
-    ensures state { answeredAt result (decoded words.new) ≡ abortOf (decoded words.old) writer }
+    ensures state { answered_at result (decoded words.new) ≡ abort_of (decoded words.old) writer }
     ensures words { (number_of result ≡ 0 → ⊥) → words.new ≡ words.old }
 {
     let z = state_words::sizes_in(words);

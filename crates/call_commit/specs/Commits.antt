@@ -4,11 +4,11 @@ use Rattle.layout.specs.declared.Sizes.{Sizes}
 use Rattle.state.specs.State.{State}
 use Rattle.state.specs.declared.Places.{Places}
 use Rattle.state.specs.declared.Op.TheVariants.{Commit}
-use Rattle.state.specs.Held.{heldSlots}
+use Rattle.state.specs.Held.{held_slots}
 use Rattle.op_writer.specs.Served.{Served}
 
 pub record Commits (z : Sizes) (at : Places) (st : State) (w c : ℕ) : Type 0 where
   pub served : Served z at st
   pub op : st.pending.op ≡ Commit w
   pub none_made : st.pending.made ≡ 0
-  pub counted : c ≡ length (heldSlots z st.writers.held w)
+  pub counted : c ≡ length (held_slots z st.writers.held w)

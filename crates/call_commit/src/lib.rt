@@ -1,11 +1,11 @@
 // Commits on a state in words. A narrow writer's has a loop of its own: the one that finds pieces by operation takes a third more instructions.
 ghost use Rattle.std.specs.Prelude.{true, ◌≡◌, ◌≤◌, length, replicate};
-ghost use Rattle.layout.specs.Layout.{imageLength};
+ghost use Rattle.layout.specs.Layout.{image_length};
 ghost use Rattle.state.specs.declared.Op.TheVariants.{Commit};
 ghost use Rattle.operations.specs.Operations.{needs};
-ghost use Rattle.validity.specs.Validity.{stateOk};
-ghost use Rattle.refinement.specs.Stores.{storesMade, stateAfter};
-ghost use Rattle.refinement.specs.Calls.{asked, commitOf};
+ghost use Rattle.validity.specs.Validity.{state_ok};
+ghost use Rattle.refinement.specs.Stores.{stores_made, state_after};
+ghost use Rattle.refinement.specs.Calls.{asked, commit_of};
 ghost use Rattle.answers.specs.declared.Answer.TheVariants.{Taken};
 ghost use Rattle.answers.specs.Answers.{number_of};
 ghost use Rattle.op_stores.specs.Asks.{Allowed};
@@ -21,8 +21,8 @@ use state_words::Words;
 
 // Makes the first n stores of the commit that is pending, which has c slots.
 fn store_commit(image: &mut [u8], z: Sizes, at: Places, words: &Words, w: usize, c: usize, n: usize)
-    requires { Commits z at (decoded words.now) w c × (n ≤ needs (decoded words.now) (Commit w)) × (imageLength z ≤ length image.old) }
-    ensures { image.new ≡ storesMade (decoded words.now) n image.old }
+    requires { Commits z at (decoded words.now) w c × (n ≤ needs (decoded words.now) (Commit w)) × (image_length z ≤ length image.old) }
+    ensures { image.new ≡ stores_made (decoded words.now) n image.old }
 {
     let mut i = 0;
     while i < n {
@@ -44,9 +44,9 @@ fn go_on(
     all: usize,
     n: usize,
 )
-    requires { Commits z at (decoded words.old) w c × (all ≡ needs (decoded words.old) (Commit w)) × (n ≤ all) × (imageLength z ≤ length image.old) }
-    ensures image { image.new ≡ storesMade (decoded words.old) n image.old }
-    ensures words { decoded words.new ≡ stateAfter (decoded words.old) n }
+    requires { Commits z at (decoded words.old) w c × (all ≡ needs (decoded words.old) (Commit w)) × (n ≤ all) × (image_length z ≤ length image.old) }
+    ensures image { image.new ≡ stores_made (decoded words.old) n image.old }
+    ensures words { decoded words.new ≡ state_after (decoded words.old) n }
 {
     store_commit(image, z, at, words, w, c, n);
     if n == all {
@@ -65,7 +65,7 @@ fn commit_narrow(
     w: usize,
     until: Until,
 ) -> Answer
-    requires { Allowed z at (decoded words.old) (Commit w) × (imageLength z ≤ length image.old) }
+    requires { Allowed z at (decoded words.old) (Commit w) × (image_length z ≤ length image.old) }
     ensures answer { result ≡ Taken (needs (decoded words.old) (Commit w)) }
     ensures started { Started result (decoded words.new) image.new
         (asked 0 (decoded words.old) (Commit w) (replicate 8 0)) image.old until }
@@ -99,9 +99,9 @@ pub fn commit_valid(
     writer: usize,
     until: Until,
 ) -> Answer
-    requires { (z ≡ (decoded words.old).sizes) × (at ≡ places_of (decoded words.old)) × (stateOk (decoded words.old) ≡ true) }
+    requires { (z ≡ (decoded words.old).sizes) × (at ≡ places_of (decoded words.old)) × (state_ok (decoded words.old) ≡ true) }
     ensures started { Started result (decoded words.new) image.new
-        (commitOf (decoded words.old) image.old writer) image.old until }
+        (commit_of (decoded words.old) image.old writer) image.old until }
     ensures words { (number_of result ≡ 0 → ⊥) → words.new ≡ words.old }
 {
     let row = call_rows::commit_row(z, at, words, writer, image.len());
@@ -117,7 +117,7 @@ pub fn commit_valid(
 // Commits, and goes on with it as far as is said. The wide writer's commit is a copying. A call that is turned back changes no word.
 pub fn commit(image: &mut [u8], words: &mut Words, writer: usize, until: Until) -> Answer
     ensures started { Started result (decoded words.new) image.new
-        (commitOf (decoded words.old) image.old writer) image.old until }
+        (commit_of (decoded words.old) image.old writer) image.old until }
     ensures words { (number_of result ≡ 0 → ⊥) → words.new ≡ words.old }
 {
     let z = state_words::sizes_in(words);

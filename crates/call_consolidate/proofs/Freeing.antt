@@ -8,12 +8,12 @@ use borrow.Author.Tests.{leb-false}
 use Rattle.bounded.specs.Rows.{refusal}
 use Rattle.bounded.proofs.Rows.{none-apply, rows-first, rows_then}
 use Rattle.layout.specs.declared.Sizes.{Sizes}
-use Rattle.layout.specs.Layout.{imageLength}
+use Rattle.layout.specs.Layout.{image_length}
 use Rattle.state.specs.State.{State}
 use Rattle.state.specs.declared.Places.{Places}
 use Rattle.state.specs.declared.Op.TheVariants.{Consolidate}
-use Rattle.refinement.specs.Freeing.{freedSlot, freedPage, slotToFree}
-use Rattle.refinement.specs.Calls.{quietRows, asked, freeCallRows, freeOf}
+use Rattle.refinement.specs.Freeing.{freed_slot, freed_page, slot_to_free}
+use Rattle.refinement.specs.Calls.{quiet_rows, asked, free_call_rows, free_of}
 use Rattle.refinement.proofs.Choice.{free-rows}
 use Rattle.refinement.proofs.Quiet.{quiet}
 use Rattle.answers.specs.declared.Answer.{Answer}
@@ -21,33 +21,33 @@ use Rattle.op_stores.specs.declared.Until.{Until}
 use Rattle.op_stores.specs.Asks.{Allowed}
 use Rattle.op_stores.specs.Started.{Started}
 use Rattle.state_words.specs.Decoded.{places_of}
-use Rattle.call_rows.specs.Free.{freeRows}
+use Rattle.call_rows.specs.Free.{free_rows}
 use Rattle.call_asking.proofs.Allowing.{may-ask-for, asked-for}
 
 -- where no row applies there is a slot to free
-pub slot-low : (z : Sizes) (at : Places) (s row : ℕ) → row ≡ refusal (freeRows z at s) → row ≡ 0 → s < z.slots
-slot-low z at s row e none = leb-false z.slots s (none-apply (freeRows z at s) (omega arith) (sym e ∙ none)).1.0
+pub slot-low : (z : Sizes) (at : Places) (s row : ℕ) → row ≡ refusal (free_rows z at s) → row ≡ 0 → s < z.slots
+slot-low z at s row e none = leb-false z.slots s (none-apply (free_rows z at s) (omega arith) (sym e ∙ none)).1.0
 
-module _ (z : Sizes) (at : Places) (st : State) (img : List ℕ) (ez : z ≡ st.sizes) (ea : at ≡ places_of st) (first : ℕ) (f : first ≡ refusal (quietRows st (length img))) where
-  pub first-row : (first ≡ 0 → ⊥) → first ≡ refusal (freeCallRows st img)
-  first-row n = rows-first (quietRows st (length img)) (freeRows st.sizes (places_of st) (freedSlot st)) first f n
+module _ (z : Sizes) (at : Places) (st : State) (img : List ℕ) (ez : z ≡ st.sizes) (ea : at ≡ places_of st) (first : ℕ) (f : first ≡ refusal (quiet_rows st (length img))) where
+  pub first-row : (first ≡ 0 → ⊥) → first ≡ refusal (free_call_rows st img)
+  first-row n = rows-first (quiet_rows st (length img)) (free_rows st.sizes (places_of st) (freed_slot st)) first f n
 
-  module _ (none : first ≡ 0) (s row : ℕ) (es : s ≡ slotToFree z st.table.page st.table.bitmap st.writers.held) (e : row ≡ refusal (freeRows z at s)) where
-    chosen : s ≡ freedSlot st
-    chosen = es ∙ ap (λ (y : Sizes). slotToFree y st.table.page st.table.bitmap st.writers.held) ez
+  module _ (none : first ≡ 0) (s row : ℕ) (es : s ≡ slot_to_free z st.table.page st.table.bitmap st.writers.held) (e : row ≡ refusal (free_rows z at s)) where
+    chosen : s ≡ freed_slot st
+    chosen = es ∙ ap (λ (y : Sizes). slot_to_free y st.table.page st.table.bitmap st.writers.held) ez
 
-    pub next_row : row ≡ refusal (freeCallRows st img)
+    pub next_row : row ≡ refusal (free_call_rows st img)
     next_row =
-        rows_then (quietRows st (length img)) (freeRows st.sizes (places_of st) (freedSlot st)) row (quiet st (length img) first f none).past (rw (ez, ea, chosen) at e)
+        rows_then (quiet_rows st (length img)) (free_rows st.sizes (places_of st) (freed_slot st)) row (quiet st (length img) first f none).past (rw (ez, ea, chosen) at e)
 
     module _ (taken : row ≡ 0) (p : ℕ) (ep : p ≡ get_or st.table.page s 0) where
-      page : p ≡ freedPage st
+      page : p ≡ freed_page st
       page = ep ∙ ap (λ (k : ℕ). get_or st.table.page k 0) chosen
 
-      pub may_free : Allowed z at st (Consolidate p) × (imageLength z ≤ length img)
+      pub may_free : Allowed z at st (Consolidate p) × (image_length z ≤ length img)
       may_free =
-          may-ask-for st img (freeRows st.sizes (places_of st) (freedSlot st)) row next_row taken (Consolidate p) z at ez ea refl refl (λ h. rw page (free-rows st img (sym next_row ∙ taken)))
+          may-ask-for st img (free_rows st.sizes (places_of st) (freed_slot st)) row next_row taken (Consolidate p) z at ez ea refl refl (λ h. rw page (free-rows st img (sym next_row ∙ taken)))
 
-      pub freed : (a : Answer) (after : State) (bs : List ℕ) (u : Until) → Started a after bs (asked 0 st (Consolidate p) (replicate 8 0)) img u → Started a after bs (freeOf st img) img u
-      unfolding freeOf
-      freed a after bs u h = rw page at (asked-for st img (freeRows st.sizes (places_of st) (freedSlot st)) row next_row taken (Consolidate p) a after bs u h)
+      pub freed : (a : Answer) (after : State) (bs : List ℕ) (u : Until) → Started a after bs (asked 0 st (Consolidate p) (replicate 8 0)) img u → Started a after bs (free_of st img) img u
+      unfolding free_of
+      freed a after bs u h = rw page at (asked-for st img (free_rows st.sizes (places_of st) (freed_slot st)) row next_row taken (Consolidate p) a after bs u h)

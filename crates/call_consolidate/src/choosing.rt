@@ -1,8 +1,8 @@
 // The slot to free, of a state in words: taken, with no held line, and of those the one that needs the fewest lines copied, the lower one on a tie.
 ghost use Rattle.std.specs.Prelude.{◌≡◌, ◌+◌, ◌<◌, ◌≤◌};
-ghost use Rattle.bounded.specs.Below.{leastTurn};
+ghost use Rattle.bounded.specs.Below.{least_turn};
 ghost use Rattle.layout.specs.Layout.{Legal};
-ghost use Rattle.refinement.specs.Freeing.{mayFree, linesToCopy, slotToFree};
+ghost use Rattle.refinement.specs.Freeing.{may_free, lines_to_copy, slot_to_free};
 ghost use Rattle.state_words.specs.Decoded.{decoded};
 
 use layout::Sizes;
@@ -11,7 +11,7 @@ use state_words::Words;
 // Whether slot s is taken and no line of it is held.
 fn may_free(words: &Words, s: usize) -> bool
     requires { s < 16 }
-    ensures { result ≡ mayFree (decoded words.now).table.page (decoded words.now).writers.held s }
+    ensures { result ≡ may_free (decoded words.now).table.page (decoded words.now).writers.held s }
 {
     let p = state_words::page_at(words, s);
     (p != journal::NO_PAGE) & !state_held::held::some_hold(words, s)
@@ -27,10 +27,10 @@ struct Best {
 // The better one of slot s and the best of those below it, which is s itself where none of them may be freed. Where s may not
 // either, the answer is s + 1.
 fn better(words: &Words, s: usize, best: Best) -> Best
-    requires { (s < 16) × (best.slot ≤ s) × (best.slot < s → best.lines ≡ linesToCopy (decoded words.now).table.bitmap best.slot) }
-    ensures slot { result.slot ≡ leastTurn (mayFree (decoded words.now).table.page (decoded words.now).writers.held)
-        (linesToCopy (decoded words.now).table.bitmap) s best.slot }
-    ensures lines { result.slot < s + 1 → result.lines ≡ linesToCopy (decoded words.now).table.bitmap result.slot }
+    requires { (s < 16) × (best.slot ≤ s) × (best.slot < s → best.lines ≡ lines_to_copy (decoded words.now).table.bitmap best.slot) }
+    ensures slot { result.slot ≡ least_turn (may_free (decoded words.now).table.page (decoded words.now).writers.held)
+        (lines_to_copy (decoded words.now).table.bitmap) s best.slot }
+    ensures lines { result.slot < s + 1 → result.lines ≡ lines_to_copy (decoded words.now).table.bitmap result.slot }
 {
     let may = may_free(words, s);
     let lines = needs::copy_count(state_words::bitmap_at(words, s));
@@ -50,7 +50,7 @@ fn better(words: &Words, s: usize, best: Best) -> Best
 // The slot to free, S where there is none.
 pub(crate) fn slot_to_free(z: Sizes, words: &Words) -> usize
     requires { Legal z }
-    ensures { result ≡ slotToFree z (decoded words.now).table.page (decoded words.now).table.bitmap
+    ensures { result ≡ slot_to_free z (decoded words.now).table.page (decoded words.now).table.bitmap
         (decoded words.now).writers.held }
 {
     let mut best = Best { slot: 0, lines: 0 };

@@ -2,10 +2,10 @@
 mod choosing;
 
 ghost use Rattle.std.specs.Prelude.{◌≡◌, true};
-ghost use Rattle.refinement.specs.Calls.{consolidateOf, freeOf};
+ghost use Rattle.refinement.specs.Calls.{consolidate_of, free_of};
 ghost use Rattle.answers.specs.Answers.{number_of};
 ghost use Rattle.op_stores.specs.Started.{Started};
-ghost use Rattle.validity.specs.Validity.{stateOk};
+ghost use Rattle.validity.specs.Validity.{state_ok};
 ghost use Rattle.state_words.specs.Decoded.{decoded, places_of};
 
 use answers::Answer;
@@ -17,7 +17,7 @@ use state_words::Words;
 // Asks for the consolidation of a page, and goes on with it as far as is said. A call that is turned back changes no word.
 pub fn consolidate(image: &mut [u8], words: &mut Words, page: usize, until: Until) -> Answer
     ensures started { Started result (decoded words.new) image.new
-        (consolidateOf (decoded words.old) image.old page) image.old until }
+        (consolidate_of (decoded words.old) image.old page) image.old until }
     ensures words { (number_of result ≡ 0 → ⊥) → words.new ≡ words.old }
 {
     let op = Op::Consolidate { page };
@@ -26,9 +26,9 @@ pub fn consolidate(image: &mut [u8], words: &mut Words, page: usize, until: Unti
 
 // Frees a slot of a state that row 8 accepts.
 pub fn free_valid(image: &mut [u8], z: Sizes, at: Places, words: &mut Words, until: Until) -> Answer
-    requires { (z ≡ (decoded words.old).sizes) × (at ≡ places_of (decoded words.old)) × (stateOk (decoded words.old) ≡ true) }
+    requires { (z ≡ (decoded words.old).sizes) × (at ≡ places_of (decoded words.old)) × (state_ok (decoded words.old) ≡ true) }
     ensures started { Started result (decoded words.new) image.new
-        (freeOf (decoded words.old) image.old) image.old until }
+        (free_of (decoded words.old) image.old) image.old until }
     ensures words { (number_of result ≡ 0 → ⊥) → words.new ≡ words.old }
 {
     let first = call_rows::valid_row(z, words, image.len());
@@ -48,7 +48,7 @@ pub fn free_valid(image: &mut [u8], z: Sizes, at: Places, words: &mut Words, unt
 // turned back changes no word.
 pub fn free_slot(image: &mut [u8], words: &mut Words, until: Until) -> Answer
     ensures started { Started result (decoded words.new) image.new
-        (freeOf (decoded words.old) image.old) image.old until }
+        (free_of (decoded words.old) image.old) image.old until }
     ensures words { (number_of result ≡ 0 → ⊥) → words.new ≡ words.old }
 {
     let z = state_words::sizes_in(words);

@@ -2,24 +2,24 @@
 use Rattle.std.specs.Prelude.{ℕ, List}
 use Rattle.layout.specs.declared.Sizes.{Sizes}
 use Rattle.words.specs.Words.{word_at}
-use Rattle.image.specs.Lines.{lineBytes}
-use Rattle.meters.specs.Meters.{firstMeter, ownMeter}
-use Rattle.replay.specs.Table.{slotIn}
-use Rattle.state.specs.State.{State, ownFrame}
-use Rattle.state.specs.Held.{heldAt}
+use Rattle.image.specs.Lines.{line_bytes}
+use Rattle.meters.specs.Meters.{first_meter, own_meter}
+use Rattle.replay.specs.Table.{slot_in}
+use Rattle.state.specs.State.{State, own_frame}
+use Rattle.state.specs.Held.{held_at}
 use Rattle.refinement.specs.Frames.{seen_at}
 use Rattle.call_event.specs.declared.found.Found.{Found}
 
 -- the frame that line l is read from
-abbrev pub lineFrom : Sizes → State → ℕ → ℕ → ℕ
-lineFrom z st s l = seen_at z (slotIn st.table s) (heldAt st.writers.held 1 s) s l (ownFrame st 0)
+abbrev pub line_from : Sizes → State → ℕ → ℕ → ℕ
+line_from z st s l = seen_at z (slot_in st.table s) (held_at st.writers.held 1 s) s l (own_frame st 0)
 
 -- no row, the frames, and the number that the first meter's line holds
-abbrev pub linesSeen : Sizes → State → List ℕ → ℕ → ℕ → ℕ → Found
-linesSeen z st img s k m =
+abbrev pub lines_seen : Sizes → State → List ℕ → ℕ → ℕ → ℕ → Found
+lines_seen z st img s k m =
     record {
       row = 0;
-      first = lineFrom z st s (firstMeter k m);
-      own = lineFrom z st s (ownMeter k m);
-      stored = word_at (lineBytes img z (lineFrom z st s (firstMeter k m)) (firstMeter k m)) 0;
+      first = line_from z st s (first_meter k m);
+      own = line_from z st s (own_meter k m);
+      stored = word_at (line_bytes img z (line_from z st s (first_meter k m)) (first_meter k m)) 0;
     }

@@ -1,11 +1,11 @@
 // What an event finds before it is taken: the row that turns it back, or the frames of page 0 and of its lines, and the stored number of its first meter.
 ghost use Rattle.std.specs.Prelude.{◌≡◌, true, ℕ, ◌<◌, ◌≤◌, length};
 ghost use Rattle.bounded.specs.Rows.{refusal};
-ghost use Rattle.layout.specs.Layout.{Legal, frames as framesOf, imageLength};
-ghost use Rattle.meters.specs.Meters.{eventKnown};
-ghost use Rattle.call_event.specs.Found.{startRows, EventFound};
+ghost use Rattle.layout.specs.Layout.{Legal, frames as frames_of, image_length};
+ghost use Rattle.meters.specs.Meters.{event_known};
+ghost use Rattle.call_event.specs.Found.{start_rows, EventFound};
 ghost use Rattle.state_words.specs.Decoded.{decoded, places_of};
-ghost use Rattle.call_event.specs.Seen.{lineFrom, linesSeen};
+ghost use Rattle.call_event.specs.Seen.{line_from, lines_seen};
 
 use layout::Sizes;
 use state::Places;
@@ -43,7 +43,7 @@ fn start_row(
     moduli: &[u64],
 ) -> usize
     requires { (z ≡ (decoded words.now).sizes) × (at ≡ places_of (decoded words.now)) }
-    ensures { result ≡ refusal (startRows (decoded words.now) n moduli.now kind meter) }
+    ensures { result ≡ refusal (start_rows (decoded words.now) n moduli.now kind meter) }
 {
     let row = call_rows::quiet_row(z, at, words, n);
     if row != 0 {
@@ -63,9 +63,9 @@ fn start_row(
 
 // The lines of a known event as writer 1 sees them, s being the slot of page 0, S where it has none.
 fn lines_seen(image: &[u8], z: Sizes, words: &Words, kind: usize, meter: usize, s: usize) -> Found
-    requires { Legal z × (eventKnown kind meter ≡ true) × ((l : ℕ) → lineFrom z (decoded words.now) s l < framesOf z)
-        × (imageLength z ≤ length image.now) }
-    ensures { result ≡ linesSeen z (decoded words.now) image.now s kind meter }
+    requires { Legal z × (event_known kind meter ≡ true) × ((l : ℕ) → line_from z (decoded words.now) s l < frames_of z)
+        × (image_length z ≤ length image.now) }
+    ensures { result ≡ lines_seen z (decoded words.now) image.now s kind meter }
 {
     let l = meters::first_meter(kind, meter);
     let o = meters::own_meter(kind, meter);

@@ -3,7 +3,7 @@ mod finished;
 pub mod found;
 
 ghost use Rattle.std.specs.Prelude.{◌≡◌};
-ghost use Rattle.refinement.specs.Calls.{eventOf};
+ghost use Rattle.refinement.specs.Calls.{event_of};
 ghost use Rattle.answers.specs.Answers.{number_of};
 ghost use Rattle.state_words.specs.Decoded.{decoded};
 ghost use Rattle.op_stores.specs.Started.{Started};
@@ -26,7 +26,7 @@ pub fn event(
     until: Until,
 ) -> Answer
     ensures started { Started result (decoded words.new) image.new
-        (eventOf (decoded words.old) image.old moduli.now kind meter amount) image.old until }
+        (event_of (decoded words.old) image.old moduli.now kind meter amount) image.old until }
     ensures words { (number_of result ≡ 0 → ⊥) → words.new ≡ words.old }
 {
     let z = state_words::sizes_in(words);

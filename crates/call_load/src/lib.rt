@@ -1,12 +1,12 @@
 // Load on a state in words: a venue's own moduli (document 02, L10). Nothing is stored and no word changes.
 ghost use Rattle.std.specs.Prelude.{◌≡◌, ℕ, ◌<◌, ◌≤◌, length, replicate, true};
-ghost use Rattle.bounded.specs.Below.{someBelow};
-ghost use Rattle.layout.specs.Layout.{Legal, frames as framesOf, imageLength};
-ghost use Rattle.state.specs.State.{ownFrame};
-ghost use Rattle.answers.specs.Answers.{stores_of, isAnswer};
+ghost use Rattle.bounded.specs.Below.{some_below};
+ghost use Rattle.layout.specs.Layout.{Legal, frames as frames_of, image_length};
+ghost use Rattle.state.specs.State.{own_frame};
+ghost use Rattle.answers.specs.Answers.{stores_of, is_answer};
 ghost use Rattle.refinement.specs.Frames.{frame_of};
 ghost use Rattle.refinement.specs.Calls.{load_of};
-ghost use Rattle.call_load.specs.Loaded.{loadedOf, meterHigh};
+ghost use Rattle.call_load.specs.Loaded.{loaded_of, meter_high};
 ghost use Rattle.state_words.specs.Decoded.{decoded};
 
 use answers::Answer;
@@ -22,9 +22,9 @@ pub struct Loaded {
 
 // Row 27: whether a stored meter is not below its modulus.
 fn is_high(image: &[u8], z: Sizes, words: &Words, moduli: &[u64; 24]) -> bool
-    requires { Legal z × (imageLength z ≤ length image.now)
-        × ((l : ℕ) → frame_of (ownFrame (decoded words.now)) z (decoded words.now).table 0 l < framesOf z) }
-    ensures { result ≡ someBelow 24 (meterHigh z image.now (decoded words.now) moduli.now) }
+    requires { Legal z × (image_length z ≤ length image.now)
+        × ((l : ℕ) → frame_of (own_frame (decoded words.now)) z (decoded words.now).table 0 l < frames_of z) }
+    ensures { result ≡ some_below 24 (meter_high z image.now (decoded words.now) moduli.now) }
 {
     let s = state_held::slots::slot_of(z, words, 0);
     let mut m = 0;
@@ -40,8 +40,8 @@ fn is_high(image: &[u8], z: Sizes, words: &Words, moduli: &[u64; 24]) -> bool
 
 // A refusal by a row.
 fn refused(row: usize) -> Loaded
-    requires { isAnswer row ≡ true }
-    ensures { (loadedOf result ≡ record { number = row; moduli = replicate 24 0 }) × (stores_of result.answer ≡ 0) }
+    requires { is_answer row ≡ true }
+    ensures { (loaded_of result ≡ record { number = row; moduli = replicate 24 0 }) × (stores_of result.answer ≡ 0) }
 {
     let answer = answers::answer_of(row, 0);
     let moduli = [0; 24];
@@ -50,7 +50,7 @@ fn refused(row: usize) -> Loaded
 
 // Loads the moduli of a text.
 pub fn load(image: &[u8], words: &Words, text: &[u8]) -> Loaded
-    ensures { (loadedOf result ≡ load_of (decoded words.now) image.now text.now) × (stores_of result.answer ≡ 0) }
+    ensures { (loaded_of result ≡ load_of (decoded words.now) image.now text.now) × (stores_of result.answer ≡ 0) }
 {
     let z = state_words::sizes_in(words);
     let at = state_words::places_in(words);

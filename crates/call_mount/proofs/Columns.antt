@@ -6,13 +6,13 @@ use native.Mathlib.Omega.{arith}
 use lib.ListN.{length, get_or, set, take, drop, length-drop}
 use lib.Seq.{ext_get_or, length-take-le}
 use Rattle.bounded.specs.Tab.{filled}
-use Rattle.bounded.proofs.Tab.{filled_none, filled-turn, length-filled, getD-filled}
+use Rattle.bounded.proofs.Tab.{filled_none, filled-turn, length-filled, get_or-filled}
 use Rattle.journal.specs.declared.Slot.{Slot}
 use Rattle.replay.specs.declared.Table.{Table}
-use Rattle.replay.specs.Table.{slotIn, withSlot, with_last}
+use Rattle.replay.specs.Table.{slot_in, with_slot, with_last}
 use Rattle.state.specs.State.{State}
 use Rattle.state.specs.Wide.{wide_of}
-use Rattle.state_words.specs.Decoded.{start, size, part, decoded, withTable, withWide}
+use Rattle.state_words.specs.Decoded.{start, size, part, decoded, with_table, with_wide}
 
 -- m with its first n places those of l; with all of them it is l
 abbrev pub column : List ℕ → ℕ → List ℕ → List ℕ
@@ -22,15 +22,15 @@ pub column-all : (l m : List ℕ) (n : ℕ) → length l ≡ n → length m ≡ 
 column-all l m n a b =
     let f : ℕ → ℕ = λ i. get_or l i 0 in
     let k : length (filled n f m) ≡ n = length-filled n f m ∙ b in
-    ext_get_or 0 (filled n f m) l (k ∙ sym a) (λ i h. getD-filled n f m i 0 (omega (arith, h, k)) (omega (arith, b)))
+    ext_get_or 0 (filled n f m) l (k ∙ sym a) (λ i h. get_or-filled n f m i 0 (omega (arith, h, k)) (omega (arith, b)))
 
 column-turn : (l m : List ℕ) (s : ℕ) → set (column l s m) s (get_or l s 0) ≡ column l (s + 1) m
 column-turn l m s = filled-turn (λ i. get_or l i 0) m _ s _ refl refl
 
 -- ---- a table
 
-abbrev pub tableTo : Table → ℕ → Table → Table
-tableTo t n u =
+abbrev pub table_to : Table → ℕ → Table → Table
+table_to t n u =
     record {
       page = column t.page n u.page;
       original = column t.original n u.original;
@@ -39,7 +39,7 @@ tableTo t n u =
       last = column t.last n u.last;
     }
 
-pub table_none : (st : State) (t : Table) → st ≡ withTable st (tableTo t 0 st.table)
+pub table_none : (st : State) (t : Table) → st ≡ with_table st (table_to t 0 st.table)
 table_none st t =
     rw (
       ← filled_none (λ i. get_or t.page i 0) st.table.page,
@@ -49,12 +49,12 @@ table_none st t =
       ← filled_none (λ i. get_or t.last i 0) st.table.last,
     )
 
-pub table-turn : (from now mid next : State) (t : Table) (s : ℕ) (v : Slot) → now ≡ withTable from (tableTo t s from.table) → v ≡ slotIn t s
-    → mid ≡ withTable now (withSlot now.table s v) → next ≡ withTable mid (with_last mid.table s (get_or t.last s 0)) → next ≡ withTable from (tableTo t (s + 1) from.table)
+pub table-turn : (from now mid next : State) (t : Table) (s : ℕ) (v : Slot) → now ≡ with_table from (table_to t s from.table) → v ≡ slot_in t s
+    → mid ≡ with_table now (with_slot now.table s v) → next ≡ with_table mid (with_last mid.table s (get_or t.last s 0)) → next ≡ with_table from (table_to t (s + 1) from.table)
 table-turn from now mid next t s v i e m n =
     let u = from.table in
     n
-    ∙ ap (λ (x : State). withTable x (with_last x.table s (get_or t.last s 0))) (m ∙ ap (λ (x : Slot). withTable now (withSlot now.table s x)) e ∙ ap (λ (x : State). withTable x (withSlot x.table s (slotIn t s))) i)
+    ∙ ap (λ (x : State). with_table x (with_last x.table s (get_or t.last s 0))) (m ∙ ap (λ (x : Slot). with_table now (with_slot now.table s x)) e ∙ ap (λ (x : State). with_table x (with_slot x.table s (slot_in t s))) i)
     ∙ rw (
       column-turn t.page u.page s,
       column-turn t.original u.original s,
@@ -71,7 +71,7 @@ columns-long c k n l =
     length-take-le (size k) (drop (start k) c) long
 
 pub table-all : (c : List ℕ) (t : Table) → length c ≡ 1280 → length t.page ≡ 16 → length t.original ≡ 16 → length t.spare ≡ 16 → length t.bitmap ≡ 16 → length t.last ≡ 16
-    → tableTo t 16 (decoded c).table ≡ t
+    → table_to t 16 (decoded c).table ≡ t
 unfolding decoded start size
 table-all c t n a b d e f =
     rw (
@@ -84,15 +84,15 @@ table-all c t n a b d e f =
 
 -- ---- the keys of entries
 
-abbrev pub keysTo : State → List ℕ → State
-keysTo st keys = withWide st (wide_of st.wide.writer st.wide.count keys)
+abbrev pub keys_to : State → List ℕ → State
+keys_to st keys = with_wide st (wide_of st.wide.writer st.wide.count keys)
 
-pub keys_none : (st : State) (keys : List ℕ) → st ≡ keysTo st (column keys 0 st.wide.keys)
+pub keys_none : (st : State) (keys : List ℕ) → st ≡ keys_to st (column keys 0 st.wide.keys)
 keys_none st keys = rw (← filled_none (λ i. get_or keys i 0) st.wide.keys)
 
-pub keys-turn : (from now next : State) (keys : List ℕ) (e : ℕ) → now ≡ keysTo from (column keys e from.wide.keys) → next ≡ keysTo now (set now.wide.keys e (get_or keys e 0))
-    → next ≡ keysTo from (column keys (e + 1) from.wide.keys)
-keys-turn from now next keys e i n = n ∙ ap (λ (u : State). keysTo u (set u.wide.keys e (get_or keys e 0))) i ∙ ap (keysTo from) (column-turn keys from.wide.keys e)
+pub keys-turn : (from now next : State) (keys : List ℕ) (e : ℕ) → now ≡ keys_to from (column keys e from.wide.keys) → next ≡ keys_to now (set now.wide.keys e (get_or keys e 0))
+    → next ≡ keys_to from (column keys (e + 1) from.wide.keys)
+keys-turn from now next keys e i n = n ∙ ap (λ (u : State). keys_to u (set u.wide.keys e (get_or keys e 0))) i ∙ ap (keys_to from) (column-turn keys from.wide.keys e)
 
 pub keys-all : (c keys : List ℕ) → length c ≡ 1280 → length keys ≡ 64 → column keys 64 (decoded c).wide.keys ≡ keys
 unfolding decoded start size

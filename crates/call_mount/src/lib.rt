@@ -3,9 +3,9 @@ mod filling;
 
 ghost use Rattle.std.specs.Prelude.{◌≡◌};
 ghost use Rattle.layout.specs.declared.Sizes.{Sizes};
-ghost use Rattle.fresh.specs.Fresh.{formatBytes};
-ghost use Rattle.refinement.specs.Mount.{mountCall, formatCall};
-ghost use Rattle.answers.specs.Answers.{number_of, answeredAt};
+ghost use Rattle.fresh.specs.Fresh.{format_bytes};
+ghost use Rattle.refinement.specs.Mount.{mount_call, format_call};
+ghost use Rattle.answers.specs.Answers.{number_of, answered_at};
 ghost use Rattle.state_words.specs.Decoded.{decoded};
 ghost use Rattle.call_mount.specs.Replacing.{replacing, FormatStarted};
 
@@ -17,7 +17,7 @@ use state_words::Words;
 
 // Mounts an image: reads only. Entries that are counted are still to be copied: their copying is pending.
 pub fn mount(image: &[u8], words: &mut Words) -> Answer
-    ensures state { answeredAt result (decoded words.new) ≡ replacing (decoded words.old) (mountCall image.now) }
+    ensures state { answered_at result (decoded words.new) ≡ replacing (decoded words.old) (mount_call image.now) }
     ensures words { (number_of result ≡ 0 → ⊥) → words.new ≡ words.old }
 {
     let m = mount::judge(image);
@@ -53,8 +53,8 @@ pub fn format(image: &mut [u8], words: &mut Words, z: Sizes, until: Until) -> An
 
 // The same run to its end, for a host that formats in one call. It tells no stores.
 pub fn format_whole(image: &mut [u8], words: &mut Words, z: Sizes) -> Answer
-    ensures state { answeredAt result (decoded words.new) ≡ replacing (decoded words.old) (formatCall z image.old) }
-    ensures bytes { image.new ≡ formatBytes z image.old }
+    ensures state { answered_at result (decoded words.new) ≡ replacing (decoded words.old) (format_call z image.old) }
+    ensures bytes { image.new ≡ format_bytes z image.old }
     ensures words { (number_of result ≡ 0 → ⊥) → words.new ≡ words.old }
 {
     let row = fresh::format_row(image, z);

@@ -1,7 +1,7 @@
 // Withdraw: the transaction goes on. No stores.
 ghost use Rattle.std.specs.Prelude.{◌≡◌};
-ghost use Rattle.answers.specs.Answers.{number_of, answeredAt};
-ghost use Rattle.refinement.specs.Calls.{withdrawOf};
+ghost use Rattle.answers.specs.Answers.{number_of, answered_at};
+ghost use Rattle.refinement.specs.Calls.{withdraw_of};
 ghost use Rattle.state_words.specs.Decoded.{decoded};
 
 use answers::Answer;
@@ -10,7 +10,7 @@ use state_words::Words;
 
 // No writer is prepared. It is turned back by the rows of a confirm, and then changes no word.
 pub fn withdraw(image: &[u8], words: &mut Words, writer: usize) -> Answer
-    ensures state { answeredAt result (decoded words.new) ≡ withdrawOf (decoded words.old) image.now writer }
+    ensures state { answered_at result (decoded words.new) ≡ withdraw_of (decoded words.old) image.now writer }
     ensures words { (number_of result ≡ 0 → ⊥) → words.new ≡ words.old }
 {
     let z = state_words::sizes_in(words);

@@ -1,7 +1,7 @@
 // Read on a state in words: 64 bytes into the lent buffer's start. No word changes.
 ghost use Rattle.std.specs.Prelude.{◌≡◌};
 ghost use Rattle.answers.specs.Answers.{number_of, stores_of};
-ghost use Rattle.refinement.specs.Calls.{readRow, readBytes};
+ghost use Rattle.refinement.specs.Calls.{read_row, read_bytes};
 ghost use Rattle.state_words.specs.Decoded.{decoded};
 
 use answers::Answer;
@@ -16,9 +16,9 @@ pub fn read(
     line: usize,
     target: &mut [u8],
 ) -> Answer
-    ensures number { (number_of result ≡ readRow (decoded words.now) image.now writer page line target.old)
+    ensures number { (number_of result ≡ read_row (decoded words.now) image.now writer page line target.old)
         × (stores_of result ≡ 0) }
-    ensures bytes { target.new ≡ readBytes (decoded words.now) image.now writer page line target.old }
+    ensures bytes { target.new ≡ read_bytes (decoded words.now) image.now writer page line target.old }
 {
     let z = state_words::sizes_in(words);
     let at = state_words::places_in(words);

@@ -4,7 +4,7 @@ use Rattle.bounded.proofs.Tests.{row_keeps}
 use Rattle.refinement.specs.Stores.{World}
 use Rattle.refinement.specs.Run.{Call, checkpoint, free, begin, abort, commit, run, write, Result, exec, after}
 use Rattle.call_round.specs.declared.Room.{Room}
-use Rattle.call_round.specs.Round.{Played, made, next, withJournal, put, put_all, committed, closed, unplayed, roundOf}
+use Rattle.call_round.specs.Round.{Played, made, next, with_journal, put, put_all, committed, closed, unplayed, round_of}
 use Rattle.call_round.specs.InLists.{Listed, InLists}
 
 after-joined : (cs ds : List Call) (v : World) → after (cs ++ ds) v ≡ after ds (after cs v)
@@ -29,8 +29,8 @@ module _ (v : World) where
   unfolding made
   made-listed c t h = on v t.world (made c t).world h (call-listed c t.world)
 
-  journal-listed : (b : Bool) (c : Call) (t : Played) → Come t → Come (withJournal b c t)
-  unfolding withJournal
+  journal-listed : (b : Bool) (c : Call) (t : Played) → Come t → Come (with_journal b c t)
+  unfolding with_journal
   journal-listed b c t h =
       let u = made c t in
       let k = made-listed c t h in
@@ -41,7 +41,7 @@ module _ (v : World) where
   put-listed r c t h =
       let u = made c t in
       let k = made-listed c t h in
-      let f = withJournal r.checkpoint free u in
+      let f = with_journal r.checkpoint free u in
       let g = journal-listed r.checkpoint free u k in
       row_keeps Come (r.free && eqb u.number 15) _ u (row_keeps Come (eqb f.number 0) (made c f) f (made-listed c f g) g) k
 
@@ -59,14 +59,14 @@ module _ (v : World) where
   committed-listed : (r : Room) (w : ℕ) (t : Played) → Come t → Come (committed r w t)
   unfolding committed
   committed-listed r w t h =
-      row_keeps Come (eqb t.number 0) (withJournal r.checkpoint (commit w) (next t)) t (journal-listed r.checkpoint (commit w) (next t) h) h
+      row_keeps Come (eqb t.number 0) (with_journal r.checkpoint (commit w) (next t)) t (journal-listed r.checkpoint (commit w) (next t) h) h
 
   closed-listed : (w : ℕ) (t : Played) → Come t → Come (closed w t)
   unfolding closed
   closed-listed w t h = row_keeps Come (eqb t.number 0) t _ h (on v t.world _ h (call-listed (abort w) t.world))
 
 pub round-in-lists : InLists
-unfolding roundOf after
+unfolding round_of after
 round-in-lists r w writes bytes v =
     let b = made (begin w) (unplayed v) in
     let first : Listed v v = record { calls = []; come-to = refl } in

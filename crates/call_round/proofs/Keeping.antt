@@ -6,7 +6,7 @@ use Rattle.refinement.proofs.Called.{call-good}
 use Rattle.refinement.proofs.CallReached.{call-bytes}
 use Rattle.call_round.specs.declared.Round.{Round}
 use Rattle.call_round.specs.Kept.{Fine, FineAt}
-use Rattle.call_round.specs.Round.{Played, playedOf, made}
+use Rattle.call_round.specs.Round.{Played, played_of, made}
 
 exec-fine : (c : Call) (v : World) → Fine v → Fine (exec c v).world
 exec-fine c v f = record { good = call-good c v f.bytes f.good; bytes = call-bytes c v f.bytes }
@@ -18,5 +18,5 @@ made-fine c t f =
     exec-fine (run d.stores) d.world (exec-fine c t.world f)
 
 -- the same of what the code tells
-pub kept : (c : Call) (t : Played) (r : Round) (words img : List ℕ) → playedOf r words img ≡ made c t → Fine t.world → FineAt words img
+pub kept : (c : Call) (t : Played) (r : Round) (words img : List ℕ) → played_of r words img ≡ made c t → Fine t.world → FineAt words img
 kept c t r words img e f = subst Fine (sym (ap (λ (p : Played). p.world) e)) (made-fine c t f)

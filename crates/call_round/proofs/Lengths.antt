@@ -1,7 +1,7 @@
 -- The types of the words give the lengths of the state's arrays and the ranges of its masks.
 use Rattle.std.proofs.Common.{◌≡◌, ℕ, ◌+◌, ◌^◌, ◌<◌, ◌≤◌, ltb, List, length, get_or, take, drop, refl, ap, ◌∙◌, arith, length-drop, length-take-le, ltb-false, ltb-true}
 use lib.ListN.{get_or-eq_default}
-use Rattle.bounded.proofs.Tests.{caseOn}
+use Rattle.bounded.proofs.Tests.{case_on}
 use Rattle.refinement.proofs.Sized.{Low, Sized}
 use Rattle.state_words.specs.Decoded.{start, size, part, decoded}
 use Rattle.state_words.proofs.DecodedLaws.{part_at}
@@ -13,7 +13,7 @@ module _ (c : List ℕ) (n : length c ≡ 1280) (low : Low c) where
   unfolding part
   part_low k h i =
       let long : length (take (size k) (drop (start k) c)) ≡ size k = length-take-le (size k) (drop (start k) c) (omega (arith, length-drop (start k) c)) in
-      caseOn (ltb i (size k))
+      case_on (ltb i (size k))
       (λ t. rw (part_at c k i (ltb-true i (size k) t)) (low (start k + i)))
       (λ t.
       let z : get_or (take (size k) (drop (start k) c)) i 0 ≡ 0 = get_or-eq_default (take (size k) (drop (start k) c)) 0 (omega (arith, ltb-false i (size k) t)) in

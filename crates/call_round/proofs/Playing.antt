@@ -1,16 +1,16 @@
 -- The calls of a round, one after the other.
 use Rattle.std.proofs.Common.{◌≡◌, ℕ, suc, ◌+◌, ◌-◌, ◌%◌, ◌^◌, ◌<◌, ◌≤◌, min, Bool, true, false, ◌&&◌, eqb, leb, List, [], ◌∷◌, length, get_or, take, drop, sym, refl, ap, ◌∙◌, arith, length-drop, drop_of_length-le, take_all, drop-cons, drop-drop, eq-eqb, ne_eqb, leb-false, leb-true}
 use mathlib.Core.Bool.{and-false}
-use Rattle.bounded.proofs.Tests.{caseOn, row_keeps}
+use Rattle.bounded.proofs.Tests.{case_on, row_keeps}
 use Rattle.refinement.specs.Stores.{World}
-use Rattle.refinement.specs.Calls.{worldOf}
+use Rattle.refinement.specs.Calls.{world_of}
 use Rattle.refinement.specs.Run.{Call, checkpoint, free, begin, abort, commit, write, Result, exec}
 use Rattle.answers.specs.declared.Answer.{Answer}
 use Rattle.answers.specs.Answers.{number_of, stores_of}
 use Rattle.state_words.specs.Decoded.{decoded}
 use Rattle.call_round.specs.declared.Room.{Room}
 use Rattle.call_round.specs.declared.Round.{Round}
-use Rattle.call_round.specs.Round.{toEnd, Finishes, Played, playedOf, made, next, withJournal, put, put_all, committed, closed, unplayed, roundOf}
+use Rattle.call_round.specs.Round.{to_end, Finishes, Played, played_of, made, next, with_journal, put, put_all, committed, closed, unplayed, round_of}
 
 -- ---- a call
 
@@ -20,9 +20,9 @@ telling t d = record { world = d.world; number = d.number; call = t.call; stores
 
 pub call-made : (c : Call) (t r : Round) (words img : List ℕ) (a : Answer) (words' img' : List ℕ) → Finishes c words img a words' img'
     → r ≡ record { number = number_of a; call = t.call; stores = (t.stores + stores_of a) % 2 ^ 64 }
-    → playedOf r words' img' ≡ made c (playedOf t words img)
+    → played_of r words' img' ≡ made c (played_of t words img)
 unfolding made
-call-made c t r words img a words' img' e h = rw h (ap (telling (playedOf t words img)) e)
+call-made c t r words img a words' img' e h = rw h (ap (telling (played_of t words img)) e)
 
 -- the first call of the list is number 0
 pub begun-call : (c : Call) (v : World) (b : Played) → b ≡ made c (unplayed v) → b.call ≡ 0
@@ -32,16 +32,16 @@ begun-call c v b e = ap (λ (t : Played). t.call) e
 -- ---- room in the journal
 
 module _ (b : Bool) (c : Call) (x y : Played) (e : y ≡ made c x) where
-  pub journal-unasked : b ≡ false → y ≡ withJournal b c x
-  unfolding withJournal
+  pub journal-unasked : b ≡ false → y ≡ with_journal b c x
+  unfolding with_journal
   journal-unasked h = rw (← e, h)
 
-  pub journal-enough : (y.number ≡ 19 → ⊥) → y ≡ withJournal b c x
-  unfolding withJournal
+  pub journal-enough : (y.number ≡ 19 → ⊥) → y ≡ with_journal b c x
+  unfolding with_journal
   journal-enough h = rw (← e, ne_eqb y.number 19 h, and-false b)
 
-  pub journal-emptied : b ≡ true → y.number ≡ 19 → (z w : Played) → z ≡ made checkpoint y → w ≡ made c z → w ≡ withJournal b c x
-  unfolding withJournal
+  pub journal-emptied : b ≡ true → y.number ≡ 19 → (z w : Played) → z ≡ made checkpoint y → w ≡ made c z → w ≡ with_journal b c x
+  unfolding with_journal
   journal-emptied t h z w f g = rw (← e, t, eq-eqb y.number 19 h, ← f) g
 
 -- ---- a write
@@ -55,7 +55,7 @@ module _ (r : Room) (c : Call) (x u : Played) (e : u ≡ made c x) where
   unfolding put
   put-plain h = rw (← e, ne_eqb u.number 15 h, and-false r.free)
 
-  module _ (t : r.free ≡ true) (h : u.number ≡ 15) (f : Played) (g : f ≡ withJournal r.checkpoint free u) where
+  module _ (t : r.free ≡ true) (h : u.number ≡ 15) (f : Played) (g : f ≡ with_journal r.checkpoint free u) where
     pub put-stuck : (f.number ≡ 0 → ⊥) → f ≡ put r c x
     unfolding put
     put-stuck k = rw (← e, t, eq-eqb u.number 15 h, ← g, ne_eqb f.number 0 k)
@@ -66,11 +66,11 @@ module _ (r : Room) (c : Call) (x u : Played) (e : u ≡ made c x) where
 
 -- it is the same call of the list, however often it is made
 pub put-call : (r : Room) (c : Call) (x : Played) → (put r c x).call ≡ x.call
-unfolding put withJournal made
+unfolding put with_journal made
 put-call r c x =
     let same : Played → Type 0 = λ t. t.call ≡ x.call in
     let u = made c x in
-    let f = withJournal r.checkpoint free u in
+    let f = with_journal r.checkpoint free u in
     let freed : same f = row_keeps same (r.checkpoint && eqb (made free u).number 19) (made free (made checkpoint (made free u))) (made free u) refl refl in
     row_keeps same (r.free && eqb u.number 15) _ u (row_keeps same (eqb f.number 0) (made c f) f freed freed) refl
 
@@ -94,7 +94,7 @@ rest-is l a = take_all (length l - a) (drop a l) (omega (arith, length-drop a l)
 -- the bytes of a write passed over, of those that are left
 pub passed_over : (l : List ℕ) (a n m : ℕ) → a ≤ length l → m ≡ min n (length l - a) → drop (a + m) l ≡ drop n (drop a l)
 passed_over l a n m h e =
-    caseOn (leb n (length l - a))
+    case_on (leb n (length l - a))
     (λ t. let few : n ≤ length l - a = leb-true n (length l - a) t in let q : m ≡ n = omega arith in rw q (sym (drop-drop n a l)))
     (λ t.
     let many : length l - a < n = leb-false n (length l - a) t in
@@ -129,21 +129,21 @@ pub not-committed : (r : Room) (w : ℕ) (x : Played) → (x.number ≡ 0 → �
 unfolding committed
 not-committed r w x h = rw (ne_eqb x.number 0 h)
 
-pub is-committed : (r : Room) (w : ℕ) (x y : Played) → x.number ≡ 0 → y ≡ withJournal r.checkpoint (commit w) (next x) → y ≡ committed r w x
+pub is-committed : (r : Room) (w : ℕ) (x y : Played) → x.number ≡ 0 → y ≡ with_journal r.checkpoint (commit w) (next x) → y ≡ committed r w x
 unfolding committed
 is-committed r w x y h e = rw (eq-eqb x.number 0 h) e
 
 module _ (r : Room) (w : ℕ) (ws bytes : List ℕ) (v : World) (b : Played) (begun : b ≡ made (begin w) (unplayed v)) where
-  pub not-begun : (b.number ≡ 0 → ⊥) → b ≡ roundOf r w ws bytes v
-  unfolding roundOf
+  pub not-begun : (b.number ≡ 0 → ⊥) → b ≡ round_of r w ws bytes v
+  unfolding round_of
   not-begun h = rw (← begun, ne_eqb b.number 0 h)
 
   module _ (h : b.number ≡ 0) (y u : Played) (all : y ≡ put_all r w ws bytes b) (end : u ≡ committed r w y) where
-    pub round-taken : u.number ≡ 0 → u ≡ roundOf r w ws bytes v
-    unfolding roundOf closed
+    pub round-taken : u.number ≡ 0 → u ≡ round_of r w ws bytes v
+    unfolding round_of closed
     round-taken k = rw (← begun, eq-eqb b.number 0 h, ← all, ← end, eq-eqb u.number 0 k)
 
-    pub round-refused : (u.number ≡ 0 → ⊥) → (after : World) → after ≡ (toEnd (exec (abort w) u.world)).world
-        → record { world = after; number = u.number; call = u.call; stores = u.stores } ≡ roundOf r w ws bytes v
-    unfolding roundOf closed
+    pub round-refused : (u.number ≡ 0 → ⊥) → (after : World) → after ≡ (to_end (exec (abort w) u.world)).world
+        → record { world = after; number = u.number; call = u.call; stores = u.stores } ≡ round_of r w ws bytes v
+    unfolding round_of closed
     round-refused k after e = rw (← begun, eq-eqb b.number 0 h, ← all, ← end, ne_eqb u.number 0 k, e)

@@ -3,11 +3,11 @@ use Rattle.std.specs.Prelude.{◌≡◌, ℕ, List}
 use Rattle.refinement.specs.Stores.{World}
 use Rattle.refinement.specs.Run.{Call, after}
 use Rattle.call_round.specs.declared.Room.{Room}
-use Rattle.call_round.specs.Round.{roundOf}
+use Rattle.call_round.specs.Round.{round_of}
 
 pub record Listed (v u : World) : Type 0 where
   pub calls : List Call
   pub come-to : after calls v ≡ u
 
 abbrev pub InLists : Type 0
-InLists = (r : Room) (w : ℕ) (writes bytes : List ℕ) (v : World) → Listed v (roundOf r w writes bytes v).world
+InLists = (r : Room) (w : ℕ) (writes bytes : List ℕ) (v : World) → Listed v (round_of r w writes bytes v).world

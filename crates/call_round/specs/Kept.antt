@@ -2,7 +2,7 @@
 use Rattle.std.specs.Prelude.{ℕ, List}
 use Rattle.words.specs.Words.{Bytes}
 use Rattle.refinement.specs.Stores.{World}
-use Rattle.refinement.specs.Calls.{worldOf}
+use Rattle.refinement.specs.Calls.{world_of}
 use Rattle.refinement.proofs.Sized.{Sized}
 use Rattle.refinement.proofs.Called.{Good}
 use Rattle.state_words.specs.Decoded.{decoded}
@@ -13,7 +13,7 @@ pub record Fine (v : World) : Type 0 where
 
 -- of a state in words
 abbrev pub FineAt : List ℕ → List ℕ → Type 0
-FineAt words img = Fine (worldOf (decoded words) img)
+FineAt words img = Fine (world_of (decoded words) img)
 
 abbrev pub SizedAt : List ℕ → Type 0
 SizedAt words = Sized (decoded words)

@@ -3,7 +3,7 @@ ghost use Rattle.std.specs.Prelude.{◌≡◌};
 ghost use Rattle.refinement.specs.Run.{write, commit, free};
 ghost use Rattle.state_words.specs.Decoded.{decoded};
 ghost use Rattle.call_round.specs.Kept.{FineAt};
-ghost use Rattle.call_round.specs.Round.{playedOf, withJournal, put};
+ghost use Rattle.call_round.specs.Round.{played_of, with_journal, put};
 
 use crate::{Room, Round, calls};
 use call_write::Span;
@@ -12,8 +12,8 @@ use state_words::Words;
 // A slot freed; where the journal is full, after a checkpoint if that is asked for.
 fn free_slot(t: Round, image: &mut [u8], words: &mut Words, checkpoint: bool) -> Round
     requires { FineAt words.old image.old }
-    ensures played { playedOf result words.new image.new
-        ≡ withJournal checkpoint free (playedOf t words.old image.old) }
+    ensures played { played_of result words.new image.new
+        ≡ with_journal checkpoint free (played_of t words.old image.old) }
     ensures kept { FineAt words.new image.new }
 {
     let first = calls::free_made(t, image, words);
@@ -38,8 +38,8 @@ pub(crate) fn put(
     room: Room,
 ) -> Round
     requires { FineAt words.old image.old }
-    ensures played { playedOf result words.new image.new
-        ≡ put room (write writer a.page a.line a.offset a.length «data».now) (playedOf t words.old image.old) }
+    ensures played { played_of result words.new image.new
+        ≡ put room (write writer a.page a.line a.offset a.length «data».now) (played_of t words.old image.old) }
     ensures kept { FineAt words.new image.new }
 {
     let first = calls::write_made(t, image, words, writer, a, data);
@@ -65,8 +65,8 @@ pub(crate) fn commit(
     checkpoint: bool,
 ) -> Round
     requires { FineAt words.old image.old }
-    ensures played { playedOf result words.new image.new
-        ≡ withJournal checkpoint (commit writer) (playedOf t words.old image.old) }
+    ensures played { played_of result words.new image.new
+        ≡ with_journal checkpoint (commit writer) (played_of t words.old image.old) }
     ensures kept { FineAt words.new image.new }
 {
     let first = calls::commit_made(t, image, words, writer);

@@ -5,10 +5,10 @@ mod calls;
 mod typed;
 
 ghost use Rattle.std.specs.Prelude.{◌≡◌, ◌+◌, ◌*◌, ◌^◌, ◌<◌, ◌≤◌, length, slice_index};
-ghost use Rattle.refinement.specs.Calls.{worldOf};
+ghost use Rattle.refinement.specs.Calls.{world_of};
 ghost use Rattle.state_words.specs.Decoded.{decoded};
 ghost use Rattle.call_round.specs.Kept.{FineAt};
-ghost use Rattle.call_round.specs.Round.{playedOf, put_all, committed, roundOf};
+ghost use Rattle.call_round.specs.Round.{played_of, put_all, committed, round_of};
 
 use call_write::Span;
 use state_words::Words;
@@ -57,8 +57,8 @@ fn put_all(
     room: Room,
 ) -> Round
     requires { FineAt words.old image.old × (t.call ≡ 0) }
-    ensures played { playedOf result words.new image.new
-        ≡ put_all room writer writes.now «data».now (playedOf t words.old image.old) }
+    ensures played { played_of result words.new image.new
+        ≡ put_all room writer writes.now «data».now (played_of t words.old image.old) }
     ensures kept { FineAt words.new image.new }
     ensures few { 4 * result.call ≤ length writes.now }
 {
@@ -81,8 +81,8 @@ fn put_all(
 // A commit, where all writes are taken.
 fn commit_written(t: Round, image: &mut [u8], words: &mut Words, writer: usize, room: Room) -> Round
     requires { FineAt words.old image.old × (t.call < 2 ^ 63) }
-    ensures played { playedOf result words.new image.new
-        ≡ committed room writer (playedOf t words.old image.old) }
+    ensures played { played_of result words.new image.new
+        ≡ committed room writer (played_of t words.old image.old) }
     ensures kept { FineAt words.new image.new }
 {
     let number = t.number;
@@ -104,8 +104,8 @@ pub fn play(
     data: &[u8],
     room: Room,
 ) -> Round
-    ensures { playedOf result words.new image.new
-        ≡ roundOf room writer writes.now «data».now (worldOf (decoded words.old) image.old) }
+    ensures { played_of result words.new image.new
+        ≡ round_of room writer writes.now «data».now (world_of (decoded words.old) image.old) }
 {
     let z = state_words::sizes_in(words);
     let at = state_words::places_in(words);

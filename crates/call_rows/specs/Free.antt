@@ -3,8 +3,8 @@ use Rattle.std.specs.Prelude.{ℕ, List, [], ◌∷◌, leb}
 use Rattle.bounded.specs.Rows.{Row}
 use Rattle.layout.specs.declared.Sizes.{Sizes}
 use Rattle.state.specs.declared.Places.{Places}
-use Rattle.state.specs.Held.{somePrepared}
-use Rattle.operations.specs.Operations.{journalFullOf}
+use Rattle.state.specs.Held.{some_prepared}
+use Rattle.operations.specs.Operations.{journal_full_of}
 
-abbrev pub freeRows : Sizes → Places → ℕ → List Row
-freeRows z at s = (somePrepared at.prepared, 23) ∷ (leb z.slots s, 22) ∷ (journalFullOf z at.head at.tail 1, 19) ∷ []
+abbrev pub free_rows : Sizes → Places → ℕ → List Row
+free_rows z at s = (some_prepared at.prepared, 23) ∷ (leb z.slots s, 22) ∷ (journal_full_of z at.head at.tail 1, 19) ∷ []

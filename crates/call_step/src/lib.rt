@@ -3,8 +3,8 @@ mod ranges;
 mod telling;
 
 ghost use Rattle.std.specs.Prelude.{◌≡◌};
-ghost use Rattle.refinement.specs.Calls.{step_of, stepBytes, run_of, runBytes};
-ghost use Rattle.answers.specs.Answers.{number_of, answeredAt};
+ghost use Rattle.refinement.specs.Calls.{step_of, step_bytes, run_of, run_bytes};
+ghost use Rattle.answers.specs.Answers.{number_of, answered_at};
 ghost use Rattle.state_words.specs.Decoded.{decoded};
 
 use answers::Answer;
@@ -14,8 +14,8 @@ pub use telling::{NextStore, next_store};
 
 // Makes at most k stores, and says how many it made. A call that is turned back changes no word.
 pub fn run(image: &mut [u8], words: &mut Words, k: usize) -> Answer
-    ensures outcome { answeredAt result (decoded words.new) ≡ run_of (decoded words.old) image.old k }
-    ensures bytes { image.new ≡ runBytes (decoded words.old) image.old k }
+    ensures outcome { answered_at result (decoded words.new) ≡ run_of (decoded words.old) image.old k }
+    ensures bytes { image.new ≡ run_bytes (decoded words.old) image.old k }
     ensures words { (number_of result ≡ 0 → ⊥) → words.new ≡ words.old }
 {
     let z = state_words::sizes_in(words);
@@ -31,8 +31,8 @@ pub fn run(image: &mut [u8], words: &mut Words, k: usize) -> Answer
 
 // Makes one store.
 pub fn step(image: &mut [u8], words: &mut Words) -> Answer
-    ensures outcome { answeredAt result (decoded words.new) ≡ step_of (decoded words.old) image.old }
-    ensures bytes { image.new ≡ stepBytes (decoded words.old) image.old }
+    ensures outcome { answered_at result (decoded words.new) ≡ step_of (decoded words.old) image.old }
+    ensures bytes { image.new ≡ step_bytes (decoded words.old) image.old }
     ensures words { (number_of result ≡ 0 → ⊥) → words.new ≡ words.old }
 {
     run(image, words, 1)

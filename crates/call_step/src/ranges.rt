@@ -3,7 +3,7 @@ ghost use Rattle.std.specs.Prelude.{cond, ◌≡◌, eqb};
 ghost use Rattle.answers.specs.Answers.{number_of};
 ghost use Rattle.state_words.specs.Decoded.{decoded};
 ghost use Rattle.op_stores.specs.Beside.{Beside};
-ghost use Rattle.call_step.specs.NextStore.{nextStoreOf, left_of};
+ghost use Rattle.call_step.specs.NextStore.{next_store_of, left_of};
 
 use crate::NextStore;
 use answers::Answer;
@@ -19,7 +19,7 @@ pub struct NextRange {
 
 // Returns the next store and its range.
 pub fn next_range(image: &[u8], words: &Words) -> NextRange
-    ensures next { result.next ≡ nextStoreOf (decoded words.now) image.now }
+    ensures next { result.next ≡ next_store_of (decoded words.now) image.now }
     ensures beside { number_of result.next.answer ≡ 0 → Beside (decoded words.now) result.beside }
     ensures left { result.left ≡ left_of (decoded words.now) image.now }
 {

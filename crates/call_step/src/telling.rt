@@ -1,7 +1,7 @@
 // The next store of what is pending, told before it is made.
 ghost use Rattle.std.specs.Prelude.{◌≡◌};
 ghost use Rattle.state_words.specs.Decoded.{decoded};
-ghost use Rattle.call_step.specs.NextStore.{nextStoreOf};
+ghost use Rattle.call_step.specs.NextStore.{next_store_of};
 
 use answers::Answer;
 use state_words::Words;
@@ -17,7 +17,7 @@ pub struct NextStore {
 
 // Returns where the next store goes and whether it decides. A host whose memory keeps no order fences before and after each one that decides.
 pub fn next_store(image: &[u8], words: &Words) -> NextStore
-    ensures { result ≡ nextStoreOf (decoded words.now) image.now }
+    ensures { result ≡ next_store_of (decoded words.now) image.now }
 {
     let told = crate::next_range(image, words);
     told.next

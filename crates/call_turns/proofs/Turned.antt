@@ -11,24 +11,24 @@ use Rattle.op_stores.specs.declared.Until.TheVariants.{Asked, End}
 use Rattle.op_stores.specs.Started.{Started}
 use Rattle.calling.proofs.Asked.{asked-told}
 use Rattle.workbench.specs.declared.Said.{Said}
-use Rattle.workbench.specs.Turns.{answerSaid, called, shown, formed}
+use Rattle.workbench.specs.Turns.{answer_said, called, shown, formed}
 use Rattle.workbench.proofs.Formed.{has-called}
-use Rattle.call_turns.specs.InPlace.{untilBy, call_by, bytesBy}
+use Rattle.call_turns.specs.InPlace.{until_by, call_by, bytes_by}
 
-module _ (r : Said) (ok : Bool) (st after : State) (a : Answer) (e : ok ≡ true) (h : r ≡ answerSaid a) (bytes : List ℕ) (o : Outcome) (img : List ℕ) where
+module _ (r : Said) (ok : Bool) (st after : State) (a : Answer) (e : ok ≡ true) (h : r ≡ answer_said a) (bytes : List ℕ) (o : Outcome) (img : List ℕ) where
   -- asked for, it changes no byte
   pub has-asked : Started a after bytes o img Asked → (shown after r ≡ formed ok st (called o)) × (bytes ≡ img)
   has-asked s = let t = asked-told a after bytes o img s in (has-called r ok st after a o e t.0 h, t.1)
 
-  by-until : (whole : Bool) → Started a after bytes o img (untilBy whole) → (shown after r ≡ call_by ok whole st o img) × (bytes ≡ bytesBy ok whole o img)
+  by-until : (whole : Bool) → Started a after bytes o img (until_by whole) → (shown after r ≡ call_by ok whole st o img) × (bytes ≡ bytes_by ok whole o img)
   by-until true s = (has-called r ok st after a _ e s.0 h, rw e s.1)
   by-until false s = let t = has-asked s in (t.0, rw e t.1)
 
-  pub has-started : (whole : Bool) (u : Until) → u ≡ untilBy whole → Started a after bytes o img u
-      → (shown after r ≡ call_by ok whole st o img) × (bytes ≡ bytesBy ok whole o img)
+  pub has-started : (whole : Bool) (u : Until) → u ≡ until_by whole → Started a after bytes o img u
+      → (shown after r ≡ call_by ok whole st o img) × (bytes ≡ bytes_by ok whole o img)
   has-started whole u k s = by-until whole (rw k at s)
 
 -- and asked for or of another form, a call changes no byte
-pub asked-bytes : (ok : Bool) (o : Outcome) (img : List ℕ) → bytesBy ok false o img ≡ img
+pub asked-bytes : (ok : Bool) (o : Outcome) (img : List ℕ) → bytes_by ok false o img ≡ img
 asked-bytes true o img = refl
 asked-bytes false o img = refl

@@ -4,22 +4,22 @@ use Rattle.state.specs.State.{State}
 use Rattle.refinement.specs.Outcome.{Outcome}
 use Rattle.op_stores.specs.declared.Until.{Until}
 use Rattle.op_stores.specs.declared.Until.TheVariants.{Asked, End}
-use Rattle.op_stores.specs.Started.{startedOf, startedBytes}
+use Rattle.op_stores.specs.Started.{started_of, started_bytes}
 use Rattle.workbench.specs.Turns.{Turn, formed, called}
 
-abbrev pub untilBy : Bool → Until
-untilBy whole = cond whole End Asked
+abbrev pub until_by : Bool → Until
+until_by whole = cond whole End Asked
 
-abbrev pub outcomeBy : Bool → Outcome → List ℕ → Outcome
-outcomeBy whole o img = cond whole (startedOf o img End) o
+abbrev pub outcome_by : Bool → Outcome → List ℕ → Outcome
+outcome_by whole o img = cond whole (started_of o img End) o
 
 -- asking changes no byte
-abbrev pub imageBy : Bool → Outcome → List ℕ → List ℕ
-imageBy whole o img = cond whole (startedBytes o img End) img
+abbrev pub image_by : Bool → Outcome → List ℕ → List ℕ
+image_by whole o img = cond whole (started_bytes o img End) img
 
 -- the turn of a line of the form, and the bytes lent after it
 abbrev pub call_by : Bool → Bool → State → Outcome → List ℕ → Turn
-call_by ok whole st o img = formed ok st (called (outcomeBy whole o img))
+call_by ok whole st o img = formed ok st (called (outcome_by whole o img))
 
-abbrev pub bytesBy : Bool → Bool → Outcome → List ℕ → List ℕ
-bytesBy ok whole o img = cond ok (imageBy whole o img) img
+abbrev pub bytes_by : Bool → Bool → Outcome → List ℕ → List ℕ
+bytes_by ok whole o img = cond ok (image_by whole o img) img

@@ -1,7 +1,7 @@
 // What a call's line prints, and how far a call goes on: asked for, or in place.
 ghost use Rattle.std.specs.Prelude.{◌≡◌, cond};
-ghost use Rattle.workbench.specs.Turns.{answerSaid};
-ghost use Rattle.call_turns.specs.InPlace.{untilBy};
+ghost use Rattle.workbench.specs.Turns.{answer_said};
+ghost use Rattle.call_turns.specs.InPlace.{until_by};
 
 use answers::Answer;
 use op_stores::Until;
@@ -9,7 +9,7 @@ use workbench::Said;
 
 // A call's answer and its stores.
 pub fn answered(answer: Answer) -> Said
-    ensures { result ≡ answerSaid answer }
+    ensures { result ≡ answer_said answer }
 {
     let number = answers::number_of(answer);
     let count = calling::stores_of(answer);
@@ -18,7 +18,7 @@ pub fn answered(answer: Answer) -> Said
 
 // In place all stores are made; else none.
 pub fn until_by(whole: bool) -> Until
-    ensures { result ≡ untilBy whole }
+    ensures { result ≡ until_by whole }
 {
     if whole { Until::End } else { Until::Asked }
 }

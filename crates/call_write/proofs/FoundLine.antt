@@ -7,28 +7,28 @@ use native.Mathlib.Omega.{arith}
 use lib.Dec.{ltb}
 use lib.ListN.{length}
 use borrow.Author.Tests.{eq-eqb, lt-ltb, le-ltb, ltb-true}
-use Rattle.bounded.proofs.Tests.{caseOn, and_right}
+use Rattle.bounded.proofs.Tests.{case_on, and_right}
 use Rattle.entries.specs.Entries.{key_of, entry_of}
 use Rattle.state.specs.State.{State, Wide}
-use Rattle.state.specs.Wide.{is_wide, entryFor, hasEntry}
-use Rattle.validity.specs.Validity.{stateOk}
-use Rattle.refinement.specs.Frames.{seenFrame}
-use Rattle.refinement.specs.Calls.{seenLine}
+use Rattle.state.specs.Wide.{is_wide, entry_for, has_entry}
+use Rattle.validity.specs.Validity.{state_ok}
+use Rattle.refinement.specs.Frames.{seen_frame}
+use Rattle.refinement.specs.Calls.{seen_line}
 use Rattle.refinement.proofs.Going.{ranges-of, shapes-of, entries-of}
 use Rattle.refinement.proofs.SeenFrames.{seen_low}
 use Rattle.refinement.proofs.Valid.{map-low}
 use Rattle.call_write.specs.declared.found.Found.{Found}
-use Rattle.call_write.specs.Found.{FramesFound, EntryFound, FoundAfter, WriteFound, asEntry, foundLine, SeenLow}
+use Rattle.call_write.specs.Found.{FramesFound, EntryFound, FoundAfter, WriteFound, as_entry, found_line, SeenLow}
 
 pub back-row : (r : Found) (row : ℕ) → ◌≡◌ {A = Found} r (record { row = row; seen = 0; held = false; wide = false }) → r.row ≡ row
 back-row r row e = ap (λ (x : Found). x.row) e
 
 -- by whether the line has an entry; e is the one that the code found
 module _ (d : Wide) (p l e x : ℕ) (h : e ≡ entry_of d.keys d.count (key_of p l)) where
-  pub has-entry : e < d.count → (e ≡ cond (hasEntry d p l) (entryFor d p l) x) × (true ≡ hasEntry d p l)
+  pub has-entry : e < d.count → (e ≡ cond (has_entry d p l) (entry_for d p l) x) × (true ≡ has_entry d p l)
   has-entry m = rw (← h, lt-ltb e d.count m) (refl, refl)
 
-  pub has-none : d.count ≤ e → (x ≡ cond (hasEntry d p l) (entryFor d p l) x) × (false ≡ hasEntry d p l)
+  pub has-none : d.count ≤ e → (x ≡ cond (has_entry d p l) (entry_for d p l) x) × (false ≡ has_entry d p l)
   has-none m = rw (← h, le-ltb e d.count m) (refl, refl)
 
 -- past the rows that come first and short data
@@ -43,28 +43,28 @@ module _ (row : ℕ) (none : row ≡ 0) (st : State) (w p l o n : ℕ) (bytes : 
 
 -- the line that was found is the one that the writer sees
 pub found-seen : (st : State) (img : List ℕ) (w p l o n : ℕ) (bytes : List ℕ) (r : Found) → WriteFound st img w p l o n bytes r → r.row ≡ 0
-    → (asEntry r ≡ is_wide st.wide w && hasEntry st.wide p l) × (foundLine img st.sizes r l ≡ seenLine st img w p l)
+    → (as_entry r ≡ is_wide st.wide w && has_entry st.wide p l) × (found_line img st.sizes r l ≡ seen_line st img w p l)
 found-seen st img w p l o n bytes r f z =
     let g = f.1 z in
-    let own : Bool = is_wide st.wide w && hasEntry st.wide p l in
-    let a : asEntry r ≡ own =
-    caseOn (is_wide st.wide w) (λ t. rw (g.1, g.2, t)) (λ t. rw (g.2, t)) in
-    (a, caseOn own (λ t. rw (a, g.0, t)) (λ t. rw (a, g.0, t)))
+    let own : Bool = is_wide st.wide w && has_entry st.wide p l in
+    let a : as_entry r ≡ own =
+    case_on (is_wide st.wide w) (λ t. rw (g.1, g.2, t)) (λ t. rw (g.2, t)) in
+    (a, case_on own (λ t. rw (a, g.0, t)) (λ t. rw (a, g.0, t)))
 
 -- and the entry or the frame is one of the image's
-pub found-low : (st : State) (img : List ℕ) (w p l o n : ℕ) (bytes : List ℕ) (r : Found) → WriteFound st img w p l o n bytes r → r.row ≡ 0 → stateOk st ≡ true → p < st.sizes.pages
+pub found-low : (st : State) (img : List ℕ) (w p l o n : ℕ) (bytes : List ℕ) (r : Found) → WriteFound st img w p l o n bytes r → r.row ≡ 0 → state_ok st ≡ true → p < st.sizes.pages
     → SeenLow st.sizes r
 found-low st img w p l o n bytes r f z ok low =
     let g = f.1 z in
-    let own : Bool = is_wide st.wide w && hasEntry st.wide p l in
-    let a : asEntry r ≡ own = (found-seen st img w p l o n bytes r f z).0 in (
+    let own : Bool = is_wide st.wide w && has_entry st.wide p l in
+    let a : as_entry r ≡ own = (found-seen st img w p l o n bytes r f z).0 in (
       λ t.
           let b : own ≡ true = sym a ∙ t in
-          let e : r.seen ≡ entryFor st.wide p l = rw b at g.0 in
-          let m = ltb-true (entryFor st.wide p l) st.wide.count (and_right (is_wide st.wide w) (hasEntry st.wide p l) b) in
+          let e : r.seen ≡ entry_for st.wide p l = rw b at g.0 in
+          let m = ltb-true (entry_for st.wide p l) st.wide.count (and_right (is_wide st.wide w) (has_entry st.wide p l) b) in
           omega (arith, e, m, (entries-of st ok).few),
       λ t.
           let b : own ≡ false = sym a ∙ t in
-          let e : r.seen ≡ seenFrame st w p l = rw b at g.0 in
+          let e : r.seen ≡ seen_frame st w p l = rw b at g.0 in
           rw e (seen_low st w p l (ranges-of st ok).legal low (shapes-of st ok) (map-low st ok p low)),
     )

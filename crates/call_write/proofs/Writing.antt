@@ -7,25 +7,25 @@ use native.Mathlib.Omega.{arith}
 use borrow.Author.Tests.{not-false}
 use Rattle.bounded.proofs.Tests.{row_keeps}
 use Rattle.layout.specs.declared.Sizes.{Sizes}
-use Rattle.image.specs.Lines.{merged, lineWords}
+use Rattle.image.specs.Lines.{merged, line_words}
 use Rattle.state.specs.State.{State}
 use Rattle.state.specs.declared.Places.{Places}
 use Rattle.state.specs.declared.Pending.{Pending}
 use Rattle.state.specs.declared.Op.{Op}
 use Rattle.state.specs.declared.Op.TheVariants.{Write, Log}
 use Rattle.state.specs.Wide.{is_wide}
-use Rattle.operations.specs.Operations.{isIdle, needs}
-use Rattle.refinement.specs.Stores.{storesMade, stateAfter}
-use Rattle.refinement.specs.Calls.{finishedLine, writeCallRows, writeOp, changesNothing, writeOf}
+use Rattle.operations.specs.Operations.{is_idle, needs}
+use Rattle.refinement.specs.Stores.{stores_made, state_after}
+use Rattle.refinement.specs.Calls.{finished_line, write_call_rows, write_op, changes_nothing, write_of}
 use Rattle.answers.specs.declared.Answer.{Answer}
 use Rattle.answers.specs.declared.Answer.TheVariants.{Taken}
-use Rattle.answers.specs.Answers.{asAnswer}
-use Rattle.asked.proofs.Asked.{pendingFrom}
+use Rattle.answers.specs.Answers.{as_answer}
+use Rattle.asked.proofs.Asked.{pending_from}
 use Rattle.call_write.specs.declared.found.Found.{Found}
-use Rattle.call_write.specs.Found.{WriteFound, foundLine}
-use Rattle.call_write.proofs.Asking.{write-none, write_known, pending-is, op-rows, op_fits, op-busy, op-needs}
+use Rattle.call_write.specs.Found.{WriteFound, found_line}
+use Rattle.call_write.proofs.Asking.{write-none, write_known, pending-is, op-rows, op_does_fit, op-busy, op-needs}
 use Rattle.state_words.specs.Decoded.{places_of}
-use Rattle.state_pending.specs.Put.{withPending as put}
+use Rattle.state_pending.specs.Put.{with_pending as put}
 use Rattle.op_stores.specs.declared.Until.{Until}
 use Rattle.op_stores.specs.Asks.{Asks}
 use Rattle.op_stores.specs.Started.{budget, Started}
@@ -33,26 +33,26 @@ use Rattle.op_stores.proofs.Starting.{started-pending, started-refused, started_
 
 module _ (st : State) (img : List ℕ) (w p l o n : ℕ) (bytes : List ℕ) (found : Found) (f : WriteFound st img w p l o n bytes found) (u : Until) where
   abbrev idle : Bool
-  idle = changesNothing st img w p l o n bytes
+  idle = changes_nothing st img w p l o n bytes
 
   abbrev op : Op
-  op = writeOp st w p l o n
+  op = write_op st w p l o n
 
-  pub write-refused : (found.row ≡ 0 → ⊥) → (a : Answer) → a ≡ asAnswer found.row 0 → Started a st img (writeOf st img w p l o n bytes) img u
-  unfolding writeOf
+  pub write-refused : (found.row ≡ 0 → ⊥) → (a : Answer) → a ≡ as_answer found.row 0 → Started a st img (write_of st img w p l o n bytes) img u
+  unfolding write_of
   write-refused z a h =
-      started-refused st img u (writeCallRows st img w p l o n bytes) found.row f.0 z (rw f.0 (write_known st img w p l o n bytes)) a h _ _
+      started-refused st img u (write_call_rows st img w p l o n bytes) found.row f.0 z (rw f.0 (write_known st img w p l o n bytes)) a h _ _
 
   module _ (z : found.row ≡ 0) where
     -- no byte changes
-    pub write-nothing : idle ≡ true → (a : Answer) → a ≡ Taken 0 → Started a st img (writeOf st img w p l o n bytes) img u
-    unfolding writeOf
-    write-nothing t a h = rw t (started_none st img u (writeCallRows st img w p l o n bytes) found.row f.0 z a st h)
+    pub write-nothing : idle ≡ true → (a : Answer) → a ≡ Taken 0 → Started a st img (write_of st img w p l o n bytes) img u
+    unfolding write_of
+    write-nothing t a h = rw t (started_none st img u (write_call_rows st img w p l o n bytes) found.row f.0 z a st h)
 
     -- x is the operation, q what is then pending, with the words of the finished line
-    module _ (words : List ℕ) (x : Op) (q : Pending) (m : words ≡ lineWords (merged (foundLine img st.sizes found l) o n bytes))
-        (ex : x ≡ cond found.wide (Log p l o n) (Write w p l o n)) (eq : q ≡ pendingFrom x words) where
-      finished : q ≡ pendingFrom op (finishedLine st img w p l o n bytes)
+    module _ (words : List ℕ) (x : Op) (q : Pending) (m : words ≡ line_words (merged (found_line img st.sizes found l) o n bytes))
+        (ex : x ≡ cond found.wide (Log p l o n) (Write w p l o n)) (eq : q ≡ pending_from x words) where
+      finished : q ≡ pending_from op (finished_line st img w p l o n bytes)
       finished = pending-is st img w p l o n bytes found f z words m x q ex eq
 
       pub write-asks : (y : Sizes) (at : Places) → y ≡ st.sizes → at ≡ places_of st → Asks y at st img q
@@ -66,18 +66,18 @@ module _ (st : State) (img : List ℕ) (w p l o n : ℕ) (bytes : List ℕ) (fou
             places = ea;
             ok = t.ok;
             long = rw ey t.long;
-            idle = not-false (isIdle st.pending.op) t.past.1.1.0;
+            idle = not-false (is_idle st.pending.op) t.past.1.1.0;
             busy = op-busy st img w p l o n bytes;
             none_made = refl;
             rows = op-rows st img w p l o n bytes none;
-            fits = op_fits st img w p l o n bytes;
+            fits = op_does_fit st img w p l o n bytes;
             some = rw (op-needs st img w p l o n bytes) some;
           })
 
       pub write-started : idle ≡ false → (y : Sizes) (at : Places) → y ≡ st.sizes → at ≡ places_of st → (a : Answer) (bs : List ℕ) (after : State) → a ≡ Taken (needs st q.op)
-          → bs ≡ storesMade (put st q) (budget u (put st q)) img → after ≡ stateAfter (put st q) (budget u (put st q)) → Started a after bs (writeOf st img w p l o n bytes) img u
-      unfolding writeOf
+          → bs ≡ stores_made (put st q) (budget u (put st q)) img → after ≡ state_after (put st q) (budget u (put st q)) → Started a after bs (write_of st img w p l o n bytes) img u
+      unfolding write_of
       write-started t y at ey ea a bs after ha hb hs =
           rw t
-          (started-pending y at st img q (write-asks y at ey ea) u a bs after ha hb hs (writeCallRows st img w p l o n bytes) found.row f.0 z _ _
+          (started-pending y at st img q (write-asks y at ey ea) u a bs after ha hb hs (write_call_rows st img w p l o n bytes) found.row f.0 z _ _
           (sym (op-needs st img w p l o n bytes) ∙ ap (λ (k : Pending). needs st k.op) (sym finished)) (ap (put st) (sym finished)))

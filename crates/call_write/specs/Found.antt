@@ -4,55 +4,55 @@ use Rattle.std.specs.Prelude.{ℕ, ◌<◌, Bool, true, false, ◌&&◌, cond, L
 use Rattle.bounded.specs.Rows.{refusal}
 use Rattle.layout.specs.declared.Sizes.{Sizes}
 use Rattle.layout.specs.Layout.{frames}
-use Rattle.image.specs.Lines.{lineBytes}
+use Rattle.image.specs.Lines.{line_bytes}
 use Rattle.state.specs.State.{State}
-use Rattle.state.specs.Wide.{is_wide, entryFor, hasEntry}
-use Rattle.operations.specs.Operations.{writeRows, logRows}
-use Rattle.refinement.specs.Frames.{seenFrame, holds}
-use Rattle.refinement.specs.Wide.{entryBytes}
-use Rattle.refinement.specs.Calls.{writeCallRows}
+use Rattle.state.specs.Wide.{is_wide, entry_for, has_entry}
+use Rattle.operations.specs.Operations.{write_rows, log_rows}
+use Rattle.refinement.specs.Frames.{seen_frame, holds}
+use Rattle.refinement.specs.Wide.{entry_bytes}
+use Rattle.refinement.specs.Calls.{write_call_rows}
 use Rattle.call_write.specs.declared.found.Found.{Found}
 
 -- all rows of a write; a wide writer holds a line as an entry, and sees that
 abbrev pub WriteFound : State → List ℕ → ℕ → ℕ → ℕ → ℕ → ℕ → List ℕ → Found → Type 0
 WriteFound st img w p l o n bytes r =
-    (r.row ≡ refusal (writeCallRows st img w p l o n bytes))
+    (r.row ≡ refusal (write_call_rows st img w p l o n bytes))
     × (r.row ≡ 0
-    → (r.seen ≡ cond (is_wide st.wide w && hasEntry st.wide p l) (entryFor st.wide p l) (seenFrame st w p l))
-    × (r.held ≡ cond (is_wide st.wide w) (hasEntry st.wide p l) (holds st w p l))
+    → (r.seen ≡ cond (is_wide st.wide w && has_entry st.wide p l) (entry_for st.wide p l) (seen_frame st w p l))
+    × (r.held ≡ cond (is_wide st.wide w) (has_entry st.wide p l) (holds st w p l))
     × (r.wide ≡ is_wide st.wide w))
 
 -- the rows from 11 on: a narrow writer's, and the wide one's
 abbrev pub FramesFound : State → ℕ → ℕ → ℕ → ℕ → ℕ → Found → Type 0
 FramesFound st w p l o n r =
-    (r.row ≡ refusal (writeRows st w p l o n)) × (r.row ≡ 0 → (r.seen ≡ seenFrame st w p l) × (r.held ≡ holds st w p l) × (r.wide ≡ false))
+    (r.row ≡ refusal (write_rows st w p l o n)) × (r.row ≡ 0 → (r.seen ≡ seen_frame st w p l) × (r.held ≡ holds st w p l) × (r.wide ≡ false))
 
 abbrev pub EntryFound : State → ℕ → ℕ → ℕ → ℕ → Found → Type 0
 EntryFound st p l o n r =
-    (r.row ≡ refusal (logRows st p l o n))
+    (r.row ≡ refusal (log_rows st p l o n))
     × (r.row ≡ 0
-    → (r.seen ≡ cond (hasEntry st.wide p l) (entryFor st.wide p l) (seenFrame st st.wide.writer p l))
-    × (r.held ≡ hasEntry st.wide p l)
+    → (r.seen ≡ cond (has_entry st.wide p l) (entry_for st.wide p l) (seen_frame st st.wide.writer p l))
+    × (r.held ≡ has_entry st.wide p l)
     × (r.wide ≡ true))
 
 -- all but the rows that come first, row being what they gave
 abbrev pub FoundAfter : ℕ → State → ℕ → ℕ → ℕ → ℕ → ℕ → List ℕ → Found → Type 0
 FoundAfter row st w p l o n bytes r =
-    let own = is_wide st.wide w && hasEntry st.wide p l in
-    let rest = cond (is_wide st.wide w) (logRows st p l o n) (writeRows st w p l o n) in
+    let own = is_wide st.wide w && has_entry st.wide p l in
+    let rest = cond (is_wide st.wide w) (log_rows st p l o n) (write_rows st w p l o n) in
     (r.row ≡ cond (eqb row 0) (refusal ((ltb (length bytes) n, 11) ∷ rest)) row)
     × (r.row ≡ 0
-    → (r.seen ≡ cond own (entryFor st.wide p l) (seenFrame st w p l))
-    × (r.held ≡ cond (is_wide st.wide w) (hasEntry st.wide p l) (holds st w p l))
+    → (r.seen ≡ cond own (entry_for st.wide p l) (seen_frame st w p l))
+    × (r.held ≡ cond (is_wide st.wide w) (has_entry st.wide p l) (holds st w p l))
     × (r.wide ≡ is_wide st.wide w))
 
 -- ---- the line that was found: an entry's, or a frame's
 
-abbrev pub asEntry : Found → Bool
-asEntry r = r.wide && r.held
+abbrev pub as_entry : Found → Bool
+as_entry r = r.wide && r.held
 
-abbrev pub foundLine : List ℕ → Sizes → Found → ℕ → List ℕ
-foundLine img z r l = cond (asEntry r) (entryBytes img z r.seen) (lineBytes img z r.seen l)
+abbrev pub found_line : List ℕ → Sizes → Found → ℕ → List ℕ
+found_line img z r l = cond (as_entry r) (entry_bytes img z r.seen) (line_bytes img z r.seen l)
 
 abbrev pub SeenLow : Sizes → Found → Type 0
-SeenLow z r = (asEntry r ≡ true → r.seen < z.entries) × (asEntry r ≡ false → r.seen < frames z)
+SeenLow z r = (as_entry r ≡ true → r.seen < z.entries) × (as_entry r ≡ false → r.seen < frames z)

@@ -1,11 +1,11 @@
 // What a write finds before it is taken: the row that turns it back, or the frame of its line and whether the writer holds the line.
 ghost use Rattle.std.specs.Prelude.{◌≡◌, true, false, ◌&&◌, ◌+◌, ◌<◌, ◌≤◌, ltb, length};
-ghost use Rattle.layout.specs.Layout.{Legal, imageLength};
-ghost use Rattle.masks.specs.Lines.{inMask};
-ghost use Rattle.image.specs.Lines.{merged, mergeChanges, lineWords};
-ghost use Rattle.state.specs.Held.{heldAt};
-ghost use Rattle.validity.specs.Validity.{stateOk};
-ghost use Rattle.call_write.specs.Found.{WriteFound, SeenLow, foundLine};
+ghost use Rattle.layout.specs.Layout.{Legal, image_length};
+ghost use Rattle.masks.specs.Lines.{in_mask};
+ghost use Rattle.image.specs.Lines.{merged, merge_changes, line_words};
+ghost use Rattle.state.specs.Held.{held_at};
+ghost use Rattle.validity.specs.Validity.{state_ok};
+ghost use Rattle.call_write.specs.Found.{WriteFound, SeenLow, found_line};
 ghost use Rattle.state_words.specs.Decoded.{decoded, places_of};
 ghost use Rattle.call_write.specs.Finding.{FramesIn, EntryIn};
 
@@ -41,7 +41,7 @@ fn turned_back(row: usize) -> Found
 // Whether the writer holds line l, s being its page's slot, S where it has none.
 fn holds_line(z: Sizes, words: &Words, writer: usize, s: usize, l: usize) -> bool
     requires { Legal z × (writer < 4) × (l < 64) }
-    ensures { result ≡ ltb s z.slots && inMask (heldAt (decoded words.now).writers.held writer s) l }
+    ensures { result ≡ ltb s z.slots && in_mask (held_at (decoded words.now).writers.held writer s) l }
 {
     if z.slots <= s {
         return false;
@@ -107,7 +107,7 @@ pub fn write_found(
     a: Span,
     data: &[u8],
 ) -> Found
-    requires { (z ≡ (decoded words.now).sizes) × (at ≡ places_of (decoded words.now)) × (stateOk (decoded words.now) ≡ true) }
+    requires { (z ≡ (decoded words.now).sizes) × (at ≡ places_of (decoded words.now)) × (state_ok (decoded words.now) ≡ true) }
     ensures { WriteFound (decoded words.now) image.now writer a.page a.line a.offset
         a.length «data».now result }
 {
@@ -134,9 +134,9 @@ pub fn merged(
     data: &[u8],
     n: usize,
 ) -> Merged
-    requires { Legal z × SeenLow z found × (line < 64) × (imageLength z ≤ length image.now) × (offset + n ≤ 64) × (n ≤ length «data».now) }
-    ensures words { result.words ≡ lineWords (merged (foundLine image.now z found line) offset n «data».now) }
-    ensures changed { result.changed ≡ mergeChanges (foundLine image.now z found line) offset n «data».now }
+    requires { Legal z × SeenLow z found × (line < 64) × (image_length z ≤ length image.now) × (offset + n ≤ 64) × (n ≤ length «data».now) }
+    ensures words { result.words ≡ line_words (merged (found_line image.now z found line) offset n «data».now) }
+    ensures changed { result.changed ≡ merge_changes (found_line image.now z found line) offset n «data».now }
 {
     if found.wide & found.held {
         return entry_lines::merged_entry(image, z, found.seen, offset, data, n);

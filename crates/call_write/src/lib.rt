@@ -4,13 +4,13 @@ pub mod found;
 ghost use Rattle.std.specs.Prelude.{true, ◌≡◌, replicate};
 ghost use Rattle.state.specs.declared.Op.TheVariants.{Write, Log};
 ghost use Rattle.operations.specs.Operations.{needs};
-ghost use Rattle.validity.specs.Validity.{stateOk};
-ghost use Rattle.refinement.specs.Stores.{storesMade, stateAfter};
-ghost use Rattle.refinement.specs.Calls.{writeOf};
+ghost use Rattle.validity.specs.Validity.{state_ok};
+ghost use Rattle.refinement.specs.Stores.{stores_made, state_after};
+ghost use Rattle.refinement.specs.Calls.{write_of};
 ghost use Rattle.answers.specs.declared.Answer.TheVariants.{Taken};
 ghost use Rattle.answers.specs.Answers.{number_of};
 ghost use Rattle.state_words.specs.Decoded.{decoded, places_of};
-ghost use Rattle.state_pending.specs.Put.{withPending};
+ghost use Rattle.state_pending.specs.Put.{with_pending};
 ghost use Rattle.op_stores.specs.Asks.{Asks};
 ghost use Rattle.op_stores.specs.Started.{budget, Started};
 
@@ -70,10 +70,10 @@ fn put_line(
 ) -> Answer
     requires { Asks z at (decoded words.old) image.old p × (p.op ≡ Write writer a.page a.line a.offset a.length) }
     ensures answer { result ≡ Taken (needs (decoded words.old) p.op) }
-    ensures image { image.new ≡ storesMade (withPending (decoded words.old) p)
-        (budget until (withPending (decoded words.old) p)) image.old }
-    ensures words { decoded words.new ≡ stateAfter (withPending (decoded words.old) p)
-        (budget until (withPending (decoded words.old) p)) }
+    ensures image { image.new ≡ stores_made (with_pending (decoded words.old) p)
+        (budget until (with_pending (decoded words.old) p)) image.old }
+    ensures words { decoded words.new ≡ state_after (with_pending (decoded words.old) p)
+        (budget until (with_pending (decoded words.old) p)) }
 {
     let op = p.op;
     let line = p.line;
@@ -98,9 +98,9 @@ pub fn write_valid(
     data: &[u8],
     until: Until,
 ) -> Answer
-    requires { (z ≡ (decoded words.old).sizes) × (at ≡ places_of (decoded words.old)) × (stateOk (decoded words.old) ≡ true) }
+    requires { (z ≡ (decoded words.old).sizes) × (at ≡ places_of (decoded words.old)) × (state_ok (decoded words.old) ≡ true) }
     ensures started { Started result (decoded words.new) image.new
-        (writeOf (decoded words.old) image.old writer span.page span.line span.offset
+        (write_of (decoded words.old) image.old writer span.page span.line span.offset
         span.length «data».now) image.old until }
     ensures words { (number_of result ≡ 0 → ⊥) → words.new ≡ words.old }
 {
@@ -132,7 +132,7 @@ pub fn write(
     until: Until,
 ) -> Answer
     ensures started { Started result (decoded words.new) image.new
-        (writeOf (decoded words.old) image.old writer span.page span.line span.offset
+        (write_of (decoded words.old) image.old writer span.page span.line span.offset
         span.length «data».now) image.old until }
     ensures words { (number_of result ≡ 0 → ⊥) → words.new ≡ words.old }
 {

@@ -9,16 +9,16 @@ use lib.Seq.{ext_get_or, get_or-take, length-take-le}
 use native.Mathlib.Omega.{arith}
 use borrow.Author.Tests.{leb-true}
 use Rattle.bounded.specs.Tab.{tab, filled}
-use Rattle.bounded.proofs.Tab.{length-tab, getD-tab, length-filled, getD-filled}
+use Rattle.bounded.proofs.Tab.{length-tab, get_or-tab, length-filled, get_or-filled}
 use Rattle.bounded.proofs.Tests.{every_held}
-use Rattle.calling.specs.WriteLine.{datum, are_bytes, hasData, data_of}
+use Rattle.calling.specs.WriteLine.{datum, are_bytes, has_data, data_of}
 
 pub record Data (count : ℕ) (numbers : List ℕ) : Type 0 where
   pub five : 5 ≤ count
   pub most : count ≤ 69
   pub bytes : are_bytes (count - 5) numbers ≡ true
 
-pub data-told : (count : ℕ) (numbers : List ℕ) → hasData count numbers ≡ true → Data count numbers
+pub data-told : (count : ℕ) (numbers : List ℕ) → has_data count numbers ≡ true → Data count numbers
 data-told count numbers e =
     let h = every_held (leb 5 count ∷ leb count 69 ∷ are_bytes (count - 5) numbers ∷ []) e in
     record { five = leb-true 5 count h.0; most = leb-true count 69 h.1.0; bytes = h.1.1.0 }
@@ -31,7 +31,7 @@ take-filled n f l h =
     ext_get_or 0 (take n (filled n f l)) (tab n f) (e ∙ sym (length-tab n f))
     (λ i p.
     let q : i < n = subst (λ (k : ℕ). i < k) e p in
-    get_or-take n (filled n f l) i 0 q ∙ getD-filled n f l i 0 q h ∙ sym (getD-tab n f i 0 q))
+    get_or-take n (filled n f l) i 0 q ∙ get_or-filled n f l i 0 q h ∙ sym (get_or-tab n f i 0 q))
 
 module _ (count : ℕ) (numbers bytes : List ℕ) (e : bytes ≡ filled (count - 5) (datum numbers) (replicate 64 0)) where
   pub length-bytes : length bytes ≡ 64

@@ -4,7 +4,7 @@ use Rattle.bounded.specs.Below.{all_below}
 use Rattle.bounded.specs.Tab.{tab}
 use Rattle.state.specs.State.{State}
 use Rattle.refinement.specs.Outcome.{Outcome}
-use Rattle.refinement.specs.Calls.{writeOf}
+use Rattle.refinement.specs.Calls.{write_of}
 
 -- number i of a line's numbers
 abbrev pub num : List ℕ → ℕ → ℕ
@@ -18,12 +18,12 @@ abbrev pub are_bytes : ℕ → List ℕ → Bool
 are_bytes n numbers = all_below n (λ i. leb (datum numbers i) 255)
 
 -- whether a line of `count` numbers has a write's five and its data
-abbrev pub hasData : ℕ → List ℕ → Bool
-hasData count numbers = leb 5 count && leb count 69 && are_bytes (count - 5) numbers
+abbrev pub has_data : ℕ → List ℕ → Bool
+has_data count numbers = leb 5 count && leb count 69 && are_bytes (count - 5) numbers
 
 abbrev pub data_of : ℕ → List ℕ → List ℕ
 data_of count numbers = tab (count - 5) (datum numbers)
 
 -- the write that they ask for
-abbrev pub writeBy : State → List ℕ → ℕ → List ℕ → Outcome
-writeBy st img count numbers = let n = num numbers in writeOf st img (n 0) (n 1) (n 2) (n 3) (n 4) (data_of count numbers)
+abbrev pub write_by : State → List ℕ → ℕ → List ℕ → Outcome
+write_by st img count numbers = let n = num numbers in write_of st img (n 0) (n 1) (n 2) (n 3) (n 4) (data_of count numbers)

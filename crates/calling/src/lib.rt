@@ -1,10 +1,10 @@
 // What powerhit's and probe's lines share in making a call: a write by a line's numbers, and the stores that an answer tells.
 ghost use Rattle.std.specs.Prelude.{◌≡◌, true, ◌≤◌, replicate};
 ghost use Rattle.bounded.specs.Tab.{filled};
-ghost use Rattle.answers.specs.Answers.{number_of, stores_of, answeredAt};
+ghost use Rattle.answers.specs.Answers.{number_of, stores_of, answered_at};
 ghost use Rattle.op_stores.specs.Started.{Started};
 ghost use Rattle.state_words.specs.Decoded.{decoded};
-ghost use Rattle.calling.specs.WriteLine.{datum, are_bytes, hasData, writeBy};
+ghost use Rattle.calling.specs.WriteLine.{datum, are_bytes, has_data, write_by};
 
 use answers::Answer;
 use call_write::Span;
@@ -28,7 +28,7 @@ fn all_bytes(numbers: &[u64; 69], n: usize) -> bool
 
 // Whether the numbers are a write's: five, then at most 64 bytes.
 pub fn has_data(count: usize, numbers: &[u64; 69]) -> bool
-    ensures { result ≡ hasData count numbers.now }
+    ensures { result ≡ has_data count numbers.now }
 {
     if count < 5 {
         return false;
@@ -61,9 +61,9 @@ pub fn write_until(
     numbers: &[u64; 69],
     until: Until,
 ) -> Answer
-    requires { hasData count numbers.now ≡ true }
+    requires { has_data count numbers.now ≡ true }
     ensures started { Started result (decoded words.new) image.new
-        (writeBy (decoded words.old) image.old count numbers.now) image.old until }
+        (write_by (decoded words.old) image.old count numbers.now) image.old until }
     ensures words { (number_of result ≡ 0 → ⊥) → words.new ≡ words.old }
 {
     let n = count - 5;
@@ -80,9 +80,9 @@ pub fn write_until(
 
 // The same asked for: its stores are pending, and none is made.
 pub fn write(image: &mut [u8], words: &mut Words, count: usize, numbers: &[u64; 69]) -> Answer
-    requires { hasData count numbers.now ≡ true }
-    ensures state { answeredAt result (decoded words.new)
-        ≡ writeBy (decoded words.old) image.old count numbers.now }
+    requires { has_data count numbers.now ≡ true }
+    ensures state { answered_at result (decoded words.new)
+        ≡ write_by (decoded words.old) image.old count numbers.now }
     ensures bytes { image.new ≡ image.old }
     ensures words { (number_of result ≡ 0 → ⊥) → words.new ≡ words.old }
 {

@@ -7,7 +7,7 @@ use lib.Dec.{ltb}
 use lib.ListN.{length, take, drop, length-append, length-take, length-drop}
 use lib.Seq.{take-nil, take_all, take-add, take-append-le, take-append-add, drop-append-le, drop-length, length-take-le}
 use borrow.Author.Tests.{ltb-true, ltb-false}
-use Rattle.bounded.proofs.Tests.{caseOn}
+use Rattle.bounded.proofs.Tests.{case_on}
 use Rattle.words.specs.Words.{part, over}
 use Rattle.words.proofs.Parts.{part-over, take-over, length_over}
 use Rattle.cutting.specs.Pieces.{fitting}
@@ -32,7 +32,7 @@ holds-length {line} {kept} {begun} h = sym (length-take-le kept line h.within) �
 -- a line and more of it, in a buffer of n bytes
 held : (n : ℕ) (begun more : List ℕ) → take n begun ++ take (n - min n (length begun)) more ≡ take n (begun ++ more)
 held n begun more =
-    caseOn (ltb (length begun) n)
+    case_on (ltb (length begun) n)
     (λ t.
     let h : length begun < n = ltb-true (length begun) n t in
     let e : n - min n (length begun) ≡ n - length begun = omega arith in

@@ -6,20 +6,20 @@ use native.Mathlib.Omega.{arith}
 use lib.Dec.{eqb}
 use lib.ListN.{length, take, drop, length-take, length-drop, drop_of_length-le}
 use lib.Seq.{take-length, drop-drop}
-use Rattle.bounded.proofs.Tests.{caseOn}
+use Rattle.bounded.proofs.Tests.{case_on}
 use Rattle.bytes.specs.Bytes.{index_of, index_after, slice}
 use Rattle.words.specs.Words.{part, over}
 use Rattle.words.proofs.Parts.{over-nil, over-back, copied}
-use Rattle.cutting.specs.Pieces.{lineEnd, fitting}
+use Rattle.cutting.specs.Pieces.{line_end, fitting}
 
 -- ---- line ends
 
-pub end-past : (l : List ℕ) (from : ℕ) → length l < from → length l ≡ lineEnd l from
-unfolding lineEnd index_of
+pub end-past : (l : List ℕ) (from : ℕ) → length l < from → length l ≡ line_end l from
+unfolding line_end index_of
 end-past l from h = rw (drop_of_length-le l {i = from} (omega arith)) (omega arith)
 
-pub end-found : (l : List ℕ) (from r : ℕ) → from ≤ length l → r ≡ from + index_of 10 (slice from (length l) l) → r ≡ lineEnd l from
-unfolding lineEnd slice
+pub end-found : (l : List ℕ) (from r : ℕ) → from ≤ length l → r ≡ from + index_of 10 (slice from (length l) l) → r ≡ line_end l from
+unfolding line_end slice
 end-found l from r h e =
     let m : min from (length l) ≡ from = omega arith in
     rw m (e ∙ ap (λ (t : List ℕ). from + index_of 10 (drop from t)) (take-length l))
@@ -27,38 +27,38 @@ end-found l from r h e =
 index-le : (b : ℕ) (l : List ℕ) → index_of b l ≤ length l
 unfolding index_of index_after
 index-le b [] = omega arith
-index-le b (x ∷ l) = caseOn (eqb x b) (λ t. rw t (omega arith)) (λ t. rw t (omega (arith, index-le b l)))
+index-le b (x ∷ l) = case_on (eqb x b) (λ t. rw t (omega arith)) (λ t. rw t (omega (arith, index-le b l)))
 
-pub end-index : (l : List ℕ) (from : ℕ) → from ≤ length l → lineEnd l from ≡ from + index_of 10 (drop from l)
-unfolding lineEnd
+pub end-index : (l : List ℕ) (from : ℕ) → from ≤ length l → line_end l from ≡ from + index_of 10 (drop from l)
+unfolding line_end
 end-index l from h = omega arith
 
-pub end-le : (l : List ℕ) (from : ℕ) → lineEnd l from ≤ length l
-unfolding lineEnd
+pub end-le : (l : List ℕ) (from : ℕ) → line_end l from ≤ length l
+unfolding line_end
 end-le l from = omega (arith, index-le 10 (drop from l), length-drop from l)
 
-pub end_ge : (l : List ℕ) (from : ℕ) → from ≤ length l → from ≤ lineEnd l from
-unfolding lineEnd
+pub end_ge : (l : List ℕ) (from : ℕ) → from ≤ length l → from ≤ line_end l from
+unfolding line_end
 end_ge l from h = omega arith
 
 index-again : (b : ℕ) (l : List ℕ) → index_of b (drop (index_of b l) l) ≡ 0
 unfolding index_of index_after
 index-again b [] = refl
-index-again b (x ∷ l) = caseOn (eqb x b) (λ t. rw (t, t)) (λ t. rw t (index-again b l))
+index-again b (x ∷ l) = case_on (eqb x b) (λ t. rw (t, t)) (λ t. rw t (index-again b l))
 
 -- a line's end is the end from itself on
-pub end-again : (l : List ℕ) (from : ℕ) → from ≤ length l → lineEnd l from ≡ lineEnd l (lineEnd l from)
+pub end-again : (l : List ℕ) (from : ℕ) → from ≤ length l → line_end l from ≡ line_end l (line_end l from)
 end-again l from h =
-    let e : lineEnd l from ≡ from + index_of 10 (drop from l) = end-index l from h in
-    let k : lineEnd l (lineEnd l from) ≡ lineEnd l from + index_of 10 (drop (lineEnd l from) l) = end-index l (lineEnd l from) (end-le l from) in
-    let z : index_of 10 (drop (lineEnd l from) l) ≡ 0 = rw (e, ← drop-drop) (index-again 10 (drop from l)) in
+    let e : line_end l from ≡ from + index_of 10 (drop from l) = end-index l from h in
+    let k : line_end l (line_end l from) ≡ line_end l from + index_of 10 (drop (line_end l from) l) = end-index l (line_end l from) (end-le l from) in
+    let z : index_of 10 (drop (line_end l from) l) ≡ 0 = rw (e, ← drop-drop) (index-again 10 (drop from l)) in
     omega arith
 
 -- and a newline is a line's end
-pub end-here : (l : List ℕ) (at : ℕ) (rest : List ℕ) → at ≤ length l → drop at l ≡ 10 ∷ rest → at ≡ lineEnd l at
+pub end-here : (l : List ℕ) (at : ℕ) (rest : List ℕ) → at ≤ length l → drop at l ≡ 10 ∷ rest → at ≡ line_end l at
 unfolding index_of index_after
 end-here l at rest h e =
-    let k : lineEnd l at ≡ at + 0 = end-index l at h ∙ rw e in
+    let k : line_end l at ≡ at + 0 = end-index l at h ∙ rw e in
     omega arith
 
 -- ---- what fits

@@ -4,8 +4,8 @@ use Rattle.bytes.specs.Bytes.{index_of}
 use Rattle.words.specs.Words.{part}
 
 -- the place of the first newline from `from` on, or the input's length where there is none
-unfoldable pub lineEnd : List ℕ → ℕ → ℕ
-lineEnd input from = min from (length input) + index_of 10 (drop from input)
+unfoldable pub line_end : List ℕ → ℕ → ℕ
+line_end input from = min from (length input) + index_of 10 (drop from input)
 
 -- the input's bytes from `from` up to `to`, as many as a line has room for after its first `have` bytes
 unfoldable pub fitting : List ℕ → ℕ → List ℕ → ℕ → ℕ → List ℕ

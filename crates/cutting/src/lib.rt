@@ -1,11 +1,11 @@
 // Lines cut out of input that comes in pieces.
 ghost use Rattle.std.specs.Prelude.{◌≡◌, ◌+◌, ◌-◌, length};
 ghost use Rattle.words.specs.Words.{over};
-ghost use Rattle.cutting.specs.Pieces.{lineEnd, fitting};
+ghost use Rattle.cutting.specs.Pieces.{line_end, fitting};
 
 // Where the line that goes on at byte `from` ends: the next newline, or the input's end.
 pub fn line_end(input: &[u8], from: usize) -> usize
-    ensures { result ≡ lineEnd input.now from }
+    ensures { result ≡ line_end input.now from }
 {
     if from > input.len() {
         return input.len();

@@ -9,27 +9,27 @@ use native.Mathlib.Omega.{arith}
 use lib.Dec.{eqb}
 use lib.ListN.{length, set, length-append}
 use borrow.Author.Tests.{ne_eqb}
-use Rattle.bounded.proofs.Tests.{caseOn}
+use Rattle.bounded.proofs.Tests.{case_on}
 use Rattle.words.specs.Words.{over}
 use Rattle.words.proofs.Parts.{over-over, over-comm, over-nil}
-use Rattle.decimals.specs.Decimal.{digitsOf, decimalOf}
+use Rattle.decimals.specs.Decimal.{digits_of, decimal_of}
 use Rattle.words.proofs.Over.{set-over}
 
 -- ---- how many digits
 
 -- how many of the n digits of v there are where 0 has none
 unfoldable pub wide : ℕ → ℕ → ℕ
-wide n v = cond (eqb v 0) 0 (length (digitsOf n v))
+wide n v = cond (eqb v 0) 0 (length (digits_of n v))
 
 pub wide-zero : (n : ℕ) → wide n 0 ≡ 0
 unfolding wide
 wide-zero n = refl
 
-pub length_digits : (n v : ℕ) → length (digitsOf (suc n) v) ≡ 1 + wide n (v / 10)
-unfolding digitsOf wide
+pub length_digits : (n v : ℕ) → length (digits_of (suc n) v) ≡ 1 + wide n (v / 10)
+unfolding digits_of wide
 length_digits n v =
-    length-append (cond (eqb (v / 10) 0) [] (digitsOf n (v / 10))) ((48 + v % 10) ∷ [])
-    ∙ caseOn (eqb (v / 10) 0) (λ t. rw t) (λ t. rw t (omega arith))
+    length-append (cond (eqb (v / 10) 0) [] (digits_of n (v / 10))) ((48 + v % 10) ∷ [])
+    ∙ case_on (eqb (v / 10) 0) (λ t. rw t) (λ t. rw t (omega arith))
 
 -- a turn of the count
 pub record Fewer (n v : ℕ) : Type 0 where
@@ -49,18 +49,18 @@ fewer (suc n) v h k =
       count = rw (e, z) (length_digits n v);
     }
 
-pub digits_le : (n v : ℕ) → length (digitsOf n v) ≤ n
-unfolding digitsOf wide
+pub digits_le : (n v : ℕ) → length (digits_of n v) ≤ n
+unfolding digits_of wide
 digits_le zero v = omega arith
 digits_le (suc n) v =
-    caseOn (eqb (v / 10) 0)
+    case_on (eqb (v / 10) 0)
     (λ t. rw t (omega arith))
-    (λ t. rw t (omega (arith, length-append (digitsOf n (v / 10)) ((48 + v % 10) ∷ []), digits_le n (v / 10))))
+    (λ t. rw t (omega (arith, length-append (digits_of n (v / 10)) ((48 + v % 10) ∷ []), digits_le n (v / 10))))
 
-pub decimal-le : (v : ℕ) → length (decimalOf v) ≤ 20
+pub decimal-le : (v : ℕ) → length (decimal_of v) ≤ 20
 decimal-le v = digits_le 20 v
 
-pub decimal-some : (v : ℕ) → 1 ≤ length (decimalOf v)
+pub decimal-some : (v : ℕ) → 1 ≤ length (decimal_of v)
 decimal-some v = omega (arith, length_digits 19 v)
 
 -- ---- the digits, as many as are asked for
@@ -74,14 +74,14 @@ unfolding lowest
 length-lowest zero v = refl
 length-lowest (suc k) v = omega (arith, length-append (lowest k (v / 10)) ((48 + v % 10) ∷ []), length-lowest k (v / 10))
 
-pub digits-lowest : (n v : ℕ) → digitsOf n v ≡ lowest (length (digitsOf n v)) v
-unfolding digitsOf lowest
+pub digits-lowest : (n v : ℕ) → digits_of n v ≡ lowest (length (digits_of n v)) v
+unfolding digits_of lowest
 digits-lowest zero v = refl
 digits-lowest (suc n) v =
-    caseOn (eqb (v / 10) 0)
+    case_on (eqb (v / 10) 0)
     (λ t. rw t)
     (λ t.
-    let xs = digitsOf n (v / 10) in
+    let xs = digits_of n (v / 10) in
     let e : length (xs ++ (48 + v % 10) ∷ []) ≡ suc (length xs) = omega (arith, length-append xs ((48 + v % 10) ∷ [])) in
     rw (t, e) (ap (λ (l : List ℕ). l ++ (48 + v % 10) ∷ []) (digits-lowest n (v / 10))))
 

@@ -1,11 +1,11 @@
 // Numbers and single bytes, printed into a buffer; each call gives where the next goes.
 ghost use Rattle.std.specs.Prelude.{◌≡◌, [], ◌∷◌, ◌+◌, ◌<◌, ◌≤◌, length};
 ghost use Rattle.words.specs.Words.{over};
-ghost use Rattle.decimals.specs.Decimal.{decimalOf};
+ghost use Rattle.decimals.specs.Decimal.{decimal_of};
 
 // How many digits v has.
 fn width(v: u64) -> usize
-    ensures { result ≡ length (decimalOf v) }
+    ensures { result ≡ length (decimal_of v) }
 {
     let mut n = 1;
     let mut rest = v / 10;
@@ -19,8 +19,8 @@ fn width(v: u64) -> usize
 // Puts v in decimals at byte at, from the last digit to the first.
 pub fn put_decimal(target: &mut [u8], at: usize, v: u64) -> usize
     requires { at + 20 ≤ length target.old }
-    ensures target_after { target.new ≡ over target.old at (decimalOf v) }
-    ensures value { result ≡ at + length (decimalOf v) }
+    ensures target_after { target.new ≡ over target.old at (decimal_of v) }
+    ensures value { result ≡ at + length (decimal_of v) }
 {
     let n = width(v);
     let mut k = n;

@@ -1,8 +1,8 @@
 // The entries of a wide transaction: their keys, and whether they are right.
 ghost use Rattle.std.specs.Prelude.{◌≡◌, ◌<◌, ◌≤◌, length};
-ghost use Rattle.layout.specs.Layout.{Legal, imageLength};
+ghost use Rattle.layout.specs.Layout.{Legal, image_length};
 ghost use Rattle.words.specs.Words.{word};
-ghost use Rattle.entries.specs.Entries.{keysFrom, entry_of, keyRight, entriesOk};
+ghost use Rattle.entries.specs.Entries.{keys_from, entry_of, key_right, entries_ok};
 
 use layout::Sizes;
 
@@ -24,7 +24,7 @@ pub fn find_entry(keys: &[u64; 64], n: usize, key: u64) -> usize
 // Whether entry e is one of a page, and of a line that no entry before it has.
 fn key_right(z: Sizes, keys: &[u64; 64], e: usize) -> bool
     requires { e < 64 }
-    ensures { result ≡ keyRight z keys.now e }
+    ensures { result ≡ key_right z keys.now e }
 {
     let key = keys[e];
     let first = find_entry(keys, e, key);
@@ -35,7 +35,7 @@ fn key_right(z: Sizes, keys: &[u64; 64], e: usize) -> bool
 // Whether n entries with these keys are at most L, and each is right.
 pub fn entries_ok(z: Sizes, keys: &[u64; 64], n: usize) -> bool
     requires { Legal z }
-    ensures { result ≡ entriesOk z keys.now n }
+    ensures { result ≡ entries_ok z keys.now n }
 {
     if z.entries < n {
         return false;
@@ -52,8 +52,8 @@ pub fn entries_ok(z: Sizes, keys: &[u64; 64], n: usize) -> bool
 
 // The keys of the first n entries of an image, as far as there are so many.
 pub fn read_keys(image: &[u8], z: Sizes, n: usize) -> [u64; 64]
-    requires { Legal z × (imageLength z ≤ length image.now) }
-    ensures { result ≡ keysFrom (word image.now) z n }
+    requires { Legal z × (image_length z ≤ length image.now) }
+    ensures { result ≡ keys_from (word image.now) z n }
 {
     let end = bounded::smaller(n, z.entries);
     let mut keys = [0u64; 64];

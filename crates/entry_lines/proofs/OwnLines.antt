@@ -5,19 +5,19 @@ use mathlib.Core.List.{List}
 use mathlib.Core.Path.{◌≡◌, refl}
 use native.Mathlib.Omega.{arith}
 use borrow.Author.Tests.{lt-ltb}
-use Rattle.bounded.proofs.Tests.{caseOn}
+use Rattle.bounded.proofs.Tests.{case_on}
 use Rattle.state.specs.State.{State}
-use Rattle.state.specs.Wide.{is_wide, entryFor, hasEntry}
-use Rattle.refinement.specs.Wide.{entryBytes}
-use Rattle.refinement.specs.Calls.{seenLine}
-use Rattle.entry_lines.specs.Own.{ownEntry}
+use Rattle.state.specs.Wide.{is_wide, entry_for, has_entry}
+use Rattle.refinement.specs.Wide.{entry_bytes}
+use Rattle.refinement.specs.Calls.{seen_line}
+use Rattle.entry_lines.specs.Own.{own_entry}
 
-module _ (st : State) (img : List ℕ) (w p l e : ℕ) (h : e ≡ ownEntry st.wide w p l) where
-  pub own-seen : e < st.wide.count → entryBytes img st.sizes e ≡ seenLine st img w p l
+module _ (st : State) (img : List ℕ) (w p l e : ℕ) (h : e ≡ own_entry st.wide w p l) where
+  pub own-seen : e < st.wide.count → entry_bytes img st.sizes e ≡ seen_line st img w p l
   own-seen m =
-      caseOn (is_wide st.wide w)
+      case_on (is_wide st.wide w)
       (λ t.
-      let q : e ≡ entryFor st.wide p l = rw t at h in
+      let q : e ≡ entry_for st.wide p l = rw t at h in
       rw (t, ← q, lt-ltb e st.wide.count m))
       (λ t.
       let q : e ≡ st.wide.count = rw t at h in

@@ -2,10 +2,10 @@
 use Rattle.std.specs.Prelude.{ℕ, Bool, true, cond, List, [], eqb}
 use Rattle.state.specs.State.{State}
 use Rattle.refinement.specs.Stores.{World}
-use Rattle.refinement.specs.Calls.{worldOf}
+use Rattle.refinement.specs.Calls.{world_of}
 use Rattle.refinement.specs.Run.{Call, Result, mount, checkpoint, begin, abort, commit, consolidate, run, write, result, exec}
 use Rattle.answers.specs.declared.Answer.{Answer}
-use Rattle.answers.specs.Answers.{answeredAt}
+use Rattle.answers.specs.Answers.{answered_at}
 use Rattle.state_words.specs.Decoded.{decoded}
 use Rattle.calling.specs.WriteLine.{num, data_of}
 use Rattle.forms.specs.declared.Ask.{Ask}
@@ -50,29 +50,29 @@ abbrev pub budget : Cut → ℕ → ℕ
 budget Unset needed = needed
 budget (After k) needed = k
 
-abbrev pub afterCut : Cut → ℕ → World → Result
-afterCut Unset number v = record { number = number; stores = 0; world = v; target = [] }
-afterCut (After k) number v = exec mount v
+abbrev pub after_cut : Cut → ℕ → World → Result
+after_cut Unset number v = record { number = number; stores = 0; world = v; target = [] }
+after_cut (After k) number v = exec mount v
 
 -- what a call came to: one that needs stores makes them, and a K is used up. Where its mount is turned back, only a format is obeyed from then on
 unfoldable pub finished : ℕ → Cut → Result → Turn
 finished letter cut d =
     let e = exec (run (budget cut d.stores)) d.world in
-    let f = afterCut cut d.number e.world in
+    let f = after_cut cut d.number e.world in
     cond (eqb d.stores 0)
     (turn (ready d.world.st cut) (Answered letter d.number 0) d.world.image)
     (turn (record { st = f.world.st; formatted = eqb f.number 0; cut = Unset }) (Answered letter f.number e.stores) e.world.image)
 
 -- ---- the same of the code, which keeps the state as words beside its mode
 
-abbrev pub machineAt : Mode → List ℕ → Machine
-machineAt m words = record { st = decoded words; formatted = m.formatted; cut = m.cut }
+abbrev pub machine_at : Mode → List ℕ → Machine
+machine_at m words = record { st = decoded words; formatted = m.formatted; cut = m.cut }
 
-abbrev pub worldAt : List ℕ → List ℕ → World
-worldAt words img = worldOf (decoded words) img
+abbrev pub world_at : List ℕ → List ℕ → World
+world_at words img = world_of (decoded words) img
 
 abbrev pub result_at : Answer → List ℕ → List ℕ → Result
-result_at a words img = result (answeredAt a (decoded words)) img
+result_at a words img = result (answered_at a (decoded words)) img
 
-abbrev pub turnAt : Turned → List ℕ → List ℕ → Turn
-turnAt r words img = turn (machineAt r.mode words) r.output img
+abbrev pub turn_at : Turned → List ℕ → List ℕ → Turn
+turn_at r words img = turn (machine_at r.mode words) r.output img

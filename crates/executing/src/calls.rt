@@ -2,8 +2,8 @@
 ghost use Rattle.std.specs.Prelude.{◌≡◌, true};
 ghost use Rattle.refinement.specs.Run.{exec};
 ghost use Rattle.forms.specs.declared.Ask.TheVariants.{Write};
-ghost use Rattle.calling.specs.WriteLine.{hasData};
-ghost use Rattle.executing.specs.Called.{call_of, worldAt, result_at};
+ghost use Rattle.calling.specs.WriteLine.{has_data};
+ghost use Rattle.executing.specs.Called.{call_of, world_at, result_at};
 
 use answers::Answer;
 use forms::Ask;
@@ -12,9 +12,9 @@ use state_words::Words;
 
 // The call; the stores that it needs are pending, and none is made.
 pub fn ask(image: &mut [u8], words: &mut Words, a: Ask, count: usize, numbers: &[u64; 69]) -> Answer
-    requires { a ≡ Write → hasData count numbers.now ≡ true }
+    requires { a ≡ Write → has_data count numbers.now ≡ true }
     ensures { result_at result words.new image.new
-        ≡ exec (call_of a count numbers.now) (worldAt words.old image.old) }
+        ≡ exec (call_of a count numbers.now) (world_at words.old image.old) }
 {
     let first = numbers[0] as usize;
     match a {

@@ -3,7 +3,7 @@ ghost use Rattle.std.specs.Prelude.{◌≡◌, true, eqb};
 ghost use Rattle.printing.specs.declared.Output.TheVariants.{Answered};
 ghost use Rattle.state_words.specs.Decoded.{decoded};
 ghost use Rattle.executing.specs.declared.Cut.TheVariants.{Unset};
-ghost use Rattle.executing.specs.Called.{budget, afterCut, worldAt, result_at, turnAt, finished};
+ghost use Rattle.executing.specs.Called.{budget, after_cut, world_at, result_at, turn_at, finished};
 
 use crate::{Cut, Mode, Turned};
 use answers::Answer;
@@ -22,8 +22,8 @@ fn budget_of(cut: Cut, needed: usize) -> usize
 
 // What follows the stores: under a K a mount, whose number then is the line's.
 fn mount_cut(image: &[u8], words: &mut Words, cut: Cut, number: usize) -> usize
-    ensures number { result ≡ (afterCut cut number (worldAt words.old image.now)).number }
-    ensures state { decoded words.new ≡ (afterCut cut number (worldAt words.old image.now)).world.st }
+    ensures number { result ≡ (after_cut cut number (world_at words.old image.now)).number }
+    ensures state { decoded words.new ≡ (after_cut cut number (world_at words.old image.now)).world.st }
 {
     match cut {
         Cut::Unset => number,
@@ -68,7 +68,7 @@ fn ended(letter: u8, number: usize, stores: usize) -> Turned
 
 // What a call came to that was asked for; one that needs stores makes them.
 pub fn finish(image: &mut [u8], words: &mut Words, cut: Cut, letter: u8, answer: Answer) -> Turned
-    ensures { turnAt result words.new image.new ≡ finished letter cut (result_at answer words.old image.old) }
+    ensures { turn_at result words.new image.new ≡ finished letter cut (result_at answer words.old image.old) }
 {
     let number = answers::number_of(answer);
     let needed = calling::stores_of(answer);

@@ -5,14 +5,14 @@ use mathlib.Core.List.{List, [], ◌∷◌}
 use mathlib.Core.Path.{◌≡◌, refl, sym, ap, ◌∙◌}
 use lib.ListN.{length, get_or}
 use native.Mathlib.Nat.{not-suc-le-zero, le_of_suc-le-suc}
-use Rattle.bounded.proofs.Tests.{caseOn, contradicts, and_right, row-yes, row-no}
+use Rattle.bounded.proofs.Tests.{case_on, contradicts, and_right, row-yes, row-no}
 use Rattle.text.specs.declared.Line.{Line}
-use Rattle.calling.specs.WriteLine.{hasData}
+use Rattle.calling.specs.WriteLine.{has_data}
 use Rattle.forms.specs.declared.Ask.{Ask}
 use Rattle.forms.specs.declared.Ask.TheVariants.{Begin, Commit, Abort, Write, Consolidate, Checkpoint, Mount}
 use Rattle.forms.specs.declared.Form.{Form}
 use Rattle.forms.specs.declared.Form.TheVariants.{Formats, Asks, Reads, Cuts, Other}
-use Rattle.forms.specs.Forms.{is, firstForm, forms, form_of}
+use Rattle.forms.specs.Forms.{is, first_form, forms, form_of}
 
 abbrev pub Table : Type 0
 Table = List (Bool × Form)
@@ -37,15 +37,15 @@ past_more (f ∷ (g ∷ fs)) zero p e = (e, tt)
 past_more (f ∷ fs) (suc k) p e = (p.0, past_more fs k p.1 e)
 
 -- form k applies
-pub form-at : (fs : Table) (k : ℕ) → k < length fs → Past fs k → test fs k ≡ true → form fs k ≡ firstForm fs
+pub form-at : (fs : Table) (k : ℕ) → k < length fs → Past fs k → test fs k ≡ true → form fs k ≡ first_form fs
 form-at [] k l p e = absurd (not-suc-le-zero l)
-form-at (f ∷ fs) zero l p e = row-yes f.0 f.1 (firstForm fs) e
-form-at (f ∷ fs) (suc k) l p e = row-no f.0 f.1 (firstForm fs) (form fs k) p.0 (form-at fs k (le_of_suc-le-suc l) p.1 e)
+form-at (f ∷ fs) zero l p e = row-yes f.0 f.1 (first_form fs) e
+form-at (f ∷ fs) (suc k) l p e = row-no f.0 f.1 (first_form fs) (form fs k) p.0 (form-at fs k (le_of_suc-le-suc l) p.1 e)
 
 -- none does
-pub form-none : (fs : Table) → Past fs (length fs) → Other ≡ firstForm fs
+pub form-none : (fs : Table) → Past fs (length fs) → Other ≡ first_form fs
 form-none [] p = refl
-form-none (f ∷ fs) p = row-no f.0 f.1 (firstForm fs) Other p.0 (form-none fs p.1)
+form-none (f ∷ fs) p = row-no f.0 f.1 (first_form fs) Other p.0 (form-none fs p.1)
 
 -- ---- a form that only one test gives
 
@@ -76,20 +76,20 @@ tells : (w t q : Bool) → Tells w t q → w ≡ true → t ≡ true → q ≡ t
 tells true t q h e y = sym h ∙ y
 tells false t q h e y = contradicts e refl
 
-first-tells : (fs : Table) (q : Bool) → AllTell fs q → writes (firstForm fs) ≡ true → q ≡ true
+first-tells : (fs : Table) (q : Bool) → AllTell fs q → writes (first_form fs) ≡ true → q ≡ true
 first-tells [] q h e = contradicts e refl
 first-tells (f ∷ fs) q h e =
-    caseOn f.0
+    case_on f.0
     (λ y. tells (writes f.1) f.0 q h.0 (rw y at e) y)
     (λ n. first-tells fs q h.1 (rw n at e))
 
 -- g is the form that the code found: a line that asks for a write gives its data
 pub write-data : (formatted : Bool) (line : Line) (g : Form) (a : Ask) → g ≡ form_of formatted line → g ≡ Asks a → a ≡ Write
-    → hasData line.count line.numbers ≡ true
+    → has_data line.count line.numbers ≡ true
 unfolding form_of
 write-data formatted line g a e h w =
     let w-line = is line "W" in
-    let has = hasData line.count line.numbers in
-    let f : writes (firstForm (forms formatted line)) ≡ true = ap writes (sym e ∙ h ∙ ap Asks w) in
+    let has = has_data line.count line.numbers in
+    let f : writes (first_form (forms formatted line)) ≡ true = ap writes (sym e ∙ h ∙ ap Asks w) in
     let tells = first-tells (forms formatted line) (w-line && has) (tt, (tt, (tt, (tt, (tt, (refl, (tt, (tt, (tt, (tt, (tt, tt))))))))))) f in
     and_right w-line has tells

@@ -1,6 +1,6 @@
 // The form of a line of powerhit's script, by its letter and how many numbers follow it.
 ghost use Rattle.std.specs.Prelude.{◌≡◌};
-ghost use Rattle.forms.specs.Forms.{asLine, form_of};
+ghost use Rattle.forms.specs.Forms.{as_line, form_of};
 
 // The calls that a line asks for, beside format and read.
 #[derive(Drop)]
@@ -26,7 +26,7 @@ pub enum Form {
 
 // A line's form.
 pub fn form_of(formatted: bool, letter: u8, count: usize, numbers: &[u64; 69]) -> Form
-    ensures { result ≡ form_of formatted (asLine letter count numbers.now) }
+    ensures { result ≡ form_of formatted (as_line letter count numbers.now) }
 {
     if (letter == b'F') & (count == 3) {
         return Form::Formats;

@@ -1,13 +1,13 @@
 // Where the copies of a line lie.
 ghost use Rattle.std.specs.Prelude.{◌≡◌, ◌<◌};
-ghost use Rattle.refinement.specs.Frames.{committedFrame, otherFrame};
+ghost use Rattle.refinement.specs.Frames.{committed_frame, other_frame};
 
 use journal::Slot;
 
 // The frame with the committed copy of line l of a slot's page.
 pub fn committed_frame(t: Slot, l: usize) -> usize
     requires { l < 64 }
-    ensures { result ≡ committedFrame t l }
+    ensures { result ≡ committed_frame t l }
 {
     if masks::has(t.bitmap, l) {
         return t.spare;
@@ -18,7 +18,7 @@ pub fn committed_frame(t: Slot, l: usize) -> usize
 // The frame that has not the committed copy of line l, which a write goes to.
 pub fn other_frame(t: Slot, l: usize) -> usize
     requires { l < 64 }
-    ensures { result ≡ otherFrame t l }
+    ensures { result ≡ other_frame t l }
 {
     if masks::has(t.bitmap, l) {
         return t.original;

@@ -1,7 +1,7 @@
 // The fresh image, by its words: what format stores. It stores nothing itself.
 ghost use Rattle.std.specs.Prelude.{◌≡◌, ◌<◌, get_or};
 ghost use Rattle.layout.specs.Layout.{Legal};
-ghost use Rattle.fresh.specs.Fresh.{freshHeader, freshWord, freshTable, formatRow};
+ghost use Rattle.fresh.specs.Fresh.{fresh_header, fresh_word, fresh_table, format_row};
 
 use layout::Sizes;
 use replay::Table;
@@ -9,7 +9,7 @@ use replay::Table;
 // Word a of its header: head and tail 0, no entry counted.
 fn header_word(z: Sizes, a: usize) -> u64
     requires { a < 8 }
-    ensures { result ≡ get_or (freshHeader z) a 0 }
+    ensures { result ≡ get_or (fresh_header z) a 0 }
 {
     match a {
         0 => z.pages as u64,
@@ -24,7 +24,7 @@ fn header_word(z: Sizes, a: usize) -> u64
 // Word a of a fresh image: page i in frame i, slot s free with spare P + s, all else zero.
 pub fn fresh_word(z: Sizes, a: usize) -> u64
     requires { Legal z }
-    ensures { result ≡ freshWord z a }
+    ensures { result ≡ fresh_word z a }
 {
     if a < 8 {
         return header_word(z, a);
@@ -43,7 +43,7 @@ pub fn fresh_word(z: Sizes, a: usize) -> u64
 // The slots of a fresh image.
 pub fn fresh_table(z: Sizes) -> Table
     requires { Legal z }
-    ensures { result ≡ freshTable z }
+    ensures { result ≡ fresh_table z }
 {
     let mut t = replay::empty_table();
     let mut s = 0;
@@ -56,7 +56,7 @@ pub fn fresh_table(z: Sizes) -> Table
 
 // The row that turns format back, 0 where none does.
 pub fn format_row(image: &[u8], z: Sizes) -> usize
-    ensures { result ≡ formatRow z image.now }
+    ensures { result ≡ format_row z image.now }
 {
     if !layout::sizes_ok(z) {
         return 3;

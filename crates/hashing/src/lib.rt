@@ -1,10 +1,10 @@
 // A hash of bytes, by which the test programs print an image or a page in a number.
 ghost use Rattle.std.specs.Prelude.{◌≡◌};
-ghost use Rattle.hashing.specs.Hash.{hashOf};
+ghost use Rattle.hashing.specs.Hash.{hash_of};
 
 // h starts 0, h := (31 h + byte) mod 4,294,967,291.
 pub fn hash(bytes: &[u8]) -> u64
-    ensures { result ≡ hashOf bytes.now }
+    ensures { result ≡ hash_of bytes.now }
 {
     let mut h: u64 = 0;
     let mut i = 0;

@@ -1,7 +1,7 @@
 // Begin, begin wide and abort on the host's own state record: by value, and changed directly.
 mod record;
 
-ghost use Rattle.refinement.specs.Calls.{beginOf, beginWideOf, abortOf};
+ghost use Rattle.refinement.specs.Calls.{begin_of, begin_wide_of, abort_of};
 ghost use Rattle.state_words.specs.Decoded.{decoded};
 ghost use Rattle.host.specs.Lent.{CameTo};
 
@@ -10,7 +10,7 @@ pub use record::{Done, State};
 
 // Opens a writer.
 pub fn begin(st: State, writer: usize) -> Done
-    ensures { CameTo (beginOf (decoded st.words) writer) st result.answer result.state }
+    ensures { CameTo (begin_of (decoded st.words) writer) st result.answer result.state }
 {
     let mut words = st.words;
     let answer = call_begin::begin(&mut words, writer);
@@ -20,7 +20,7 @@ pub fn begin(st: State, writer: usize) -> Done
 
 // Opens a writer for a wide transaction.
 pub fn begin_wide(st: State, writer: usize) -> Done
-    ensures { CameTo (beginWideOf (decoded st.words) writer) st result.answer result.state }
+    ensures { CameTo (begin_wide_of (decoded st.words) writer) st result.answer result.state }
 {
     let mut words = st.words;
     let answer = call_begin::begin_wide(&mut words, writer);
@@ -30,7 +30,7 @@ pub fn begin_wide(st: State, writer: usize) -> Done
 
 // Closes a writer and empties its held lines.
 pub fn abort(st: State, writer: usize) -> Done
-    ensures { CameTo (abortOf (decoded st.words) writer) st result.answer result.state }
+    ensures { CameTo (abort_of (decoded st.words) writer) st result.answer result.state }
 {
     let mut words = st.words;
     let answer = call_begin::abort(&mut words, writer);
@@ -40,7 +40,7 @@ pub fn abort(st: State, writer: usize) -> Done
 
 // The same three on the record itself.
 pub fn begin_in(st: &mut State, writer: usize) -> Answer
-    ensures { CameTo (beginOf (decoded st.old.words) writer) st.old result st.new }
+    ensures { CameTo (begin_of (decoded st.old.words) writer) st.old result st.new }
 {
     let begun = begin(*st, writer);
     *st = begun.state;
@@ -48,7 +48,7 @@ pub fn begin_in(st: &mut State, writer: usize) -> Answer
 }
 
 pub fn begin_wide_in(st: &mut State, writer: usize) -> Answer
-    ensures { CameTo (beginWideOf (decoded st.old.words) writer) st.old result st.new }
+    ensures { CameTo (begin_wide_of (decoded st.old.words) writer) st.old result st.new }
 {
     let wide = begin_wide(*st, writer);
     *st = wide.state;
@@ -56,7 +56,7 @@ pub fn begin_wide_in(st: &mut State, writer: usize) -> Answer
 }
 
 pub fn abort_in(st: &mut State, writer: usize) -> Answer
-    ensures { CameTo (abortOf (decoded st.old.words) writer) st.old result st.new }
+    ensures { CameTo (abort_of (decoded st.old.words) writer) st.old result st.new }
 {
     let aborted = abort(*st, writer);
     *st = aborted.state;

@@ -12,37 +12,37 @@ use borrow.Author.Tests.{eqb-true, eq-eqb, not-false}
 use Rattle.bounded.specs.Tab.{tab}
 use Rattle.bounded.proofs.Below.{none-at, none_made}
 use Rattle.bounded.proofs.Tab.{tab-ext}
-use Rattle.bounded.proofs.Tests.{caseOn}
+use Rattle.bounded.proofs.Tests.{case_on}
 use Rattle.layout.specs.declared.Sizes.{Sizes}
 use Rattle.words.specs.Words.{part, over, word_at, word, Bytes, flat}
-use Rattle.layout.specs.Layout.{frames, lineWord, imageLength}
-use Rattle.image.specs.Lines.{lineBytes, merged, differ, mergeChanges, lineWords}
+use Rattle.layout.specs.Layout.{frames, line_word, image_length}
+use Rattle.image.specs.Lines.{line_bytes, merged, differ, merge_changes, line_words}
 use Rattle.words.proofs.Bytes.{bytes_take}
-use Rattle.words.proofs.Parts.{length_part, part-part, length_over, bytes-over, get_d_over, getD-over-other, over-whole, over-back, copied}
+use Rattle.words.proofs.Parts.{length_part, part-part, length_over, bytes-over, get_d_over, get_or-over-other, over-whole, over-back, copied}
 use Rattle.words.proofs.WordLaws.{word-part}
 use Rattle.words.proofs.Runs.{length-words, flat-words, words-tab}
 
 -- ---- a frame's bytes, cut out of the image
 
-module _ (img : List ℕ) (z : Sizes) (f : ℕ) (in-frames : f < frames z) (whole : imageLength z ≤ length img)
-    {frame : List ℕ} (cut : frame ≡ part img (8 * lineWord z f 0) 4096) where
+module _ (img : List ℕ) (z : Sizes) (f : ℕ) (in-frames : f < frames z) (whole : image_length z ≤ length img)
+    {frame : List ℕ} (cut : frame ≡ part img (8 * line_word z f 0) 4096) where
   pub length-frame : length frame ≡ 4096
-  length-frame = rw cut (length_part img (8 * lineWord z f 0) 4096 (omega arith))
+  length-frame = rw cut (length_part img (8 * line_word z f 0) 4096 (omega arith))
 
-  pub frame-word : (l k : ℕ) → l < 64 → k < 8 → word_at frame (64 * l + 8 * k) ≡ word img (lineWord z f l + k)
+  pub frame-word : (l k : ℕ) → l < 64 → k < 8 → word_at frame (64 * l + 8 * k) ≡ word img (line_word z f l + k)
   frame-word l k p q =
-      let e : 8 * lineWord z f 0 + (64 * l + 8 * k) ≡ 8 * (lineWord z f l + k) = omega arith in
-      rw cut (word-part img (8 * lineWord z f 0) 4096 (64 * l + 8 * k) (omega arith) (omega arith) ∙ ap (word_at img) e)
+      let e : 8 * line_word z f 0 + (64 * l + 8 * k) ≡ 8 * (line_word z f l + k) = omega arith in
+      rw cut (word-part img (8 * line_word z f 0) 4096 (64 * l + 8 * k) (omega arith) (omega arith) ∙ ap (word_at img) e)
 
-  pub frame-line : (l : ℕ) → l < 64 → part frame (64 * l) 64 ≡ lineBytes img z f l
+  pub frame-line : (l : ℕ) → l < 64 → part frame (64 * l) 64 ≡ line_bytes img z f l
   frame-line l p =
-      let e : 8 * lineWord z f 0 + 64 * l ≡ 8 * lineWord z f l = omega arith in
-      rw cut (part-part img (8 * lineWord z f 0) 4096 (64 * l) 64 (omega arith) (omega arith) ∙ ap (λ (a : ℕ). part img a 64) e)
+      let e : 8 * line_word z f 0 + 64 * l ≡ 8 * line_word z f l = omega arith in
+      rw cut (part-part img (8 * line_word z f 0) 4096 (64 * l) 64 (omega arith) (omega arith) ∙ ap (λ (a : ℕ). part img a 64) e)
 
 -- ---- a line by its eight words
 
-pub length-line : (img : List ℕ) (z : Sizes) (f l : ℕ) → f < frames z → l < 64 → imageLength z ≤ length img → length (lineBytes img z f l) ≡ 64
-length-line img z f l p q h = length_part img (8 * lineWord z f l) 64 (omega arith)
+pub length-line : (img : List ℕ) (z : Sizes) (f l : ℕ) → f < frames z → l < 64 → image_length z ≤ length img → length (line_bytes img z f l) ≡ 64
+length-line img z f l p q h = length_part img (8 * line_word z f l) 64 (omega arith)
 
 -- the 64 bytes from word a on
 pub eight-words : (img : List ℕ) (a : ℕ) → Bytes img → 8 * a + 64 ≤ length img → part img (8 * a) 64 ≡ flat (tab 8 (λ k. word img (a + k)))
@@ -58,18 +58,18 @@ pub eight-ext : (x y : List ℕ) (a c : ℕ) → Bytes x → Bytes y → 8 * a +
 eight-ext x y a c bx by hx hy e =
     eight-words x a bx hx ∙ ap flat (tab-ext 8 (λ k. word x (a + k)) (λ k. word y (c + k)) e) ∙ sym (eight-words y c by hy)
 
-pub line-words : (img : List ℕ) (z : Sizes) (f l : ℕ) → Bytes img → f < frames z → l < 64 → imageLength z ≤ length img
-    → lineBytes img z f l ≡ flat (tab 8 (λ k. word img (lineWord z f l + k)))
-line-words img z f l b p q h = eight-words img (lineWord z f l) b (omega arith)
+pub line-words : (img : List ℕ) (z : Sizes) (f l : ℕ) → Bytes img → f < frames z → l < 64 → image_length z ≤ length img
+    → line_bytes img z f l ≡ flat (tab 8 (λ k. word img (line_word z f l + k)))
+line-words img z f l b p q h = eight-words img (line_word z f l) b (omega arith)
 
 -- lines whose eight words agree, of one image or of two, are the same
 pub line-ext : (x y : List ℕ) (z : Sizes) (f l g m : ℕ) → Bytes x → Bytes y → f < frames z → l < 64 → g < frames z → m < 64
-    → imageLength z ≤ length x → imageLength z ≤ length y
-    → ((k : ℕ) → k < 8 → word x (lineWord z f l + k) ≡ word y (lineWord z g m + k)) → lineBytes x z f l ≡ lineBytes y z g m
-line-ext x y z f l g m bx by p q r s hx hy e = eight-ext x y (lineWord z f l) (lineWord z g m) bx by (omega arith) (omega arith) e
+    → image_length z ≤ length x → image_length z ≤ length y
+    → ((k : ℕ) → k < 8 → word x (line_word z f l + k) ≡ word y (line_word z g m + k)) → line_bytes x z f l ≡ line_bytes y z g m
+line-ext x y z f l g m bx by p q r s hx hy e = eight-ext x y (line_word z f l) (line_word z g m) bx by (omega arith) (omega arith) e
 
 -- the bytes of a line's words are the line
-pub flat_line : (line : List ℕ) → Bytes line → length line ≡ 64 → flat (lineWords line) ≡ line
+pub flat_line : (line : List ℕ) → Bytes line → length line ≡ 64 → flat (line_words line) ≡ line
 unfolding part
 flat_line line b e = flat-words line b 8 0 (omega arith) ∙ take_all 64 line (omega arith)
 
@@ -85,16 +85,16 @@ differ_same n xs ys e =
     none_made (λ i. not (eqb (get_or xs i 0) (get_or ys i 0))) n (λ i m. ap not (eq-eqb (get_or xs i 0) (get_or ys i 0) (ap (λ (l : List ℕ). get_or l i 0) e)))
 
 -- lines differ where their words do
-pub differ-words : (xs ys : List ℕ) → Bytes xs → Bytes ys → length xs ≡ 64 → length ys ≡ 64 → differ 8 (lineWords xs) (lineWords ys) ≡ differ 64 xs ys
+pub differ-words : (xs ys : List ℕ) → Bytes xs → Bytes ys → length xs ≡ 64 → length ys ≡ 64 → differ 8 (line_words xs) (line_words ys) ≡ differ 64 xs ys
 differ-words xs ys bx by h k =
-    caseOn (differ 64 xs ys)
+    case_on (differ 64 xs ys)
     (λ t.
-    caseOn (differ 8 (lineWords xs) (lineWords ys))
+    case_on (differ 8 (line_words xs) (line_words ys))
     (λ u. u ∙ sym t)
     (λ u.
-    let e : xs ≡ ys = sym (flat_line xs bx h) ∙ ap flat (differ-none 8 (lineWords xs) (lineWords ys) (length-words xs 8 0) (length-words ys 8 0) u) ∙ flat_line ys by k in
+    let e : xs ≡ ys = sym (flat_line xs bx h) ∙ ap flat (differ-none 8 (line_words xs) (line_words ys) (length-words xs 8 0) (length-words ys 8 0) u) ∙ flat_line ys by k in
     u ∙ sym (differ_same 64 xs ys e)))
-    (λ t. differ_same 8 (lineWords xs) (lineWords ys) (ap lineWords (differ-none 64 xs ys h k t)) ∙ sym t)
+    (λ t. differ_same 8 (line_words xs) (line_words ys) (ap line_words (differ-none 64 xs ys h k t)) ∙ sym t)
 
 -- ---- a line with data laid over it
 
@@ -112,21 +112,21 @@ module _ (line : List ℕ) (offset n : ℕ) (bytes : List ℕ) (sized : length l
   length_merged = length_over line offset (take n bytes) laid-fits ∙ sized
 
   -- the data's byte where it was laid, else the line's
-  pub getD-merged : (i : ℕ) → offset ≤ i → i < offset + n → get_or (merged line offset n bytes) i 0 ≡ get_or bytes (i - offset) 0
-  getD-merged i h k =
+  pub get_or-merged : (i : ℕ) → offset ≤ i → i < offset + n → get_or (merged line offset n bytes) i 0 ≡ get_or bytes (i - offset) 0
+  get_or-merged i h k =
       get_d_over line offset (take n bytes) laid-fits i h (omega (arith, laid-length)) ∙ get_or-take n bytes (i - offset) 0 (omega arith)
 
-  pub getD-merged-other : (i : ℕ) → (offset + n ≤ i) ⊎ (i < offset) → get_or (merged line offset n bytes) i 0 ≡ get_or line i 0
-  getD-merged-other i h = getD-over-other line offset (take n bytes) laid-fits i (rw laid-length h)
+  pub get_or-merged-other : (i : ℕ) → (offset + n ≤ i) ⊎ (i < offset) → get_or (merged line offset n bytes) i 0 ≡ get_or line i 0
+  get_or-merged-other i h = get_or-over-other line offset (take n bytes) laid-fits i (rw laid-length h)
 
   -- where no byte changed, the line is as it was
-  pub merge-same : mergeChanges line offset n bytes ≡ false → merged line offset n bytes ≡ line
-  unfolding mergeChanges
+  pub merge-same : merge_changes line offset n bytes ≡ false → merged line offset n bytes ≡ line
+  unfolding merge_changes
   merge-same e = differ-none 64 (merged line offset n bytes) line length_merged sized e
 
   -- told by the words of the line and of the merged one
-  pub merge-words : Bytes line → Bytes bytes → differ 8 (lineWords (merged line offset n bytes)) (lineWords line) ≡ mergeChanges line offset n bytes
-  unfolding mergeChanges
+  pub merge-words : Bytes line → Bytes bytes → differ 8 (line_words (merged line offset n bytes)) (line_words line) ≡ merge_changes line offset n bytes
+  unfolding merge_changes
   merge-words h k = differ-words (merged line offset n bytes) line (bytes-merged line offset n bytes h k) h length_merged sized
 
   -- what is left of a buffer to which the line and then, from offset on, the data were copied

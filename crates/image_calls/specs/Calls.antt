@@ -2,50 +2,50 @@
 use Rattle.std.specs.Prelude.{ℕ, Bool, ◌||◌, cond, List, eqb}
 use Rattle.layout.specs.declared.Sizes.{Sizes}
 use Rattle.state.specs.State.{State}
-use Rattle.refinement.specs.Calls.{step_of, stepBytes, run_of, runBytes}
-use Rattle.refinement.specs.Mount.{mountCall, format_of}
+use Rattle.refinement.specs.Calls.{step_of, step_bytes, run_of, run_bytes}
+use Rattle.refinement.specs.Mount.{mount_call, format_of}
 use Rattle.answers.specs.Answers.{number_of}
 use Rattle.text.specs.declared.Line.{Line}
-use Rattle.workbench.specs.Turns.{Turn, arg, formedSaid, formed, called, replacing}
+use Rattle.workbench.specs.Turns.{Turn, arg, formed_said, formed, called, replacing}
 use Rattle.workbench.specs.declared.Said.TheVariants.{Answered, Store}
 use Rattle.workbench.specs.declared.Said.{Said}
-use Rattle.call_step.specs.NextStore.{nextStoreOf}
+use Rattle.call_step.specs.NextStore.{next_store_of}
 use Rattle.call_step.specs.declared.telling.NextStore.{NextStore}
 
 -- ---- format, mount
 
 -- F,P,S,J,L, or without L, which then is 0
-abbrev pub formatForm : Line → Bool
-formatForm line = eqb line.count 3 || eqb line.count 4
+abbrev pub format_form : Line → Bool
+format_form line = eqb line.count 3 || eqb line.count 4
 
-abbrev pub sizesIn : Line → Sizes
-sizesIn line = record { pages = arg line 0; slots = arg line 1; places = arg line 2; entries = cond (eqb line.count 4) (arg line 3) 0 }
+abbrev pub sizes_in : Line → Sizes
+sizes_in line = record { pages = arg line 0; slots = arg line 1; places = arg line 2; entries = cond (eqb line.count 4) (arg line 3) 0 }
 
 -- it is asked for, and changes no byte
-abbrev pub formatTurn : State → List ℕ → Line → Turn
-formatTurn st img line = formed (formatForm line) st (replacing st (format_of (sizesIn line) img))
+abbrev pub format_turn : State → List ℕ → Line → Turn
+format_turn st img line = formed (format_form line) st (replacing st (format_of (sizes_in line) img))
 
-abbrev pub mountTurn : State → List ℕ → Line → Turn
-mountTurn st img line = formed (eqb line.count 0) st (replacing st (mountCall img))
+abbrev pub mount_turn : State → List ℕ → Line → Turn
+mount_turn st img line = formed (eqb line.count 0) st (replacing st (mount_call img))
 
 -- ---- step, run
 
-abbrev pub stepTurn : State → List ℕ → Line → Turn
-stepTurn st img line = formed (eqb line.count 0) st (called (step_of st img))
+abbrev pub step_turn : State → List ℕ → Line → Turn
+step_turn st img line = formed (eqb line.count 0) st (called (step_of st img))
 
-abbrev pub steppedBytes : State → List ℕ → Line → List ℕ
-steppedBytes st img line = cond (eqb line.count 0) (stepBytes st img) img
+abbrev pub stepped_bytes : State → List ℕ → Line → List ℕ
+stepped_bytes st img line = cond (eqb line.count 0) (step_bytes st img) img
 
-abbrev pub runTurn : State → List ℕ → Line → Turn
-runTurn st img line = formed (eqb line.count 1) st (called (run_of st img (arg line 0)))
+abbrev pub run_turn : State → List ℕ → Line → Turn
+run_turn st img line = formed (eqb line.count 1) st (called (run_of st img (arg line 0)))
 
-abbrev pub ranBytes : State → List ℕ → Line → List ℕ
-ranBytes st img line = cond (eqb line.count 1) (runBytes st img (arg line 0)) img
+abbrev pub ran_bytes : State → List ℕ → Line → List ℕ
+ran_bytes st img line = cond (eqb line.count 1) (run_bytes st img (arg line 0)) img
 
 -- ---- the next store: the word that it goes to and whether it decides, or the row
 
-abbrev pub storeSaid : NextStore → Said
-storeSaid s = cond (eqb (number_of s.answer) 0) (Store s.at s.decides) (Answered (number_of s.answer) 0)
+abbrev pub store_said : NextStore → Said
+store_said s = cond (eqb (number_of s.answer) 0) (Store s.at s.decides) (Answered (number_of s.answer) 0)
 
-abbrev pub nextSaid : State → List ℕ → Line → Said
-nextSaid st img line = formedSaid (eqb line.count 0) (storeSaid (nextStoreOf st img))
+abbrev pub next_said : State → List ℕ → Line → Said
+next_said st img line = formed_said (eqb line.count 0) (store_said (next_store_of st img))

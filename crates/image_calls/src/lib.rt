@@ -1,8 +1,8 @@
 // Format, mount, step, run and the next store: F, M, S, N and n.
 ghost use Rattle.std.specs.Prelude.{◌≡◌};
 ghost use Rattle.state_words.specs.Decoded.{decoded};
-ghost use Rattle.workbench.specs.Turns.{turnAt};
-ghost use Rattle.image_calls.specs.Calls.{sizesIn, formatTurn, mountTurn, stepTurn, steppedBytes, runTurn, ranBytes, nextSaid};
+ghost use Rattle.workbench.specs.Turns.{turn_at};
+ghost use Rattle.image_calls.specs.Calls.{sizes_in, format_turn, mount_turn, step_turn, stepped_bytes, run_turn, ran_bytes, next_said};
 
 use call_turns::answered;
 use layout::Sizes;
@@ -13,7 +13,7 @@ use workbench::Said;
 
 // L, or 0 where it is left out.
 fn entries_in(line: Line) -> usize
-    ensures { result ≡ (sizesIn line).entries }
+    ensures { result ≡ (sizes_in line).entries }
 {
     if line.count == 4 {
         return line.numbers[3] as usize;
@@ -23,7 +23,7 @@ fn entries_in(line: Line) -> usize
 
 // The sizes that a line names.
 fn sizes_in(line: Line) -> Sizes
-    ensures { result ≡ sizesIn line }
+    ensures { result ≡ sizes_in line }
 {
     let entries = entries_in(line);
     Sizes {
@@ -35,7 +35,7 @@ fn sizes_in(line: Line) -> Sizes
 }
 
 pub fn format(image: &mut [u8], words: &mut Words, line: Line) -> Said
-    ensures turn { turnAt result words.new ≡ formatTurn (decoded words.old) image.old line }
+    ensures turn { turn_at result words.new ≡ format_turn (decoded words.old) image.old line }
     ensures bytes { image.new ≡ image.old }
 {
     if (line.count == 3) | (line.count == 4) { // F,P,S,J or F,P,S,J,L
@@ -46,7 +46,7 @@ pub fn format(image: &mut [u8], words: &mut Words, line: Line) -> Said
 }
 
 pub fn mount(image: &[u8], words: &mut Words, line: Line) -> Said
-    ensures { turnAt result words.new ≡ mountTurn (decoded words.old) image.now line }
+    ensures { turn_at result words.new ≡ mount_turn (decoded words.old) image.now line }
 {
     if line.count == 0 { // M
         let answer = call_mount::mount(image, words);
@@ -56,8 +56,8 @@ pub fn mount(image: &[u8], words: &mut Words, line: Line) -> Said
 }
 
 pub fn step(image: &mut [u8], words: &mut Words, line: Line) -> Said
-    ensures turn { turnAt result words.new ≡ stepTurn (decoded words.old) image.old line }
-    ensures bytes { image.new ≡ steppedBytes (decoded words.old) image.old line }
+    ensures turn { turn_at result words.new ≡ step_turn (decoded words.old) image.old line }
+    ensures bytes { image.new ≡ stepped_bytes (decoded words.old) image.old line }
 {
     if line.count == 0 { // S
         let answer = call_step::step(image, words);
@@ -67,8 +67,8 @@ pub fn step(image: &mut [u8], words: &mut Words, line: Line) -> Said
 }
 
 pub fn run(image: &mut [u8], words: &mut Words, line: Line) -> Said
-    ensures turn { turnAt result words.new ≡ runTurn (decoded words.old) image.old line }
-    ensures bytes { image.new ≡ ranBytes (decoded words.old) image.old line }
+    ensures turn { turn_at result words.new ≡ run_turn (decoded words.old) image.old line }
+    ensures bytes { image.new ≡ ran_bytes (decoded words.old) image.old line }
 {
     if line.count == 1 { // N,k
         let answer = call_step::run(image, words, line.numbers[0] as usize);
@@ -78,7 +78,7 @@ pub fn run(image: &mut [u8], words: &mut Words, line: Line) -> Said
 }
 
 pub fn next_store(image: &[u8], words: &Words, line: Line) -> Said
-    ensures { result ≡ nextSaid (decoded words.now) image.now line }
+    ensures { result ≡ next_said (decoded words.now) image.now line }
 {
     if line.count != 0 { // n
         return Said::OtherForm;

@@ -6,13 +6,13 @@ use mathlib.Core.Logic.{◌⊎◌, ⊎_elim, inl, inr}
 use native.Mathlib.Omega.{arith}
 use lib.Dec.{ltb, eqb}
 use borrow.Author.Tests.{ltb-true, ltb-false, lt-ltb, eqb-true, eqb-false, eq-eqb, ne_eqb, not-true}
-use Rattle.bounded.proofs.Tests.{caseOn, and_left, and_right}
+use Rattle.bounded.proofs.Tests.{case_on, and_left, and_right}
 use Rattle.bounded.proofs.Below.{all-at, all_made}
 use Rattle.layout.specs.declared.Sizes.{Sizes}
 use Rattle.layout.specs.Layout.{Legal}
 use Rattle.journal.specs.declared.Record.{Record}
 use Rattle.journal.specs.Slots.{shaped}
-use Rattle.journal.specs.Records.{recordRight, position, firstOk, recordOk, recordsOk}
+use Rattle.journal.specs.Records.{record_right, position, first_ok, record_ok, records_ok}
 use Rattle.journal.proofs.Ring.{pos-lt, pos-more, pos-none}
 use Rattle.journal.proofs.SlotWords.{or_cases}
 
@@ -37,10 +37,10 @@ module _ (z : Sizes) (tail : ℕ) (e : ℕ → Record) where
       let n : i ≡ 0 → ⊥ = eqb-false i 0 (not-true (eqb i 0) (and_left a b ab)) in
       record { later = omega (arith, n); first = eqb-true (e i).first (e (i - 1)).first (and_right a b ab); higher = ltb-true (e (i - 1)).slot (e i).slot (and_right (a && b) c t) }
 
-  pub right : (i : ℕ) → recordOk z tail e i ≡ true → Right z tail e i
+  pub right : (i : ℕ) → record_ok z tail e i ≡ true → Right z tail e i
   right i t =
       let a : Bool = ltb (e i).slot z.slots in
-      let b : Bool = firstOk z tail e i in
+      let b : Bool = first_ok z tail e i in
       let c : Bool = shaped z (e i).now in
       let ab : a && b ≡ true = and_left (a && b) c t in
       record {
@@ -49,7 +49,7 @@ module _ (z : Sizes) (tail : ℕ) (e : ℕ → Record) where
         shape = and_right (a && b) c t;
       }
 
-  first_holds : (i : ℕ) → ((e i).first ≡ position z tail i) ⊎ Follows e i → firstOk z tail e i ≡ true
+  first_holds : (i : ℕ) → ((e i).first ≡ position z tail i) ⊎ Follows e i → first_ok z tail e i ≡ true
   first_holds i h =
       ⊎_elim
       (λ u. rw (eq-eqb (e i).first (position z tail i) u))
@@ -58,19 +58,19 @@ module _ (z : Sizes) (tail : ℕ) (e : ℕ → Record) where
       (or-true (eqb (e i).first (position z tail i))))
       h
 
-  pub right-ok : (i : ℕ) → Right z tail e i → recordOk z tail e i ≡ true
+  pub right-ok : (i : ℕ) → Right z tail e i → record_ok z tail e i ≡ true
   right-ok i h = rw (lt-ltb (e i).slot z.slots h.slot-low, first_holds i h.first) h.shape
 
-  pub right-at : (n i : ℕ) → i < n → recordsOk z tail n e ≡ true → Right z tail e i
-  unfolding recordsOk
-  right-at n i l h = right i (all-at (recordOk z tail e) n i l h)
+  pub right-at : (n i : ℕ) → i < n → records_ok z tail n e ≡ true → Right z tail e i
+  unfolding records_ok
+  right-at n i l h = right i (all-at (record_ok z tail e) n i l h)
 
-  pub right-all : (n : ℕ) → ((i : ℕ) → i < n → Right z tail e i) → recordsOk z tail n e ≡ true
-  unfolding recordsOk
-  right-all n h = all_made (recordOk z tail e) n (λ i l. right-ok i (h i l))
+  pub right-all : (n : ℕ) → ((i : ℕ) → i < n → Right z tail e i) → records_ok z tail n e ≡ true
+  unfolding records_ok
+  right-all n h = all_made (record_ok z tail e) n (λ i l. right-ok i (h i l))
 
   -- each carries a position
-  pub first-lt : Legal z → (n i : ℕ) → i < n → recordsOk z tail n e ≡ true → (e i).first < 2 * z.places
+  pub first-lt : Legal z → (n i : ℕ) → i < n → records_ok z tail n e ≡ true → (e i).first < 2 * z.places
   first-lt g n zero l h =
       ⊎_elim (λ u. omega (arith, u, pos-lt z g tail 0)) (λ (u : Follows e 0). absurd (omega arith)) (right-at n 0 l h).first
   first-lt g n (suc i) l h =
@@ -83,11 +83,11 @@ module _ (z : Sizes) (tail : ℕ) (e : ℕ → Record) where
       (right-at n (suc i) l h).first
 
 -- m right records, and n right ones behind them
-pub records-more : (z : Sizes) (tail m n : ℕ) (e : ℕ → Record) → recordsOk z tail m e ≡ true → recordsOk z (position z tail m) n (λ j. e (m + j)) ≡ true
-    → recordsOk z tail (m + n) e ≡ true
+pub records-more : (z : Sizes) (tail m n : ℕ) (e : ℕ → Record) → records_ok z tail m e ≡ true → records_ok z (position z tail m) n (λ j. e (m + j)) ≡ true
+    → records_ok z tail (m + n) e ≡ true
 records-more z tail m n e p q =
     right-all z tail e (m + n) (λ i l.
-    caseOn (ltb i m)
+    case_on (ltb i m)
     (λ t. right-at z tail e m i (ltb-true i m t) p)
     (λ t.
     let w : m + (i - m) ≡ i = omega (arith, ltb-false i m t) in
@@ -111,7 +111,7 @@ records-more z tail m n e p q =
 pub one-transaction : (z : Sizes) (head n : ℕ) (e : ℕ → Record) → head < 2 * z.places
     → ((j : ℕ) → j < n → ((e j).first ≡ head) × ((e j).slot < z.slots) × (shaped z (e j).now ≡ true))
     → ((j : ℕ) → suc j < n → (e j).slot < (e (suc j)).slot)
-    → recordsOk z head n e ≡ true
+    → records_ok z head n e ≡ true
 one-transaction z head n e l h rise = right-all z head e n each
   where
     each : (i : ℕ) → i < n → Right z head e i
@@ -131,7 +131,7 @@ one-transaction z head n e l h rise = right-all z head e n each
 
 -- ---- one record of row 6, as it was read
 
-pub right-read : (z : Sizes) (tail : ℕ) (e : ℕ → Record) (i : ℕ) {own : ℕ} {before x : Record} {r : Bool} → r ≡ recordRight z own i before x
-    → own ≡ position z tail i → before ≡ e (i - 1) → x ≡ e i → r ≡ recordOk z tail e i
+pub right-read : (z : Sizes) (tail : ℕ) (e : ℕ → Record) (i : ℕ) {own : ℕ} {before x : Record} {r : Bool} → r ≡ record_right z own i before x
+    → own ≡ position z tail i → before ≡ e (i - 1) → x ≡ e i → r ≡ record_ok z tail e i
 right-read z tail e i {own} {before} {x} h a b c =
-    h ∙ ap (λ (q : ℕ). recordRight z q i before x) a ∙ ap₂ (recordRight z (position z tail i) i) b c
+    h ∙ ap (λ (q : ℕ). record_right z q i before x) a ∙ ap₂ (record_right z (position z tail i) i) b c

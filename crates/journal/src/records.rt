@@ -1,8 +1,8 @@
 // Positions and live records.
 ghost use Rattle.std.specs.Prelude.{◌≡◌, ◌+◌, ◌*◌, ◌^◌, ◌≤◌, ◌<◌, length};
-ghost use Rattle.layout.specs.Layout.{Legal, imageLength};
+ghost use Rattle.layout.specs.Layout.{Legal, image_length};
 ghost use Rattle.words.specs.Words.{word};
-ghost use Rattle.journal.specs.Records.{position, liveCount, positionsOk, recordFrom, wordOfRecord, liveRecord, recordRight, recordsOk};
+ghost use Rattle.journal.specs.Records.{position, live_count, positions_ok, record_from, word_of_record, live_record, record_right, records_ok};
 
 use crate::{Record, slots};
 use layout::Sizes;
@@ -22,7 +22,7 @@ pub fn position(z: Sizes, from: usize, i: usize) -> usize
 // How many records are live, without a division: head and tail are below 2J.
 pub fn live_count(z: Sizes, head: usize, tail: usize) -> usize
     requires { Legal z × (head < 2 * z.places) × (tail < 2 * z.places) }
-    ensures { result ≡ liveCount z head tail }
+    ensures { result ≡ live_count z head tail }
 {
     if head < tail {
         return head + 2 * z.places - tail;
@@ -33,7 +33,7 @@ pub fn live_count(z: Sizes, head: usize, tail: usize) -> usize
 // Whether head and tail are positions with at most J live ones between them (row 5).
 pub fn positions_ok(z: Sizes, head: usize, tail: usize) -> bool
     requires { Legal z }
-    ensures { result ≡ positionsOk z head tail }
+    ensures { result ≡ positions_ok z head tail }
 {
     if 2 * z.places <= head {
         return false;
@@ -47,7 +47,7 @@ pub fn positions_ok(z: Sizes, head: usize, tail: usize) -> bool
 // The record in the four words from word a on.
 pub fn record_from(image: &[u8], a: usize) -> Record
     requires { 8 * a + 32 ≤ length image.now }
-    ensures { result ≡ recordFrom (word image.now) a }
+    ensures { result ≡ record_from (word image.now) a }
 {
     let w = image_words::read_word(image, a);
     let now = slots::slot_from(image, a + 1);
@@ -61,7 +61,7 @@ pub fn record_from(image: &[u8], a: usize) -> Record
 // The k-th of a record's four words.
 pub fn word_of_record(e: Record, k: usize) -> u64
     requires { (e.first < 2 ^ 32) × (e.slot < 2 ^ 32) × (e.now.original < 2 ^ 32) × (e.now.spare < 2 ^ 32) }
-    ensures { result ≡ wordOfRecord e k }
+    ensures { result ≡ word_of_record e k }
 {
     if k == 0 {
         return (e.first + 4294967296 * e.slot) as u64;
@@ -72,8 +72,8 @@ pub fn word_of_record(e: Record, k: usize) -> u64
 
 // The i-th live record.
 pub fn live_record(image: &[u8], z: Sizes, tail: usize, i: usize) -> Record
-    requires { Legal z × (imageLength z ≤ length image.now) × (tail < 2 * z.places) × (i ≤ z.places) }
-    ensures { result ≡ liveRecord (word image.now) z tail i }
+    requires { Legal z × (image_length z ≤ length image.now) × (tail < 2 * z.places) × (i ≤ z.places) }
+    ensures { result ≡ live_record (word image.now) z tail i }
 {
     let q = position(z, tail, i);
     let a = layout::record_word(z, q);
@@ -84,7 +84,7 @@ pub fn live_record(image: &[u8], z: Sizes, tail: usize, i: usize) -> Record
 // or its predecessor's with a higher slot, and its slot words have a shape.
 fn record_ok(z: Sizes, own: usize, i: usize, before: Record, e: Record) -> bool
     requires { Legal z }
-    ensures { result ≡ recordRight z own i before e }
+    ensures { result ≡ record_right z own i before e }
 {
     let now = e.now;
     (e.slot < z.slots)
@@ -94,8 +94,8 @@ fn record_ok(z: Sizes, own: usize, i: usize, before: Record, e: Record) -> bool
 
 // Whether each of the n live records is right (row 6). The first one has no record before it and is held to itself.
 pub fn records_ok(image: &[u8], z: Sizes, tail: usize, n: usize) -> bool
-    requires { Legal z × (imageLength z ≤ length image.now) × (tail < 2 * z.places) × (n ≤ z.places) }
-    ensures { result ≡ recordsOk z tail n (liveRecord (word image.now) z tail) }
+    requires { Legal z × (image_length z ≤ length image.now) × (tail < 2 * z.places) × (n ≤ z.places) }
+    ensures { result ≡ records_ok z tail n (live_record (word image.now) z tail) }
 {
     let mut before = live_record(image, z, tail, 0);
     let mut i = 0;

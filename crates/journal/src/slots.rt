@@ -2,7 +2,7 @@
 ghost use Rattle.std.specs.Prelude.{◌≡◌, ◌+◌, ◌*◌, ◌^◌, ◌≤◌, ◌<◌, length};
 ghost use Rattle.layout.specs.Layout.{Legal};
 ghost use Rattle.words.specs.Words.{word};
-ghost use Rattle.journal.specs.Slots.{slotFrom, wordOfSlot, freeSlot, shaped};
+ghost use Rattle.journal.specs.Slots.{slot_from, word_of_slot, free_slot, shaped};
 
 use crate::{NO_FRAME, NO_PAGE, Slot};
 use layout::Sizes;
@@ -10,7 +10,7 @@ use layout::Sizes;
 // The slot in the three words from word a on.
 pub fn slot_from(image: &[u8], a: usize) -> Slot
     requires { 8 * a + 24 ≤ length image.now }
-    ensures { result ≡ slotFrom (word image.now) a }
+    ensures { result ≡ slot_from (word image.now) a }
 {
     let page = image_words::read_word(image, a);
     let frames = image_words::read_word(image, a + 1);
@@ -26,7 +26,7 @@ pub fn slot_from(image: &[u8], a: usize) -> Slot
 // The k-th of a slot's three words.
 pub fn word_of_slot(t: Slot, k: usize) -> u64
     requires { (t.original < 2 ^ 32) × (t.spare < 2 ^ 32) }
-    ensures { result ≡ wordOfSlot t k }
+    ensures { result ≡ word_of_slot t k }
 {
     if k == 0 {
         return t.page as u64;
@@ -39,7 +39,7 @@ pub fn word_of_slot(t: Slot, k: usize) -> u64
 
 // The free slot with spare f.
 pub fn free_slot(f: usize) -> Slot
-    ensures { result ≡ freeSlot f }
+    ensures { result ≡ free_slot f }
 {
     Slot {
         page: NO_PAGE,

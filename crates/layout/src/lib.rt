@@ -1,7 +1,7 @@
 // Where each word of an image lies (document 01, "The image"), in words from its start.
 ghost use Rattle.std.specs.Prelude.{◌≡◌, ◌+◌, ◌%◌, ◌<◌, ◌≤◌};
-ghost use Rattle.layout.specs.Layout.{sizesOk, Legal, frames, layoutOf, pageWord, slotWord, placeOf, recordWord, paddingWord, frameWord, lineWord};
-ghost use Rattle.layout.specs.Layout.{entryWord, imageLength};
+ghost use Rattle.layout.specs.Layout.{sizes_ok, Legal, frames, layout_of, page_word, slot_word, place_of, record_word, padding_word, frame_word, line_word};
+ghost use Rattle.layout.specs.Layout.{entry_word, image_length};
 
 // Sizes of a store (document 01: P, S and J; document 02, L14: L).
 #[derive(Drop)]
@@ -31,7 +31,7 @@ pub const ENTRIES_WORD: usize = 7;
 
 // Whether the sizes are in their ranges (row 3).
 pub fn sizes_ok(z: Sizes) -> bool
-    ensures { result ≡ sizesOk z }
+    ensures { result ≡ sizes_ok z }
 {
     (1 <= z.pages)
         & (z.pages <= 1024)
@@ -44,7 +44,7 @@ pub fn sizes_ok(z: Sizes) -> bool
 
 // The layout's number.
 pub fn layout_of(z: Sizes) -> u64
-    ensures { result ≡ layoutOf z }
+    ensures { result ≡ layout_of z }
 {
     if z.entries == 0 { 1 } else { 2 }
 }
@@ -60,7 +60,7 @@ fn frame_count(z: Sizes) -> usize
 // The page table's word of page p.
 pub fn page_word(p: usize) -> usize
     requires { p < 1024 }
-    ensures { result ≡ pageWord p }
+    ensures { result ≡ page_word p }
 {
     8 + p
 }
@@ -68,7 +68,7 @@ pub fn page_word(p: usize) -> usize
 // The first of the three words of slot s.
 pub fn slot_word(z: Sizes, s: usize) -> usize
     requires { Legal z × (s ≤ z.slots) }
-    ensures { result ≡ slotWord z s }
+    ensures { result ≡ slot_word z s }
 {
     8 + z.pages + 3 * s
 }
@@ -76,7 +76,7 @@ pub fn slot_word(z: Sizes, s: usize) -> usize
 // The place of position q. Positions are below 2J, so that no division is made for one.
 pub fn place_of(z: Sizes, q: usize) -> usize
     requires { Legal z }
-    ensures { result ≡ placeOf z q }
+    ensures { result ≡ place_of z q }
 {
     if q < z.places {
         return q;
@@ -91,7 +91,7 @@ pub fn place_of(z: Sizes, q: usize) -> usize
 // The first of the four words of position q.
 pub fn record_word(z: Sizes, q: usize) -> usize
     requires { Legal z }
-    ensures { result ≡ recordWord z q }
+    ensures { result ≡ record_word z q }
 {
     8 + z.pages + 3 * z.slots + 4 * place_of(z, q)
 }
@@ -99,7 +99,7 @@ pub fn record_word(z: Sizes, q: usize) -> usize
 // The first word past the journal.
 pub fn padding_word(z: Sizes) -> usize
     requires { Legal z }
-    ensures { result ≡ paddingWord z }
+    ensures { result ≡ padding_word z }
 {
     8 + z.pages + 3 * z.slots + 4 * z.places
 }
@@ -107,7 +107,7 @@ pub fn padding_word(z: Sizes) -> usize
 // The first word of the first frame.
 pub fn frame_word(z: Sizes) -> usize
     requires { Legal z }
-    ensures { result ≡ frameWord z }
+    ensures { result ≡ frame_word z }
 {
     (padding_word(z) + 7) / 8 * 8
 }
@@ -115,7 +115,7 @@ pub fn frame_word(z: Sizes) -> usize
 // The first of the eight words of line l of frame f.
 pub fn line_word(z: Sizes, f: usize, l: usize) -> usize
     requires { Legal z × (f < frames z) × (l < 64) }
-    ensures { result ≡ lineWord z f l }
+    ensures { result ≡ line_word z f l }
 {
     frame_word(z) + 512 * f + 8 * l
 }
@@ -123,7 +123,7 @@ pub fn line_word(z: Sizes, f: usize, l: usize) -> usize
 // The first of the nine words of entry e, or the image's end.
 pub fn entry_word(z: Sizes, e: usize) -> usize
     requires { Legal z × (e ≤ z.entries) }
-    ensures { result ≡ entryWord z e }
+    ensures { result ≡ entry_word z e }
 {
     frame_word(z) + 512 * frame_count(z) + 9 * e
 }
@@ -131,7 +131,7 @@ pub fn entry_word(z: Sizes, e: usize) -> usize
 // The image's length in bytes.
 pub fn image_length(z: Sizes) -> usize
     requires { Legal z }
-    ensures { result ≡ imageLength z }
+    ensures { result ≡ image_length z }
 {
     8 * entry_word(z, z.entries)
 }

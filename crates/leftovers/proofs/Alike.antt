@@ -4,11 +4,11 @@ use mathlib.Core.List.{List}
 use mathlib.Core.Path.{◌≡◌, refl, sym, ap, ◌∙◌}
 use Rattle.words.specs.Words.{word}
 use Rattle.replay.specs.declared.Table.{Table}
-use Rattle.mount.specs.Mount.{tableAfter}
+use Rattle.mount.specs.Mount.{table_after}
 
 -- the slots that a mount finds
 abbrev pub slots_of : List ℕ → Table
-slots_of img = tableAfter (word img)
+slots_of img = table_after (word img)
 
 pub record Alike (x y : List ℕ) : Type 0 where
   pub table : slots_of x ≡ slots_of y

@@ -7,36 +7,36 @@ use native.Mathlib.Omega.{arith}
 use lib.ListN.{length, get_or}
 use borrow.Author.Tests.{lt-ltb, le-ltb}
 use Rattle.layout.specs.declared.Sizes.{Sizes}
-use Rattle.layout.specs.Layout.{Legal, frames, lineWord, entryWord, imageWords}
+use Rattle.layout.specs.Layout.{Legal, frames, line_word, entry_word, image_words}
 use Rattle.layout.proofs.LayoutLaws.{place-lt, line-end, line-apart, entry-apart}
 use Rattle.words.specs.Words.{Bytes, word}
-use Rattle.image.specs.Lines.{lineBytes}
+use Rattle.image.specs.Lines.{line_bytes}
 use Rattle.image.proofs.LineLaws.{eight-ext, line-ext}
-use Rattle.entries.specs.Entries.{key_of, keyPage, keyLine, entry_of}
+use Rattle.entries.specs.Entries.{key_of, key_page, key_line, entry_of}
 use Rattle.entries.proofs.EntryLaws.{Right, entries-right, key_back, entry-before}
 use Rattle.journal.specs.Records.{position}
 use Rattle.replay.specs.declared.Table.{Table}
-use Rattle.replay.specs.Map.{pageFrames}
+use Rattle.replay.specs.Map.{page_frames}
 use Rattle.mount.proofs.View.{View, Shows, Read, header, wide, journal, slot, page, entry, same_view}
 use Rattle.mount.proofs.Verdict.{Taken, entry-shown}
 use Rattle.mount.proofs.Dead.{Dead, dead-between, dead-line, dead-entry, dead-place, dead-slot, dead-page}
-use Rattle.state.specs.State.{Wide, ownFrame}
+use Rattle.state.specs.State.{Wide, own_frame}
 use Rattle.state.specs.declared.Pending.{Pending}
 use Rattle.refinement.specs.Stores.{World}
-use Rattle.refinement.specs.Calls.{worldOf}
+use Rattle.refinement.specs.Calls.{world_of}
 use Rattle.refinement.specs.Recall.{frame_of}
-use Rattle.refinement.specs.Wide.{entryBytes, shownLine}
+use Rattle.refinement.specs.Wide.{entry_bytes, shown_line}
 use Rattle.refinement.specs.Beside.{counted}
 use Rattle.refinement.specs.Reference.{Reference}
 use Rattle.refinement.proofs.Copying.{shown_by}
 use Rattle.refinement.proofs.OwnFrames.{frame_is}
 use Rattle.refinement.proofs.Remount.{Shown, copy-low, one-page}
-use Rattle.leftovers.specs.Leftovers.{Leftover, journal-place, under-record, slotted-page, padding, other-copy, past-entries, under-entry, copiedWord, Replaced}
-use Rattle.leftovers.proofs.AfterMount.{foundState, Found}
+use Rattle.leftovers.specs.Leftovers.{Leftover, journal-place, under-record, slotted-page, padding, other-copy, past-entries, under-entry, copied_word, Replaced}
+use Rattle.leftovers.proofs.AfterMount.{found_state, Found}
 use Rattle.leftovers.proofs.Alike.{Alike}
 
 -- the words that a mount reads lie inside the image
-read-inside : (v : View) → Legal v.sizes → (a : ℕ) → Read v a → a < imageWords v.sizes
+read-inside : (v : View) → Legal v.sizes → (a : ℕ) → Read v a → a < image_words v.sizes
 read-inside v g a (header h) = omega arith
 read-inside v g a (wide q h) = omega arith
 read-inside v g a (journal i k h l e) = omega (arith, place-lt v.sizes g (position v.sizes v.tail i))
@@ -55,20 +55,20 @@ module _ (img : List ℕ) (view : View) (shows : Shows img view) (taken : Taken 
   n = view.count
 
   abbrev pub v : World
-  v = worldOf (foundState view d w) img
+  v = world_of (found_state view d w) img
 
   legal : Legal z
   legal = taken.legal
 
   abbrev own : ℕ → ℕ
-  own = ownFrame (foundState view d w)
+  own = own_frame (found_state view d w)
 
   abbrev copy_of : ℕ → ℕ → ℕ
   copy_of p l = frame_of own z t p l
 
   -- by the map it lies where it lies by the page table
-  own_same : (p l : ℕ) → p < z.pages → copy_of p l ≡ frame_of (pageFrames (word img)) z t p l
-  own_same = frame_is own (pageFrames (word img)) z t (entry-shown img view shows)
+  own_same : (p l : ℕ) → p < z.pages → copy_of p l ≡ frame_of (page_frames (word img)) z t p l
+  own_same = frame_is own (page_frames (word img)) z t (entry-shown img view shows)
 
   low : (p l : ℕ) → p < z.pages → copy_of p l < frames z
   low p l m = subst (λ (f : ℕ). f < frames z) (sym (own_same p l m)) (copy-low img view shows taken p l m)
@@ -80,14 +80,14 @@ module _ (img : List ℕ) (view : View) (shows : Shows img view) (taken : Taken 
   abbrev key : ℕ → ℕ
   key e = get_or d.keys e 0
 
-  pub key-page : (e : ℕ) → e < n → keyPage (key e) < z.pages
-  key-page e l = subst (λ (k : ℕ). keyPage k < z.pages) (sym (F.keys e l)) (right.page-low e l)
+  pub key-page : (e : ℕ) → e < n → key_page (key e) < z.pages
+  key-page e l = subst (λ (k : ℕ). key_page k < z.pages) (sym (F.keys e l)) (right.page-low e l)
 
   -- its line lies in a frame of the image
-  pub copied-inside : (e : ℕ) → e < counted (foundState view d w) → copiedWord v (key e) + 8 ≤ imageWords z
+  pub copied-inside : (e : ℕ) → e < counted (found_state view d w) → copied_word v (key e) + 8 ≤ image_words z
   copied-inside e l =
-      let p : ℕ = keyPage (key e) in
-      let m : ℕ = keyLine (key e) in
+      let p : ℕ = key_page (key e) in
+      let m : ℕ = key_line (key e) in
       omega (arith, line-end z (copy_of p m) m (low p m (key-page e (omega (arith, l, F.count)))) (omega arith))
 
   -- a mount reads no leftover
@@ -99,10 +99,10 @@ module _ (img : List ℕ) (view : View) (shows : Shows img view) (taken : Taken 
   left-dead a (other-copy f l k lf ll lk n e) = subst (Dead view) (sym e) (dead-line view legal f l k lf ll lk)
   left-dead a (past-entries e k l m lk at) = subst (Dead view) (sym at) (dead-entry view legal e k lk (λ q. omega (arith, l, F.count)))
   left-dead a (under-entry e k l lk at) =
-      subst (Dead view) (sym at) (dead-line view legal (copy_of (keyPage (key e)) (keyLine (key e))) (keyLine (key e)) k (low (keyPage (key e)) (keyLine (key e)) (key-page e (omega (arith, l, F.count)))) (omega arith) lk)
+      subst (Dead view) (sym at) (dead-line view legal (copy_of (key_page (key e)) (key_line (key e))) (key_line (key e)) k (low (key_page (key e)) (key_line (key e)) (key-page e (omega (arith, l, F.count)))) (omega arith) lk)
 
   -- nor is a word of the committed copy of a line without an entry one
-  committed-left : (p l k : ℕ) → p < z.pages → l < 64 → k < 8 → entry_of view.keys n (key_of p l) ≡ n → (a : ℕ) → a ≡ lineWord z (copy_of p l) l + k → Leftover v a → ⊥
+  committed-left : (p l k : ℕ) → p < z.pages → l < 64 → k < 8 → entry_of view.keys n (key_of p l) ≡ n → (a : ℕ) → a ≡ line_word z (copy_of p l) l + k → Leftover v a → ⊥
   committed-left p l k lp ll lk bare a at (journal-place q j m f e) = omega (arith, place-lt z legal q)
   committed-left p l k lp ll lk bare a at (under-record s j h m f e) = omega arith
   committed-left p l k lp ll lk bare a at (slotted-page q h f e) = omega arith
@@ -114,12 +114,12 @@ module _ (img : List ℕ) (view : View) (shows : Shows img view) (taken : Taken 
   committed-left p l k lp ll lk bare a at (under-entry e j m lj q) =
       let i : ℕ = key e in
       let le : e < n = omega (arith, m, F.count) in
-      let w = line-apart z (copy_of p l) l k (copy_of (keyPage i) (keyLine i)) (keyLine i) j ll (omega arith) lk lj (sym at ∙ q) in
-      let one : p ≡ keyPage i = one-page img view shows taken p l (keyPage i) (keyLine i) lp (key-page e le) (sym (own_same p l lp) ∙ w.0 ∙ own_same (keyPage i) (keyLine i) (key-page e le)) in
+      let w = line-apart z (copy_of p l) l k (copy_of (key_page i) (key_line i)) (key_line i) j ll (omega arith) lk lj (sym at ∙ q) in
+      let one : p ≡ key_page i = one-page img view shows taken p l (key_page i) (key_line i) lp (key-page e le) (sym (own_same p l lp) ∙ w.0 ∙ own_same (key_page i) (key_line i) (key-page e le)) in
       entry-before view.keys n (key_of p l) e (omega (arith, le, bare)) (sym (F.keys e le) ∙ sym (key_back i) ∙ sym (ap₂ key_of one w.1))
 
   -- or of an entry that is counted
-  entry-left : (e k : ℕ) → e < n → k < 9 → (a : ℕ) → a ≡ entryWord z e + k → Leftover v a → ⊥
+  entry-left : (e k : ℕ) → e < n → k < 9 → (a : ℕ) → a ≡ entry_word z e + k → Leftover v a → ⊥
   entry-left e k le lk a at (journal-place q j m f x) = omega (arith, place-lt z legal q)
   entry-left e k le lk a at (under-record s j h m f x) = omega arith
   entry-left e k le lk a at (slotted-page q h f x) = omega arith
@@ -127,7 +127,7 @@ module _ (img : List ℕ) (view : View) (shows : Shows img view) (taken : Taken 
   entry-left e k le lk a at (other-copy f m j lf lm lj n x) = omega (arith, line-end z f m lf lm)
   entry-left e k le lk a at (past-entries i j m li lj x) = omega (arith, (entry-apart z e k i j lk lj (sym at ∙ x)).0, m, F.count, le)
   entry-left e k le lk a at (under-entry i j m lj x) =
-      omega (arith, line-end z (copy_of (keyPage (key i)) (keyLine (key i))) (keyLine (key i)) (low (keyPage (key i)) (keyLine (key i)) (key-page i (omega (arith, m, F.count)))) (omega arith))
+      omega (arith, line-end z (copy_of (key_page (key i)) (key_line (key i))) (key_line (key i)) (low (key_page (key i)) (key_line (key i)) (key-page i (omega (arith, m, F.count)))) (omega arith))
 
   module _ (image : List ℕ) (R : Replaced v image) where
     read_kept : (a : ℕ) → Read view a → word image a ≡ word img a
@@ -139,31 +139,31 @@ module _ (img : List ℕ) (view : View) (shows : Shows img view) (taken : Taken 
     pub still-taken : Taken (length image) view
     still-taken = subst (λ (n : ℕ). Taken n view) (sym R.as_long) taken
 
-    pub frame_same : (p l : ℕ) → p < z.pages → frame_of (pageFrames (word image)) z t p l ≡ copy_of p l
-    frame_same p l low = sym (frame_is own (pageFrames (word image)) z t (entry-shown image view still-shows) p l low)
+    pub frame_same : (p l : ℕ) → p < z.pages → frame_of (page_frames (word image)) z t p l ≡ copy_of p l
+    frame_same p l low = sym (frame_is own (page_frames (word image)) z t (entry-shown image view still-shows) p l low)
 
     -- the line of an entry that is counted, and that of a committed copy without one
-    entry-same : Bytes img → (e : ℕ) → e < n → entryBytes image z e ≡ entryBytes img z e
+    entry-same : Bytes img → (e : ℕ) → e < n → entry_bytes image z e ≡ entry_bytes img z e
     entry-same bytes e le =
         let few = right.few in
-        eight-ext image img (entryWord z e + 1) (entryWord z e + 1) R.bytes bytes (omega (arith, few, le, still-taken.fits)) (omega (arith, few, le, taken.fits))
-        (λ k lk. R.kept (entryWord z e + 1 + k) (omega (arith, few, le)) (entry-left e (1 + k) le (omega arith) (entryWord z e + 1 + k) (omega arith)))
+        eight-ext image img (entry_word z e + 1) (entry_word z e + 1) R.bytes bytes (omega (arith, few, le, still-taken.fits)) (omega (arith, few, le, taken.fits))
+        (λ k lk. R.kept (entry_word z e + 1 + k) (omega (arith, few, le)) (entry-left e (1 + k) le (omega arith) (entry_word z e + 1 + k) (omega arith)))
 
     copy-same : Bytes img → (p l : ℕ) → p < z.pages → l < 64 → entry_of view.keys n (key_of p l) ≡ n
-        → lineBytes image z (frame_of (pageFrames (word image)) z t p l) l ≡ lineBytes img z (copy_of p l) l
+        → line_bytes image z (frame_of (page_frames (word image)) z t p l) l ≡ line_bytes img z (copy_of p l) l
     copy-same bytes p l lp ll bare =
         let f : ℕ = copy_of p l in
         let lf = low p l lp in
-        ap (λ (g : ℕ). lineBytes image z g l) (frame_same p l lp)
+        ap (λ (g : ℕ). line_bytes image z g l) (frame_same p l lp)
         ∙ line-ext image img z f l f l R.bytes bytes lf ll lf ll still-taken.fits taken.fits
-        (λ k lk. R.kept (lineWord z f l + k) (omega (arith, line-end z f l lf ll)) (committed-left p l k lp ll lk bare (lineWord z f l + k) refl))
+        (λ k lk. R.kept (line_word z f l + k) (omega (arith, line-end z f l lf ll)) (committed-left p l k lp ll lk bare (line_word z f l + k) refl))
 
     pub still-shown : (b : Reference) → Bytes img → Shown img view b → Shown image view b
     still-shown b bytes c p l lp ll =
-        let same : shownLine image (pageFrames (word image)) z t n view.keys p l ≡ shownLine img (pageFrames (word img)) z t n view.keys p l =
+        let same : shown_line image (page_frames (word image)) z t n view.keys p l ≡ shown_line img (page_frames (word img)) z t n view.keys p l =
         shown_by view.keys n p l
         (λ e m q k. rw (q, lt-ltb e n m) (entry-same bytes e m))
-        (λ q. rw (q, le-ltb n n (omega arith)) (copy-same bytes p l lp ll q ∙ ap (λ (f : ℕ). lineBytes img z f l) (own_same p l lp))) in
+        (λ q. rw (q, le-ltb n n (omega arith)) (copy-same bytes p l lp ll q ∙ ap (λ (f : ℕ). line_bytes img z f l) (own_same p l lp))) in
         same ∙ c p l lp ll
 
     pub still_alike : Alike img image

@@ -8,39 +8,39 @@ use lib.Dec.{ltb}
 use lib.ListN.{length}
 use borrow.Author.Tests.{le-ltb}
 use Rattle.layout.specs.declared.Sizes.{Sizes}
-use Rattle.layout.specs.Layout.{Legal, imageLength}
-use Rattle.image.specs.Lines.{lineBytes}
-use Rattle.state.specs.State.{State, ownFrame}
+use Rattle.layout.specs.Layout.{Legal, image_length}
+use Rattle.image.specs.Lines.{line_bytes}
+use Rattle.state.specs.State.{State, own_frame}
 use Rattle.state.specs.declared.Pending.{Pending}
-use Rattle.operations.specs.Operations.{isIdle}
-use Rattle.refinement.specs.Wide.{isCopy}
+use Rattle.operations.specs.Operations.{is_idle}
+use Rattle.refinement.specs.Wide.{is_copy}
 use Rattle.refinement.specs.Beside.{counted}
-use Rattle.refinement.specs.Calls.{worldOf, seenLine}
+use Rattle.refinement.specs.Calls.{world_of, seen_line}
 use Rattle.refinement.specs.Recall.{frame_of}
-use Rattle.refinement.specs.Reference.{Reference, recallLine}
+use Rattle.refinement.specs.Reference.{Reference, recall_line}
 use Rattle.refinement.proofs.Cases.{Invariant, standing-of}
 use Rattle.refinement.proofs.Standing.{Standing}
 use Rattle.refinement.proofs.Viewed.{Viewed, viewed-fits, shown-copy}
 
 pub record SameReads (st : State) (x y : List ℕ) : Type 0 where
   -- row 4
-  pub short : ltb (length x) (imageLength st.sizes) ≡ ltb (length y) (imageLength st.sizes)
+  pub short : ltb (length x) (image_length st.sizes) ≡ ltb (length y) (image_length st.sizes)
   pub some-page : 0 < st.sizes.pages
   -- a line as a writer reads it
-  pub seen : not (isIdle st.pending.op) ≡ false → (w p l : ℕ) → w < 4 → p < st.sizes.pages → l < 64 → seenLine st x w p l ≡ seenLine st y w p l
+  pub seen : not (is_idle st.pending.op) ≡ false → (w p l : ℕ) → w < 4 → p < st.sizes.pages → l < 64 → seen_line st x w p l ≡ seen_line st y w p l
   -- a committed line of page 0
-  pub stored : not (isIdle st.pending.op) ≡ false → (m : ℕ) → m < 64
-      → lineBytes x st.sizes (frame_of (ownFrame st) st.sizes st.table 0 m) m ≡ lineBytes y st.sizes (frame_of (ownFrame st) st.sizes st.table 0 m) m
+  pub stored : not (is_idle st.pending.op) ≡ false → (m : ℕ) → m < 64
+      → line_bytes x st.sizes (frame_of (own_frame st) st.sizes st.table 0 m) m ≡ line_bytes y st.sizes (frame_of (own_frame st) st.sizes st.table 0 m) m
 
-module _ {past past' : List ℕ} (st : State) (x y : List ℕ) (b : Reference) (h : Invariant past (worldOf st x) b) (k : Invariant past' (worldOf st y) b) where
+module _ {past past' : List ℕ} (st : State) (x y : List ℕ) (b : Reference) (h : Invariant past (world_of st x) b) (k : Invariant past' (world_of st y) b) where
   abbrev z : Sizes
   z = st.sizes
 
-  X : Standing past (worldOf st x) b
-  X = standing-of (worldOf st x) b h
+  X : Standing past (world_of st x) b
+  X = standing-of (world_of st x) b h
 
-  Y : Standing past' (worldOf st y) b
-  Y = standing-of (worldOf st y) b k
+  Y : Standing past' (world_of st y) b
+  Y = standing-of (world_of st y) b k
 
   abbrev D : Viewed past st x b
   D = X.viewed
@@ -55,16 +55,16 @@ module _ {past past' : List ℕ} (st : State) (x y : List ℕ) (b : Reference) (
   some-page = omega (arith, legal.pages-low)
 
   -- the stored meters are the reference machine's
-  stored : {q : List ℕ} (img : List ℕ) → Standing q (worldOf st img) b → not (isIdle st.pending.op) ≡ false → (m : ℕ) → m < 64
-      → lineBytes img z (frame_of (ownFrame st) z st.table 0 m) m ≡ recallLine b 0 m
+  stored : {q : List ℕ} (img : List ℕ) → Standing q (world_of st img) b → not (is_idle st.pending.op) ≡ false → (m : ℕ) → m < 64
+      → line_bytes img z (frame_of (own_frame st) z st.table 0 m) m ≡ recall_line b 0 m
   stored img S e m low =
-      let none : counted st ≡ 0 = ap (λ (p : Pending). cond (isCopy p.op && ltb 0 p.made) st.wide.count 0) (S.none-pending e) in
-      sym (shown-copy img (ownFrame st) z st.table (counted st) st.wide.keys 0 m none) ∙ S.viewed.own 0 m some-page low
+      let none : counted st ≡ 0 = ap (λ (p : Pending). cond (is_copy p.op && ltb 0 p.made) st.wide.count 0) (S.none-pending e) in
+      sym (shown-copy img (own_frame st) z st.table (counted st) st.wide.keys 0 m none) ∙ S.viewed.own 0 m some-page low
 
   pub same_reads : SameReads st x y
   same_reads =
       record {
-        short = le-ltb (length x) (imageLength z) (viewed-fits st x b D) ∙ sym (le-ltb (length y) (imageLength z) (viewed-fits st y b E));
+        short = le-ltb (length x) (image_length z) (viewed-fits st x b D) ∙ sym (le-ltb (length y) (image_length z) (viewed-fits st y b E));
         some-page = some-page;
         seen = λ q w p l writer page line. X.seen q w p l writer page line ∙ sym (Y.seen q w p l writer page line);
         stored = λ e m low. stored x X e m low ∙ sym (stored y Y e m low);

@@ -3,7 +3,7 @@ use mathlib.Core.Bool.{false}
 use mathlib.Core.List.{List, [], ◌∷◌}
 use mathlib.Core.Path.{◌≡◌, refl, sym, ◌∙◌}
 use Rattle.bounded.specs.Rows.{Row, refusal}
-use Rattle.bounded.proofs.Tests.{caseOn}
+use Rattle.bounded.proofs.Tests.{case_on}
 
 abbrev pub Matching : List Row → List Row → Type 0
 Matching [] [] = Unit
@@ -16,6 +16,6 @@ same-refusal [] [] m = refl
 same-refusal [] (s ∷ ss) m = absurd m
 same-refusal (r ∷ rs) [] m = absurd m
 same-refusal (r ∷ rs) (s ∷ ss) m =
-    caseOn r.0
+    case_on r.0
     (λ t. rw (t, sym m.0 ∙ t) m.1)
     (λ t. rw (t, sym m.0 ∙ t) (same-refusal rs ss (m.2 t)))

@@ -7,14 +7,14 @@ use mathlib.Core.Path.{◌≡◌, sym, ap, ◌∙◌, subst}
 use lib.Dec.{eqb}
 use lib.ListN.{length, drop}
 use borrow.Author.Tests.{eqb-true, eqb-false}
-use Rattle.bounded.proofs.Tests.{caseOn}
-use Rattle.layout.specs.Layout.{imageLength}
+use Rattle.bounded.proofs.Tests.{case_on}
+use Rattle.layout.specs.Layout.{image_length}
 use Rattle.words.specs.Words.{Bytes}
 use Rattle.state.specs.State.{State, Wide}
 use Rattle.state.specs.declared.Pending.{Pending}
 use Rattle.mount.proofs.View.{View}
 use Rattle.refinement.specs.Stores.{World}
-use Rattle.refinement.specs.Calls.{worldOf}
+use Rattle.refinement.specs.Calls.{world_of}
 use Rattle.refinement.specs.Run.{Call, Result, exec}
 use Rattle.refinement.specs.Reference.{Reference, turn}
 use Rattle.refinement.specs.Statement.{AllLent}
@@ -25,40 +25,40 @@ use Rattle.refinement.proofs.MountCall.{mount-viewed}
 use Rattle.refinement.proofs.Reached.{always}
 use Rattle.refinement.proofs.Viewed.{Viewed}
 use Rattle.leftovers.specs.Leftovers.{Replaced, SameFrom, Unseen, LeftoversNeverShow}
-use Rattle.leftovers.proofs.AfterMount.{foundState, Found, found-invariant, after-mount}
+use Rattle.leftovers.proofs.AfterMount.{found_state, Found, found-invariant, after-mount}
 use Rattle.leftovers.proofs.Alike.{Alike}
 use Rattle.leftovers.proofs.CallSame.{call_same, call-alike}
 use Rattle.leftovers.proofs.Replaced.{still-shows, still-taken, still-shown, still_alike}
 
 same_from : {past past' : List ℕ} (calls : List Call) → AllLent calls → (st : State) (x y : List ℕ) (b : Reference)
-    → Invariant past (worldOf st x) b → Invariant past' (worldOf st y) b → Alike x y → SameFrom calls (worldOf st x) (worldOf st y)
+    → Invariant past (world_of st x) b → Invariant past' (world_of st y) b → Alike x y → SameFrom calls (world_of st x) (world_of st y)
 same_from [] lent st x y b h k a = tt
 same_from {past = past} {past' = past'} (c ∷ cs) lent st x y b h k a =
-    let d : Result = exec c (worldOf st x) in
-    let e : Result = exec c (worldOf st y) in
+    let d : Result = exec c (world_of st x) in
+    let e : Result = exec c (world_of st y) in
     let s = call_same st x y b h k a c in
-    let m = call-sound c lent.0 (worldOf st x) b h in
+    let m = call-sound c lent.0 (world_of st x) b h in
     let next : Reference = turn c d.number d.stores b in
-    let other : Invariant past' (worldOf d.world.st e.world.image) next =
-    subst (λ (t : State). Invariant past' (worldOf t e.world.image) next) (sym s.state)
+    let other : Invariant past' (world_of d.world.st e.world.image) next =
+    subst (λ (t : State). Invariant past' (world_of t e.world.image) next) (sym s.state)
     (subst (λ (n : ℕ). Invariant past' e.world (turn c n d.stores b)) (sym s.number)
-    (subst (λ (n : ℕ). Invariant past' e.world (turn c e.number n b)) (sym s.stores) (call-sound c lent.0 (worldOf st y) b k).related)) in
+    (subst (λ (n : ℕ). Invariant past' e.world (turn c e.number n b)) (sym s.stores) (call-sound c lent.0 (world_of st y) b k).related)) in
     let rest =
     same_from cs lent.1 d.world.st d.world.image e.world.image next m.related other
     (call-alike st x y b h k a c) in
-    (s, subst (λ (t : State). SameFrom cs d.world (worldOf t e.world.image)) s.state rest)
+    (s, subst (λ (t : State). SameFrom cs d.world (world_of t e.world.image)) s.state rest)
 
 module _ {past : List ℕ} (w : World) (b : Reference) (s : Viewed past w.st w.image b) (d : Wide) (p : Pending) (F : Found s.view d p) where
   abbrev view : View
   view = s.view
 
   abbrev st : State
-  st = foundState view d p
+  st = found_state view d p
 
-  unseen_of : (image : List ℕ) → Replaced (worldOf st w.image) image → Unseen (worldOf st w.image) (worldOf st image)
+  unseen_of : (image : List ℕ) → Replaced (world_of st w.image) image → Unseen (world_of st w.image) (world_of st image)
   unseen_of image R =
       let img = w.image in
-      let u : World = worldOf st image in
+      let u : World = world_of st image in
       let shows = still-shows img view s.shows s.mounts d p F image R in
       let taken = still-taken img view s.shows s.mounts d p F image R in
       let shown = still-shown img view s.shows s.mounts d p F image R b s.bytes s.shown in
@@ -76,4 +76,4 @@ pub leftovers-never-show : LeftoversNeverShow
 leftovers-never-show =
     always _ (λ z buffer w b h.
     let s = (standing-of w b h.related).viewed in
-    after-mount (λ v. (image : List ℕ) → Replaced v image → Unseen v (worldOf v.st image)) w b s (unseen_of w b s))
+    after-mount (λ v. (image : List ℕ) → Replaced v image → Unseen v (world_of v.st image)) w b s (unseen_of w b s))

@@ -11,10 +11,10 @@ use borrow.Author.Tests.{ltb-false, leb-true}
 use Rattle.bounded.proofs.Rows.{none-apply}
 use Rattle.bounded.proofs.Tests.{and_right, or_right}
 use Rattle.words.specs.Words.{word}
-use Rattle.mount.specs.Mount.{sizesFrom}
+use Rattle.mount.specs.Mount.{sizes_from}
 use Rattle.state.specs.State.{State}
-use Rattle.refinement.specs.Calls.{readRows, readRow}
-use Rattle.refinement.specs.Recall.{recallRows, recallRow}
+use Rattle.refinement.specs.Calls.{read_rows, read_row}
+use Rattle.refinement.specs.Recall.{recall_rows, recall_row}
 use Rattle.text.specs.declared.Line.{Line}
 use Rattle.workbench.specs.Turns.{arg}
 
@@ -26,15 +26,15 @@ take-zeros zero n h = refl
 take-zeros (suc t) zero h = absurd (not-suc-le-zero h)
 take-zeros (suc t) (suc n) h = ap (λ (l : List ℕ). 0 ∷ l) (take-zeros t n (le_of_suc-le-suc h))
 
-pub read-long : (st : State) (img : List ℕ) (w p l : ℕ) (target : List ℕ) → readRow st img w p l target ≡ 0 → 64 ≤ length target
-unfolding readRow
+pub read-long : (st : State) (img : List ℕ) (w p l : ℕ) (target : List ℕ) → read_row st img w p l target ≡ 0 → 64 ≤ length target
+unfolding read_row
 read-long st img w p l target e =
-    let h = none-apply (readRows st img w p l target) (omega arith) e in
+    let h = none-apply (read_rows st img w p l target) (omega arith) e in
     ltb-false (length target) 64 (or_right (ltb 3 w || leb st.sizes.pages p || ltb 63 l) (ltb (length target) 64) h.1.1.1.0)
 
-pub recall-long : (img : List ℕ) (p l : ℕ) (target : List ℕ) → recallRow img p l target ≡ 0 → 64 ≤ length target
-unfolding recallRow
+pub recall-long : (img : List ℕ) (p l : ℕ) (target : List ℕ) → recall_row img p l target ≡ 0 → 64 ≤ length target
+unfolding recall_row
 recall-long img p l target e =
-    let h = none-apply (recallRows img p l target) (omega arith) e in
+    let h = none-apply (recall_rows img p l target) (omega arith) e in
     ltb-false (length target) 64
-    (or_right (leb (sizesFrom (word img)).pages p || ltb 63 l) (ltb (length target) 64) h.1.1.1.1.1.1.1.0)
+    (or_right (leb (sizes_from (word img)).pages p || ltb 63 l) (ltb (length target) 64) h.1.1.1.1.1.1.1.0)

@@ -1,6 +1,6 @@
 // Read and recall into a target of t bytes, at first zero: R and E.
 ghost use Rattle.std.specs.Prelude.{◌≡◌, ◌≤◌, length};
-ghost use Rattle.line_calls.specs.Calls.{lineSaid, readInto, readSaid, recallInto, recallSaid};
+ghost use Rattle.line_calls.specs.Calls.{line_said, read_into, read_said, recall_into, recall_said};
 ghost use Rattle.state_words.specs.Decoded.{decoded};
 
 use state_words::Words;
@@ -10,7 +10,7 @@ use workbench::Said;
 // A refused call's answer, or the hash of the 64 bytes that a taken one put into its target.
 fn said(number: usize, target: &[u8]) -> Said
     requires { number ≡ 0 → 64 ≤ length target.now }
-    ensures { result ≡ lineSaid number target.now }
+    ensures { result ≡ line_said number target.now }
 {
     if number == 0 {
         return Said::Hash(hashing::hash(&target[..64]));
@@ -20,7 +20,7 @@ fn said(number: usize, target: &[u8]) -> Said
 
 // A read's answer, or the hash of the 64 bytes.
 fn read_into(image: &[u8], words: &Words, line: Line, target: &mut [u8]) -> Said
-    ensures { result ≡ readInto (decoded words.now) image.now line target.old }
+    ensures { result ≡ read_into (decoded words.now) image.now line target.old }
 {
     let answer = call_read::read(
         image,
@@ -34,7 +34,7 @@ fn read_into(image: &[u8], words: &Words, line: Line, target: &mut [u8]) -> Said
 }
 
 pub fn read(image: &[u8], words: &Words, line: Line) -> Said
-    ensures { result ≡ readSaid (decoded words.now) image.now line }
+    ensures { result ≡ read_said (decoded words.now) image.now line }
 {
     let t = line.numbers[3] as usize;
     if (line.count == 4) & (t <= 128) {
@@ -46,7 +46,7 @@ pub fn read(image: &[u8], words: &Words, line: Line) -> Said
 
 // A recall's answer, or the hash of the 64 bytes.
 fn recall_into(image: &[u8], line: Line, target: &mut [u8]) -> Said
-    ensures { result ≡ recallInto image.now line target.old }
+    ensures { result ≡ recall_into image.now line target.old }
 {
     let number = recalling::recall(
         line.numbers[0] as usize,
@@ -58,7 +58,7 @@ fn recall_into(image: &[u8], line: Line, target: &mut [u8]) -> Said
 }
 
 pub fn recall(image: &[u8], line: Line) -> Said
-    ensures { result ≡ recallSaid image.now line }
+    ensures { result ≡ recall_said image.now line }
 {
     let t = line.numbers[2] as usize;
     if (line.count == 3) & (t <= 128) {

@@ -5,16 +5,16 @@ use mathlib.Core.Path.{◌≡◌, refl, sym, ap, ◌∙◌}
 use lib.Bits.{bit_and, and_comm}
 use lib.Dec.{eqb}
 use borrow.Author.Tests.{eqb-true}
-use Rattle.masks.specs.Lines.{inMask, disjoint}
+use Rattle.masks.specs.Lines.{in_mask, disjoint}
 use Rattle.masks.proofs.Bits.{in_and}
 use Rattle.masks.proofs.Members.{in-none}
 
-both-in : (a b i : ℕ) → disjoint a b ≡ true → inMask a i && inMask b i ≡ false
+both-in : (a b i : ℕ) → disjoint a b ≡ true → in_mask a i && in_mask b i ≡ false
 unfolding disjoint
-both-in a b i e = sym (in_and a b i) ∙ ap (λ (x : ℕ). inMask x i) (eqb-true (bit_and a b) 0 e) ∙ in-none i
+both-in a b i e = sym (in_and a b i) ∙ ap (λ (x : ℕ). in_mask x i) (eqb-true (bit_and a b) 0 e) ∙ in-none i
 
-pub disjoint-at : (a b : ℕ) → disjoint a b ≡ true → (i : ℕ) → inMask a i ≡ true → inMask b i ≡ false
-disjoint-at a b e i t = ap (λ (x : Bool). x && inMask b i) (sym t) ∙ both-in a b i e
+pub disjoint-at : (a b : ℕ) → disjoint a b ≡ true → (i : ℕ) → in_mask a i ≡ true → in_mask b i ≡ false
+disjoint-at a b e i t = ap (λ (x : Bool). x && in_mask b i) (sym t) ∙ both-in a b i e
 
 pub disjoint-sym : (a b : ℕ) → disjoint a b ≡ disjoint b a
 unfolding disjoint

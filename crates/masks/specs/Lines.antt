@@ -1,19 +1,19 @@
--- Sets of lines, kept as 64-bit masks: bit i, of worth 2 ^ i, is line i. All that is said of a mask goes by `inMask`.
+-- Sets of lines, kept as 64-bit masks: bit i, of worth 2 ^ i, is line i. All that is said of a mask goes by `in_mask`.
 use Rattle.std.specs.Prelude.{ℕ, ◌-◌, ◌/◌, ◌%◌, ◌^◌, Bool, not, List, eqb}
 use Rattle.std.specs.Int.Bits.{bit_and, bit_or, bit_xor}
-use Rattle.bounded.specs.Below.{countBelow, those}
+use Rattle.bounded.specs.Below.{count_below, those}
 
 -- whether line i is in the set
-unfoldable pub inMask : ℕ → ℕ → Bool
-inMask m i = eqb (m / 2 ^ i % 2) 1
+unfoldable pub in_mask : ℕ → ℕ → Bool
+in_mask m i = eqb (m / 2 ^ i % 2) 1
 
 -- the set with line i
-unfoldable pub withLine : ℕ → ℕ → ℕ
-withLine m i = bit_or m (2 ^ i)
+unfoldable pub with_line : ℕ → ℕ → ℕ
+with_line m i = bit_or m (2 ^ i)
 
 -- the lines that are in one of the two and not in the other
-unfoldable pub exclusiveOr : ℕ → ℕ → ℕ
-exclusiveOr a b = bit_xor a b
+unfoldable pub exclusive_or : ℕ → ℕ → ℕ
+exclusive_or a b = bit_xor a b
 
 -- whether no line is in both
 unfoldable pub disjoint : ℕ → ℕ → Bool
@@ -24,12 +24,12 @@ unfoldable pub others : ℕ → ℕ
 others m = 2 ^ 64 - 1 - m
 
 -- the lines of the set, rising, and how many they are
-unfoldable pub linesIn : ℕ → List ℕ
-linesIn m = those 64 (inMask m)
+unfoldable pub lines_in : ℕ → List ℕ
+lines_in m = those 64 (in_mask m)
 
-unfoldable pub countLines : ℕ → ℕ
-countLines m = countBelow 64 (inMask m)
+unfoldable pub count_lines : ℕ → ℕ
+count_lines m = count_below 64 (in_mask m)
 
 -- the lines that are not in the set, rising
-unfoldable pub linesNotIn : ℕ → List ℕ
-linesNotIn m = those 64 (λ i. not (inMask m i))
+unfoldable pub lines_not_in : ℕ → List ℕ
+lines_not_in m = those 64 (λ i. not (in_mask m i))

@@ -1,11 +1,11 @@
 // Sets of the 64 lines of a page, as masks (document 01: "Held and committed lines are sets kept as 64-bit masks").
 ghost use Rattle.std.specs.Prelude.{◌≡◌, ◌<◌, get_or};
-ghost use Rattle.masks.specs.Lines.{inMask, withLine, exclusiveOr, disjoint, others, linesIn, linesNotIn, countLines};
+ghost use Rattle.masks.specs.Lines.{in_mask, with_line, exclusive_or, disjoint, others, lines_in, lines_not_in, count_lines};
 
 // Whether line i is in m.
 pub fn has(m: u64, i: usize) -> bool
     requires { i < 64 }
-    ensures { result ≡ inMask m i }
+    ensures { result ≡ in_mask m i }
 {
     (m >> i) % 2 == 1
 }
@@ -13,14 +13,14 @@ pub fn has(m: u64, i: usize) -> bool
 // m with line i.
 pub fn with(m: u64, i: usize) -> u64
     requires { i < 64 }
-    ensures { result ≡ withLine m i }
+    ensures { result ≡ with_line m i }
 {
     m | (1 << i)
 }
 
 // The lines that are in one of a and b and not in the other.
 pub fn exclusive_or(a: u64, b: u64) -> u64
-    ensures { result ≡ exclusiveOr a b }
+    ensures { result ≡ exclusive_or a b }
 {
     a ^ b
 }
@@ -34,14 +34,14 @@ pub fn are_disjoint(a: u64, b: u64) -> bool
 
 // How many lines are in m.
 pub fn count(m: u64) -> usize
-    ensures { result ≡ countLines m }
+    ensures { result ≡ count_lines m }
 {
     u64::count_ones(m) as usize
 }
 
 // The line of m that has n lines of m below it, or 64 where there is none.
 pub fn nth_in(m: u64, n: usize) -> usize
-    ensures { result ≡ get_or (linesIn m) n 64 }
+    ensures { result ≡ get_or (lines_in m) n 64 }
 {
     let mut left = n;
     let mut i = 0;
@@ -66,7 +66,7 @@ fn complement(m: u64) -> u64
 
 // The line outside m that has n lines outside m below it, or 64 where there is none.
 pub fn nth_not_in(m: u64, n: usize) -> usize
-    ensures { result ≡ get_or (linesNotIn m) n 64 }
+    ensures { result ≡ get_or (lines_not_in m) n 64 }
 {
     nth_in(complement(m), n)
 }

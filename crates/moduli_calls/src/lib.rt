@@ -3,8 +3,8 @@ pub mod loading;
 
 ghost use Rattle.std.specs.Prelude.{◌≡◌};
 ghost use Rattle.state_words.specs.Decoded.{decoded};
-ghost use Rattle.workbench.specs.Turns.{turnAt};
-ghost use Rattle.moduli_calls.specs.Calls.{eventTurn};
+ghost use Rattle.workbench.specs.Turns.{turn_at};
+ghost use Rattle.moduli_calls.specs.Calls.{event_turn};
 
 use call_turns::answered;
 use op_stores::Until;
@@ -15,7 +15,7 @@ use workbench::moduli::{LENT, Moduli};
 
 // It is asked for, and no byte changes.
 pub fn event(image: &mut [u8], words: &mut Words, table: Moduli, line: Line) -> Said
-    ensures turn { turnAt result words.new ≡ eventTurn (decoded words.old) image.old table line }
+    ensures turn { turn_at result words.new ≡ event_turn (decoded words.old) image.old table line }
     ensures bytes { image.new ≡ image.old }
 {
     if line.count == 3 { // K,kind,meter,amount

@@ -1,10 +1,10 @@
 // A load: its text is a part of the buffer, its image the bytes lent.
 ghost use Rattle.std.specs.Prelude.{◌≡◌, true, ◌+◌, ◌≤◌, leb, length, take};
 ghost use Rattle.words.specs.Words.{part};
-ghost use Rattle.hashing.specs.Hash.{hashOf};
+ghost use Rattle.hashing.specs.Hash.{hash_of};
 ghost use Rattle.state_words.specs.Decoded.{decoded};
 ghost use Rattle.refinement.specs.Calls.{load_of};
-ghost use Rattle.moduli_calls.specs.Calls.{moduliBytes, loadedSaid, tableBy, loadSaid, tableLoaded};
+ghost use Rattle.moduli_calls.specs.Calls.{moduli_bytes, loaded_said, table_by, load_said, table_loaded};
 
 use state_words::Words;
 use text::Line;
@@ -23,7 +23,7 @@ fn is_within(size: usize, at: usize, n: usize) -> bool
 
 // The hash of the moduli, each as 8 bytes.
 fn hash_moduli(moduli: [u64; 24]) -> u64
-    ensures { result ≡ hashOf (moduliBytes moduli) }
+    ensures { result ≡ hash_of (moduli_bytes moduli) }
 {
     let mut bytes = [0u8; 192];
     let mut i = 0;
@@ -36,9 +36,9 @@ fn hash_moduli(moduli: [u64; 24]) -> u64
 
 // A load of this text; a taken one replaces the table.
 fn load_text(image: &[u8], words: &Words, table: &mut Moduli, text: &[u8]) -> Said
-    ensures said { result ≡ loadedSaid (load_of (decoded words.now) image.now text.now) }
+    ensures said { result ≡ loaded_said (load_of (decoded words.now) image.now text.now) }
     ensures table { table.new
-        ≡ tableBy table.old (load_of (decoded words.now) image.now text.now) }
+        ≡ table_by table.old (load_of (decoded words.now) image.now text.now) }
 {
     let loaded = call_load::load(image, words, text);
     let answer = loaded.answer;
@@ -53,9 +53,9 @@ fn load_text(image: &[u8], words: &Words, table: &mut Moduli, text: &[u8]) -> Sa
 
 // The text is a part of the whole buffer; the image is what is lent of it.
 pub fn load(buffer: &[u8], words: &Words, table: &mut Moduli, lent: usize, line: Line) -> Said
-    ensures said { result ≡ loadSaid (decoded words.now) (take lent buffer.now) buffer.now line }
+    ensures said { result ≡ load_said (decoded words.now) (take lent buffer.now) buffer.now line }
     ensures table { table.new
-        ≡ tableLoaded (decoded words.now) (take lent buffer.now) buffer.now table.old line }
+        ≡ table_loaded (decoded words.now) (take lent buffer.now) buffer.now table.old line }
 {
     let at = line.numbers[0] as usize;
     let n = line.numbers[1] as usize;

@@ -7,7 +7,7 @@ use borrow.Author.Tests.{leb-true}
 use Rattle.bounded.proofs.Tests.{and_right}
 use Rattle.text.specs.declared.Line.{Line}
 use Rattle.workbench.specs.Turns.{arg}
-use Rattle.moduli_edits.specs.Edits.{modulusForm}
+use Rattle.moduli_edits.specs.Edits.{modulus_form}
 
-pub modulus-formed : (line : Line) → modulusForm line ≡ true → arg line 0 ≤ 23
+pub modulus-formed : (line : Line) → modulus_form line ≡ true → arg line 0 ≤ 23
 modulus-formed line e = leb-true (arg line 0) 23 (and_right (eqb line.count 2) (leb (arg line 0) 23) e)

@@ -1,6 +1,6 @@
 // m and k: a modulus of the table, and how many of its first ones events are lent.
 ghost use Rattle.std.specs.Prelude.{◌≡◌};
-ghost use Rattle.moduli_edits.specs.Edits.{modulusSaid, modulusSet, countSaid, countSet};
+ghost use Rattle.moduli_edits.specs.Edits.{modulus_said, modulus_set, count_said, count_set};
 
 use text::Line;
 use workbench::Said;
@@ -8,8 +8,8 @@ use workbench::moduli::{LENT, Moduli};
 
 // A modulus becomes v.
 pub fn set_modulus(table: &mut Moduli, line: Line) -> Said
-    ensures said { result ≡ modulusSaid line }
-    ensures table { table.new ≡ modulusSet table.old line }
+    ensures said { result ≡ modulus_said line }
+    ensures table { table.new ≡ modulus_set table.old line }
 {
     let i = line.numbers[0] as usize;
     if (line.count == 2) & (i <= 23) {
@@ -21,8 +21,8 @@ pub fn set_modulus(table: &mut Moduli, line: Line) -> Said
 
 // Events are lent the first n.
 pub fn set_count(table: &mut Moduli, line: Line) -> Said
-    ensures said { result ≡ countSaid line }
-    ensures table { table.new ≡ countSet table.old line }
+    ensures said { result ≡ count_said line }
+    ensures table { table.new ≡ count_set table.old line }
 {
     let n = line.numbers[0];
     if (line.count == 1) & (n <= 24) {

@@ -2,7 +2,7 @@
 // number of digits: no sum wraps.
 ghost use Rattle.std.specs.Prelude.{◌≡◌, ◌+◌, ◌-◌, ◌*◌, ◌<◌, ◌≤◌, min, length, replicate};
 ghost use Rattle.bounded.specs.Rows.{refusal};
-ghost use Rattle.moduli_text.specs.Text.{placeOf, isDigit, plainDecimal, value_of, modulusIn, entry_rows, lineRows, firstLine, firstRows, read_of};
+ghost use Rattle.moduli_text.specs.Text.{place_of, is_digit, plain_decimal, value_of, modulus_in, entry_rows, line_rows, first_line, first_rows, read_of};
 
 // One more than the largest modulus: a larger number is as good as this one.
 const BEYOND: u64 = 1000000000001;
@@ -24,7 +24,7 @@ pub struct Moduli {
 
 // The place of the first byte b, the length where there is none.
 fn place_of(b: u8, s: &[u8]) -> usize
-    ensures { result ≡ placeOf b s.now }
+    ensures { result ≡ place_of b s.now }
 {
     let mut i = 0;
     while i < s.len() {
@@ -38,14 +38,14 @@ fn place_of(b: u8, s: &[u8]) -> usize
 
 // Whether b is a digit.
 fn is_digit(b: u8) -> bool
-    ensures { result ≡ isDigit b }
+    ensures { result ≡ is_digit b }
 {
     (48 <= b) & (b <= 57)
 }
 
 // Whether this is a decimal without leading zeros.
 fn is_plain(s: &[u8]) -> bool
-    ensures { result ≡ plainDecimal s.now }
+    ensures { result ≡ plain_decimal s.now }
 {
     if s.len() == 0 {
         return false;
@@ -132,7 +132,7 @@ fn entry_of<'a>(meter: &'a [u8], modulus: &'a [u8], m: usize) -> Entry
 // The line of meter m.
 fn line_entry(line: &[u8], m: usize) -> Entry
     requires { m < 24 }
-    ensures { (result.row ≡ refusal (lineRows m line.now)) × (result.row ≡ 0 → result.modulus ≡ modulusIn line.now) }
+    ensures { (result.row ≡ refusal (line_rows m line.now)) × (result.row ≡ 0 → result.modulus ≡ modulus_in line.now) }
 {
     let comma = place_of(44, line);
     if line.len() <= comma {
@@ -144,9 +144,9 @@ fn line_entry(line: &[u8], m: usize) -> Entry
 // The line at the start of a text, which is that of meter m.
 fn first_entry(text: &[u8], m: usize) -> Entry
     requires { m < 24 }
-    ensures { (result.row ≡ refusal (firstRows m text.now))
-        × (result.row ≡ 0 → (result.length ≡ placeOf 10 text.now) × (result.length < length text.now)
-        × (result.modulus ≡ modulusIn (firstLine text.now))) }
+    ensures { (result.row ≡ refusal (first_rows m text.now))
+        × (result.row ≡ 0 → (result.length ≡ place_of 10 text.now) × (result.length < length text.now)
+        × (result.modulus ≡ modulus_in (first_line text.now))) }
 {
     let n = place_of(10, text);
     if text.len() <= n {

@@ -7,12 +7,12 @@ use mathlib.Core.List.{List}
 use native.Mathlib.Omega.{arith}
 use lib.ListN.{length}
 use Rattle.bounded.specs.Below.{up_to}
-use Rattle.layout.specs.Layout.{Legal, frames, placeOf, pageWord, slotWord, recordWord, paddingWord, lineWord, entryWord}
+use Rattle.layout.specs.Layout.{Legal, frames, place_of, page_word, slot_word, record_word, padding_word, line_word, entry_word}
 use Rattle.words.specs.Words.{word, store, Bytes}
 use Rattle.words.proofs.WordLaws.{word-store-other, length-store, store_same}
 use Rattle.layout.proofs.LayoutLaws.{place-lt}
 use Rattle.journal.specs.Records.{position}
-use Rattle.replay.specs.Table.{noPosition, lastIn, slot_of}
+use Rattle.replay.specs.Table.{no_position, last_in, slot_of}
 use Rattle.journal.proofs.Ring.{Positions, new_apart}
 use Rattle.mount.proofs.View.{View, live, view_of, Shows, Read, header, wide, journal, slot, page, entry, same_view}
 
@@ -56,7 +56,7 @@ module _ (v : View) where
   dead-header o a l m (entry i h n e) = omega arith
 
   -- from the padding up to the entries
-  pub dead-between : Legal v.sizes → (a : ℕ) → paddingWord v.sizes ≤ a → a < entryWord v.sizes 0 → Dead v a
+  pub dead-between : Legal v.sizes → (a : ℕ) → padding_word v.sizes ≤ a → a < entry_word v.sizes 0 → Dead v a
   dead-between g a l m (header h) = omega arith
   dead-between g a l m (wide q h) = omega arith
   dead-between g a l m (journal i k h n e) = omega (arith, place-lt v.sizes g (position v.sizes v.tail i))
@@ -65,11 +65,11 @@ module _ (v : View) where
   dead-between g a l m (entry i h n e) = omega arith
 
   -- as is every word of a frame
-  pub dead-line : Legal v.sizes → (f l k : ℕ) → f < frames v.sizes → l < 64 → k < 8 → Dead v (lineWord v.sizes f l + k)
-  dead-line g f l k a b c = dead-between g (lineWord v.sizes f l + k) (omega arith) (omega arith)
+  pub dead-line : Legal v.sizes → (f l k : ℕ) → f < frames v.sizes → l < 64 → k < 8 → Dead v (line_word v.sizes f l + k)
+  dead-line g f l k a b c = dead-between g (line_word v.sizes f l + k) (omega arith) (omega arith)
 
   -- a word of an entry: of its line, or its key where it is not counted
-  pub dead-entry : Legal v.sizes → (e k : ℕ) → k < 9 → (k ≡ 0 → v.count ≤ e) → Dead v (entryWord v.sizes e + k)
+  pub dead-entry : Legal v.sizes → (e k : ℕ) → k < 9 → (k ≡ 0 → v.count ≤ e) → Dead v (entry_word v.sizes e + k)
   dead-entry g e k l f (header h) = omega arith
   dead-entry g e k l f (wide q h) = omega arith
   dead-entry g e k l f (journal i j h n q) = omega (arith, place-lt v.sizes g (position v.sizes v.tail i))
@@ -81,8 +81,8 @@ module _ (v : View) where
       omega (arith, f b)
 
   -- a place that no live position has
-  pub dead-place : Legal v.sizes → (q k : ℕ) → k < 4 → ((i : ℕ) → i < live v → placeOf v.sizes (position v.sizes v.tail i) ≡ placeOf v.sizes q → ⊥)
-      → Dead v (recordWord v.sizes q + k)
+  pub dead-place : Legal v.sizes → (q k : ℕ) → k < 4 → ((i : ℕ) → i < live v → place_of v.sizes (position v.sizes v.tail i) ≡ place_of v.sizes q → ⊥)
+      → Dead v (record_word v.sizes q + k)
   dead-place g q k l f (header h) = omega arith
   dead-place g q k l f (wide o h) = omega arith
   dead-place g q k l f (journal i m h n e) = f i h (omega arith)
@@ -92,23 +92,23 @@ module _ (v : View) where
 
   -- as has the position j after head, while there is room
   pub dead-new : Legal v.sizes → Positions v.sizes v.head v.tail → (j k : ℕ) → live v + j < v.sizes.places → k < 4
-      → Dead v (recordWord v.sizes (position v.sizes v.head j) + k)
+      → Dead v (record_word v.sizes (position v.sizes v.head j) + k)
   dead-new g p j k h l =
       dead-place g (position v.sizes v.head j) k l (λ i m e. new_apart v.sizes g v.head v.tail p i j m h e)
 
   -- a slot with a live record
-  pub dead-slot : (s k : ℕ) → s < v.sizes.slots → k < 3 → (lastIn v.table s ≡ noPosition → ⊥) → Dead v (slotWord v.sizes s + k)
+  pub dead-slot : (s k : ℕ) → s < v.sizes.slots → k < 3 → (last_in v.table s ≡ no_position → ⊥) → Dead v (slot_word v.sizes s + k)
   dead-slot s k h l f (header m) = omega arith
   dead-slot s k h l f (wide o m) = omega arith
   dead-slot s k h l f (journal i n m o e) = omega arith
   dead-slot s k h l f (slot u n m q o e) =
       let w : u ≡ s = omega arith in
-      f (ap (lastIn v.table) (sym w) ∙ q)
+      f (ap (last_in v.table) (sym w) ∙ q)
   dead-slot s k h l f (page p m q e) = omega arith
   dead-slot s k h l f (entry i m n e) = omega arith
 
   -- a page with a slot
-  pub dead-page : (p : ℕ) → p < v.sizes.pages → slot_of v.sizes v.table p < v.sizes.slots → Dead v (pageWord p)
+  pub dead-page : (p : ℕ) → p < v.sizes.pages → slot_of v.sizes v.table p < v.sizes.slots → Dead v (page_word p)
   dead-page p h f (header m) = omega arith
   dead-page p h f (wide o m) = omega arith
   dead-page p h f (journal i n m o e) = omega arith

@@ -12,15 +12,15 @@ use Rattle.bounded.specs.Rows.{Row, refusal, Past, Numbered}
 use Rattle.bounded.proofs.Rows.{row_at, row-none}
 use Rattle.bounded.proofs.Tests.{row-yes, row-no}
 use Rattle.layout.specs.declared.Sizes.{Sizes}
-use Rattle.layout.specs.Layout.{headWord, tailWord}
+use Rattle.layout.specs.Layout.{head_word, tail_word}
 use Rattle.words.specs.Words.{word}
 use Rattle.journal.specs.declared.Record.{Record}
 use Rattle.replay.specs.declared.Table.{Table}
 use Rattle.mount.specs.declared.Judged.{Judged}
-use Rattle.journal.specs.Records.{position, liveCount, positionsOk, liveRecord, recordRight, recordOk, recordsOk}
-use Rattle.replay.specs.Table.{tableFrom, replay}
-use Rattle.entries.specs.Entries.{keysFrom, entriesOk}
-use Rattle.mount.specs.Mount.{sizesFrom, liveFrom, tableAfter, countFrom, keysAfter, mountRows, turnedBack, found, mountRead, mountOf, judged}
+use Rattle.journal.specs.Records.{position, live_count, positions_ok, live_record, record_right, record_ok, records_ok}
+use Rattle.replay.specs.Table.{table_from, replay}
+use Rattle.entries.specs.Entries.{keys_from, entries_ok}
+use Rattle.mount.specs.Mount.{sizes_from, live_from, table_after, count_from, keys_after, mount_rows, turned_back, found, mount_read, mount_of, judged}
 
 -- ---- any table of refusals
 
@@ -42,58 +42,58 @@ taken z head tail t count keys = record { row = 0; sizes = z; head = head; tail 
 -- ---- the header as it was read, and what is worked out from it
 
 pub record Header (r : ℕ → ℕ) (z : Sizes) (head tail : ℕ) : Type 0 where
-  pub sizes-is : z ≡ sizesFrom r
-  pub head-is : head ≡ r headWord
-  pub tail-is : tail ≡ r tailWord
+  pub sizes-is : z ≡ sizes_from r
+  pub head-is : head ≡ r head_word
+  pub tail-is : tail ≡ r tail_word
 
 module _ {r : ℕ → ℕ} {z : Sizes} {head tail : ℕ} (h : Header r z head tail) where
-  read : {X : Type 0} (f : Sizes → ℕ → ℕ → X) → f z head tail ≡ f (sizesFrom r) (r headWord) (r tailWord)
-  read f = ap (λ (y : Sizes). f y head tail) h.sizes-is ∙ ap₂ (f (sizesFrom r)) h.head-is h.tail-is
+  read : {X : Type 0} (f : Sizes → ℕ → ℕ → X) → f z head tail ≡ f (sizes_from r) (r head_word) (r tail_word)
+  read f = ap (λ (y : Sizes). f y head tail) h.sizes-is ∙ ap₂ (f (sizes_from r)) h.head-is h.tail-is
 
-  pub positions-read : positionsOk z head tail ≡ positionsOk (sizesFrom r) (r headWord) (r tailWord)
-  positions-read = read positionsOk
+  pub positions-read : positions_ok z head tail ≡ positions_ok (sizes_from r) (r head_word) (r tail_word)
+  positions-read = read positions_ok
 
-  pub records-read : (n : ℕ) → n ≡ liveCount z head tail
-      → recordsOk z tail n (liveRecord r z tail) ≡ recordsOk (sizesFrom r) (r tailWord) (liveFrom r) (liveRecord r (sizesFrom r) (r tailWord))
+  pub records-read : (n : ℕ) → n ≡ live_count z head tail
+      → records_ok z tail n (live_record r z tail) ≡ records_ok (sizes_from r) (r tail_word) (live_from r) (live_record r (sizes_from r) (r tail_word))
   records-read n e =
-      ap (λ (k : ℕ). recordsOk z tail k (liveRecord r z tail)) e ∙ read (λ y a b. recordsOk y b (liveCount y a b) (liveRecord r y b))
+      ap (λ (k : ℕ). records_ok z tail k (live_record r z tail)) e ∙ read (λ y a b. records_ok y b (live_count y a b) (live_record r y b))
 
-  pub table-read : (n : ℕ) → n ≡ liveCount z head tail → replay z tail n (liveRecord r z tail) (tableFrom r z) ≡ tableAfter r
+  pub table-read : (n : ℕ) → n ≡ live_count z head tail → replay z tail n (live_record r z tail) (table_from r z) ≡ table_after r
   table-read n e =
-      ap (λ (k : ℕ). replay z tail k (liveRecord r z tail) (tableFrom r z)) e
-      ∙ read (λ y a b. replay y b (liveCount y a b) (liveRecord r y b) (tableFrom r y))
+      ap (λ (k : ℕ). replay z tail k (live_record r z tail) (table_from r z)) e
+      ∙ read (λ y a b. replay y b (live_count y a b) (live_record r y b) (table_from r y))
 
   -- the keys of the entries that are counted
-  pub keys-read : (n : ℕ) → n ≡ countFrom r → keysFrom r z n ≡ keysAfter r
-  keys-read n e = ap₂ (keysFrom r) h.sizes-is e
+  pub keys-read : (n : ℕ) → n ≡ count_from r → keys_from r z n ≡ keys_after r
+  keys-read n e = ap₂ (keys_from r) h.sizes-is e
 
-  pub entries-read : (n : ℕ) (keys : List ℕ) → n ≡ countFrom r → keys ≡ keysFrom r z n → entriesOk z keys n ≡ entriesOk (sizesFrom r) (keysAfter r) (countFrom r)
+  pub entries-read : (n : ℕ) (keys : List ℕ) → n ≡ count_from r → keys ≡ keys_from r z n → entries_ok z keys n ≡ entries_ok (sizes_from r) (keys_after r) (count_from r)
   entries-read n keys e k =
-      ap (λ (y : Sizes). entriesOk y keys n) h.sizes-is ∙ ap₂ (entriesOk (sizesFrom r)) (k ∙ keys-read n e) e
+      ap (λ (y : Sizes). entries_ok y keys n) h.sizes-is ∙ ap₂ (entries_ok (sizes_from r)) (k ∙ keys-read n e) e
 
-  pub found-read : (t : Table) (n : ℕ) (keys : List ℕ) → t ≡ tableAfter r → n ≡ countFrom r → keys ≡ keysFrom r z n → taken z head tail t n keys ≡ judged (found r)
+  pub found-read : (t : Table) (n : ℕ) (keys : List ℕ) → t ≡ table_after r → n ≡ count_from r → keys ≡ keys_from r z n → taken z head tail t n keys ≡ judged (found r)
   found-read t n keys e m k =
       ap (λ (u : Table). taken z head tail u n keys) e
-      ∙ ap₂ (taken z head tail (tableAfter r)) m (k ∙ keys-read n m)
-      ∙ read (λ y a b. taken y a b (tableAfter r) (countFrom r) (keysAfter r))
+      ∙ ap₂ (taken z head tail (table_after r)) m (k ∙ keys-read n m)
+      ∙ read (λ y a b. taken y a b (table_after r) (count_from r) (keys_after r))
 
 -- ---- mount
 
-pub mount-past : (img : List ℕ) (k : ℕ) → Past (mountRows (length img) (word img)) k → (get_or (mountRows (length img) (word img)) k (true, 0)).0 ≡ false
-    → Past (mountRows (length img) (word img)) (suc k)
-mount-past img = past_more (mountRows (length img) (word img))
+pub mount-past : (img : List ℕ) (k : ℕ) → Past (mount_rows (length img) (word img)) k → (get_or (mount_rows (length img) (word img)) k (true, 0)).0 ≡ false
+    → Past (mount_rows (length img) (word img)) (suc k)
+mount-past img = past_more (mount_rows (length img) (word img))
 
-pub mount-refused : (img : List ℕ) (k : ℕ) → k < 7 → Past (mountRows (length img) (word img)) k → (get_or (mountRows (length img) (word img)) k (true, 0)).0 ≡ true
-    → judged (turnedBack (get_or (mountRows (length img) (word img)) k (true, 0)).1) ≡ judged (mountOf img)
-unfolding mountOf mountRead
+pub mount-refused : (img : List ℕ) (k : ℕ) → k < 7 → Past (mount_rows (length img) (word img)) k → (get_or (mount_rows (length img) (word img)) k (true, 0)).0 ≡ true
+    → judged (turned_back (get_or (mount_rows (length img) (word img)) k (true, 0)).1) ≡ judged (mount_of img)
+unfolding mount_of mount_read
 mount-refused img k l p t =
-    let rs = mountRows (length img) (word img) in
+    let rs = mount_rows (length img) (word img) in
     let e : (get_or rs k (true, 0)).1 ≡ refusal rs = row_at rs k l p t in
     let n : 0 < (get_or rs k (true, 0)).1 = numbered-at rs k l (omega arith, (omega arith, (omega arith, (omega arith, (omega arith, (omega arith, (omega arith, tt))))))) in
-    ap judged (row-no (eqb (refusal rs) 0) (found (word img)) (turnedBack (refusal rs)) (turnedBack (get_or rs k (true, 0)).1) (ne_eqb (refusal rs) 0 (λ q. omega arith)) (ap turnedBack e))
+    ap judged (row-no (eqb (refusal rs) 0) (found (word img)) (turned_back (refusal rs)) (turned_back (get_or rs k (true, 0)).1) (ne_eqb (refusal rs) 0 (λ q. omega arith)) (ap turned_back e))
 
-pub mount-taken : (img : List ℕ) → Past (mountRows (length img) (word img)) 7 → judged (found (word img)) ≡ judged (mountOf img)
-unfolding mountOf mountRead
+pub mount-taken : (img : List ℕ) → Past (mount_rows (length img) (word img)) 7 → judged (found (word img)) ≡ judged (mount_of img)
+unfolding mount_of mount_read
 mount-taken img p =
-    let rs = mountRows (length img) (word img) in
-    ap judged (row-yes (eqb (refusal rs) 0) (found (word img)) (turnedBack (refusal rs)) (eq-eqb (refusal rs) 0 (sym (row-none rs p))))
+    let rs = mount_rows (length img) (word img) in
+    ap judged (row-yes (eqb (refusal rs) 0) (found (word img)) (turned_back (refusal rs)) (eq-eqb (refusal rs) 0 (sym (row-none rs p))))

@@ -1,7 +1,7 @@
 // What a mount finds on any bytes.
 ghost use Rattle.std.specs.Prelude.{◌≡◌, ◌<◌, ◌≤◌, length};
 ghost use Rattle.words.specs.Words.{word};
-ghost use Rattle.mount.specs.Mount.{wideWord, sizesFrom, turnedBack, mountOf, judged};
+ghost use Rattle.mount.specs.Mount.{wide_word, sizes_from, turned_back, mount_of, judged};
 
 use layout::Sizes;
 use replay::Table;
@@ -22,7 +22,7 @@ pub struct Judged {
 // One of the header's last two words, which are read under layout 2 alone.
 fn wide_word(image: &[u8], i: usize) -> usize
     requires { (64 ≤ length image.now) × (i < 8) }
-    ensures { result ≡ wideWord (word image.now) i }
+    ensures { result ≡ wide_word (word image.now) i }
 {
     if image_words::read_word(image, layout::LAYOUT_WORD) == 2 {
         return image_words::read_word(image, i) as usize;
@@ -33,7 +33,7 @@ fn wide_word(image: &[u8], i: usize) -> usize
 // The sizes in an image's header.
 fn sizes_from(image: &[u8]) -> Sizes
     requires { 64 ≤ length image.now }
-    ensures { result ≡ sizesFrom (word image.now) }
+    ensures { result ≡ sizes_from (word image.now) }
 {
     let pages = image_words::read_word(image, layout::PAGES_WORD);
     let slots = image_words::read_word(image, layout::SLOTS_WORD);
@@ -49,7 +49,7 @@ fn sizes_from(image: &[u8]) -> Sizes
 
 // A row's number, and nothing found.
 fn turned_back(row: usize) -> Judged
-    ensures { result ≡ judged (turnedBack row) }
+    ensures { result ≡ judged (turned_back row) }
 {
     Judged {
         row,
@@ -84,7 +84,7 @@ fn holds(z: Sizes, head: usize, tail: usize, table: Table, count: usize, keys: [
 
 // The first of rows 1 to 7 that applies, or what the image holds.
 pub fn judge(image: &[u8]) -> Judged
-    ensures { result ≡ judged (mountOf image.now) }
+    ensures { result ≡ judged (mount_of image.now) }
 {
     if image.len() < 64 {
         return turned_back(1);

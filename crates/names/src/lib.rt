@@ -1,12 +1,12 @@
 // The frames that spares and pages name (row 7).
 ghost use Rattle.std.specs.Prelude.{◌≡◌, true, ◌≤◌, length, get_or};
 ghost use Rattle.bounded.specs.Tab.{tab};
-ghost use Rattle.bounded.specs.Count.{eachOnce};
-ghost use Rattle.layout.specs.Layout.{Legal, imageLength, frames};
+ghost use Rattle.bounded.specs.Count.{each_once};
+ghost use Rattle.layout.specs.Layout.{Legal, image_length, frames};
 ghost use Rattle.words.specs.Words.{word};
-ghost use Rattle.replay.specs.Table.{pagesApart, home_of, frameNames, tableOk};
-ghost use Rattle.replay.specs.Map.{pageFrames};
-ghost use Rattle.names.specs.Homes.{originalsPut};
+ghost use Rattle.replay.specs.Table.{pages_apart, home_of, frame_names, table_ok};
+ghost use Rattle.replay.specs.Map.{page_frames};
+ghost use Rattle.names.specs.Homes.{originals_put};
 
 use layout::Sizes;
 use replay::Table;
@@ -25,8 +25,8 @@ fn put_spares(names: &mut [u64], z: Sizes, spare: &[usize; 16])
 
 // Puts the page-table words.
 fn put_words(homes: &mut [u64], image: &[u8], z: Sizes)
-    requires { Legal z × (imageLength z ≤ length image.now) × (length homes.old ≡ z.pages) }
-    ensures { homes.new ≡ tab z.pages (pageFrames (word image.now)) }
+    requires { Legal z × (image_length z ≤ length image.now) × (length homes.old ≡ z.pages) }
+    ensures { homes.new ≡ tab z.pages (page_frames (word image.now)) }
 {
     let mut p = 0;
     while p < z.pages {
@@ -38,7 +38,7 @@ fn put_words(homes: &mut [u64], image: &[u8], z: Sizes)
 // Puts each slot's original at its page.
 fn put_originals<'a>(homes: &mut [u64], z: Sizes, page: &'a [usize; 16], original: &'a [usize; 16])
     requires { Legal z × (length homes.old ≡ z.pages) }
-    ensures { homes.new ≡ originalsPut z page.now original.now z.slots homes.old }
+    ensures { homes.new ≡ originals_put z page.now original.now z.slots homes.old }
 {
     let mut s = 0;
     while s < z.slots {
@@ -52,8 +52,8 @@ fn put_originals<'a>(homes: &mut [u64], z: Sizes, page: &'a [usize; 16], origina
 
 // Puts each page's home: its slot's original where it has one, else its page-table word.
 pub fn put_homes(homes: &mut [u64], image: &[u8], z: Sizes, t: Table)
-    requires { Legal z × (imageLength z ≤ length image.now) × (length homes.old ≡ z.pages) × (pagesApart z t.page ≡ true) }
-    ensures { homes.new ≡ tab z.pages (home_of (pageFrames (word image.now)) z t) }
+    requires { Legal z × (image_length z ≤ length image.now) × (length homes.old ≡ z.pages) × (pages_apart z t.page ≡ true) }
+    ensures { homes.new ≡ tab z.pages (home_of (page_frames (word image.now)) z t) }
 {
     put_words(homes, image, z);
     put_originals(homes, z, &t.page, &t.original);
@@ -61,9 +61,9 @@ pub fn put_homes(homes: &mut [u64], image: &[u8], z: Sizes, t: Table)
 
 // Puts both, and says whether they name each frame once.
 fn put_both(spares: &mut [u64], homes: &mut [u64], image: &[u8], z: Sizes, t: Table) -> bool
-    requires { Legal z × (imageLength z ≤ length image.now) × (length spares.old ≡ z.slots) × (length homes.old ≡ z.pages)
-        × (pagesApart z t.page ≡ true) }
-    ensures { result ≡ eachOnce (frames z) (frameNames (pageFrames (word image.now)) z t) }
+    requires { Legal z × (image_length z ≤ length image.now) × (length spares.old ≡ z.slots) × (length homes.old ≡ z.pages)
+        × (pages_apart z t.page ≡ true) }
+    ensures { result ≡ each_once (frames z) (frame_names (page_frames (word image.now)) z t) }
 {
     put_spares(spares, z, &t.spare);
     put_homes(homes, image, z, t);
@@ -72,8 +72,8 @@ fn put_both(spares: &mut [u64], homes: &mut [u64], image: &[u8], z: Sizes, t: Ta
 
 // Whether the spares and the homes name each frame once.
 fn names_once(image: &[u8], z: Sizes, t: Table) -> bool
-    requires { Legal z × (imageLength z ≤ length image.now) × (pagesApart z t.page ≡ true) }
-    ensures { result ≡ eachOnce (frames z) (frameNames (pageFrames (word image.now)) z t) }
+    requires { Legal z × (image_length z ≤ length image.now) × (pages_apart z t.page ≡ true) }
+    ensures { result ≡ each_once (frames z) (frame_names (page_frames (word image.now)) z t) }
 {
     let s = z.slots;
     let p = z.pages;
@@ -84,8 +84,8 @@ fn names_once(image: &[u8], z: Sizes, t: Table) -> bool
 
 // Whether the slots after replay and the page table keep row 7.
 pub fn table_ok(image: &[u8], z: Sizes, t: Table) -> bool
-    requires { Legal z × (imageLength z ≤ length image.now) }
-    ensures { result ≡ tableOk (pageFrames (word image.now)) z t }
+    requires { Legal z × (image_length z ≤ length image.now) }
+    ensures { result ≡ table_ok (page_frames (word image.now)) z t }
 {
     if !replay::slots_shaped(z, &t.page, &t.original, &t.spare, &t.bitmap) {
         return false;

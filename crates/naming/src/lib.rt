@@ -2,7 +2,7 @@
 // once if and only if they leave none out.
 ghost use Rattle.std.specs.Prelude.{◌≡◌, ◌++◌, ◌+◌, ◌-◌, ◌^◌, ◌<◌, ◌≤◌, eqb, ltb, length, get_or, false, ◌||◌};
 ghost use Rattle.bounded.specs.Below.{all_below};
-ghost use Rattle.bounded.specs.Count.{eachOnce};
+ghost use Rattle.bounded.specs.Count.{each_once};
 ghost use Rattle.naming.specs.Marks.{MaskOf, marked, told, MarkedBut};
 
 // How many homes are a run.
@@ -137,7 +137,7 @@ fn all_told(seen: &[bool; 1041], own: u64, p: usize, n: usize) -> bool
 // their places names just these: it is neither marked nor looked at again; all other names are marked, and the numbers that are left must be.
 pub fn each_once<'a>(names: &'a [u64], homes: &'a [u64]) -> bool
     requires { (length names.now ≤ 16) × (length homes.now ≤ 1024) }
-    ensures { result ≡ eachOnce (length names.now + length homes.now) (names.now ++ homes.now) }
+    ensures { result ≡ each_once (length names.now + length homes.now) (names.now ++ homes.now) }
 {
     let n = names.len() + homes.len();
     if n <= 64 {

@@ -6,19 +6,19 @@ use native.Mathlib.Omega.{arith}
 use borrow.Author.Tests.{leb-true, leb-false}
 use lib.Dec.{leb}
 use lib.ListN.{length}
-use Rattle.bounded.proofs.Tests.{caseOn}
+use Rattle.bounded.proofs.Tests.{case_on}
 use Rattle.layout.specs.declared.Sizes.{Sizes}
-use Rattle.masks.specs.Lines.{countLines}
-use Rattle.operations.specs.Operations.{copyCount, recordedSlots}
+use Rattle.masks.specs.Lines.{count_lines}
+use Rattle.operations.specs.Operations.{copy_count, recorded_slots}
 use Rattle.state.proofs.Numbers.{those-le}
 
-pub recorded-le : (z : Sizes) (last : List ℕ) (r : ℕ) → r ≡ length (recordedSlots z last) → r ≤ z.slots
-unfolding recordedSlots
+pub recorded-le : (z : Sizes) (last : List ℕ) (r : ℕ) → r ≡ length (recorded_slots z last) → r ≤ z.slots
+unfolding recorded_slots
 recorded-le z last r e = rw e (those-le _ z.slots)
 
-pub copy-le : (bitmap r : ℕ) → r ≡ copyCount bitmap → r ≤ 32
-unfolding copyCount
+pub copy-le : (bitmap r : ℕ) → r ≡ copy_count bitmap → r ≤ 32
+unfolding copy_count
 copy-le bitmap r e =
-    caseOn (leb (countLines bitmap) 32)
-    (λ t. rw (e, t) (leb-true (countLines bitmap) 32 t))
-    (λ t. rw (e, t) (omega (arith, leb-false (countLines bitmap) 32 t)))
+    case_on (leb (count_lines bitmap) 32)
+    (λ t. rw (e, t) (leb-true (count_lines bitmap) 32 t))
+    (λ t. rw (e, t) (omega (arith, leb-false (count_lines bitmap) 32 t)))

@@ -2,7 +2,7 @@
 use Rattle.std.specs.Prelude.{ℕ, zero, suc, ◌+◌, List, [], ◌∷◌, ◌++◌, ◌≡◌, length}
 use Prim.Native.Char.{code}
 use Rattle.words.specs.Words.{over}
-use Rattle.decimals.specs.Decimal.{decimalOf}
+use Rattle.decimals.specs.Decimal.{decimal_of}
 
 -- text laid over a buffer from a place on, and the place after it
 pub record Put (before : List ℕ) (at : ℕ) (text after : List ℕ) (next : ℕ) : Type 0 where
@@ -16,7 +16,7 @@ each (suc n) f = each n f ++ f n
 
 -- a number after a blank
 abbrev pub blank : ℕ → List ℕ
-blank v = code " " ∷ decimalOf v
+blank v = code " " ∷ decimal_of v
 
 -- numbers, each after a blank
 unfoldable pub blanked : List ℕ → List ℕ
@@ -25,4 +25,4 @@ blanked (v ∷ vs) = blank v ++ blanked vs
 
 -- a field after its comma
 abbrev pub field : ℕ → List ℕ
-field v = code "," ∷ decimalOf v
+field v = code "," ∷ decimal_of v

@@ -1,12 +1,12 @@
 // Numbers, each after a comma or a blank.
 ghost use Rattle.std.specs.Prelude.{◌∷◌, ◌+◌, ◌*◌, ◌≤◌, length};
-ghost use Rattle.decimals.specs.Decimal.{decimalOf};
+ghost use Rattle.decimals.specs.Decimal.{decimal_of};
 ghost use Rattle.number_text.specs.Text.{Put, blanked};
 
 // A number after a mark.
 pub fn put_after(out: &mut [u8], at: usize, mark: u8, v: u64) -> usize
     requires { at + 21 ≤ length out.old }
-    ensures { Put out.old at (mark ∷ decimalOf v) out.new result }
+    ensures { Put out.old at (mark ∷ decimal_of v) out.new result }
 {
     let next = decimals::put_byte(out, at, mark);
     decimals::put_decimal(out, next, v)

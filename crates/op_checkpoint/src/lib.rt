@@ -1,13 +1,13 @@
 // A checkpoint of a state in words: its pieces, and the state after its last store.
 ghost use Rattle.std.specs.Prelude.{◌≡◌, ◌+◌, ◌<◌, ◌≤◌, length, get_or};
-ghost use Rattle.layout.specs.Layout.{Legal, recordWord, imageLength};
-ghost use Rattle.replay.specs.Table.{noPosition};
+ghost use Rattle.layout.specs.Layout.{Legal, record_word, image_length};
+ghost use Rattle.replay.specs.Table.{no_position};
 ghost use Rattle.state.specs.declared.Op.TheVariants.{Checkpoint};
-ghost use Rattle.operations.specs.Operations.{recordedSlots};
-ghost use Rattle.refinement.specs.Checkpoint.{withoutLasts};
-ghost use Rattle.refinement.specs.Stores.{storeAt, storeValue, completed};
+ghost use Rattle.operations.specs.Operations.{recorded_slots};
+ghost use Rattle.refinement.specs.Checkpoint.{without_lasts};
+ghost use Rattle.refinement.specs.Stores.{store_at, store_value, completed};
 ghost use Rattle.op_pieces.specs.Pieces.{Next};
-ghost use Rattle.state_words.specs.Decoded.{decoded, places_of, withTable};
+ghost use Rattle.state_words.specs.Decoded.{decoded, places_of, with_table};
 
 use layout::Sizes;
 use op_pieces::Piece;
@@ -17,7 +17,7 @@ use state_words::Words;
 // The j-th slot that has a live record, rising, or S where there are fewer: so nobody has to count them.
 fn recorded_slot(z: Sizes, words: &Words, j: usize) -> usize
     requires { Legal z }
-    ensures { result ≡ get_or (recordedSlots z (decoded words.now).table.last) j z.slots }
+    ensures { result ≡ get_or (recorded_slots z (decoded words.now).table.last) j z.slots }
 {
     let mut left = j;
     let mut s = 0;
@@ -37,7 +37,7 @@ fn recorded_slot(z: Sizes, words: &Words, j: usize) -> usize
 // The first of the three slot words of the last live record of slot s.
 fn last_words(z: Sizes, words: &Words, s: usize) -> usize
     requires { Legal z × (s < 16) }
-    ensures { result ≡ recordWord z (get_or (decoded words.now).table.last s noPosition) + 1 }
+    ensures { result ≡ record_word z (get_or (decoded words.now).table.last s no_position) + 1 }
 {
     let _ = state_words::all_words(*words);
     layout::record_word(z, state_words::last_at(words, s)) + 1
@@ -45,9 +45,9 @@ fn last_words(z: Sizes, words: &Words, s: usize) -> usize
 
 // The piece of a checkpoint that store i lies in: a slot's three words, read from the image, or tail.
 pub fn checkpoint_piece(image: &[u8], z: Sizes, at: Places, words: &Words, i: usize) -> Piece
-    requires { (z ≡ (decoded words.now).sizes) × (at ≡ places_of (decoded words.now)) × Legal z × (imageLength z ≤ length image.now) }
-    ensures { Next (λ m. storeAt (decoded words.now) Checkpoint) (λ m. storeValue (decoded words.now) m Checkpoint)
-        i (imageLength z) image.now result }
+    requires { (z ≡ (decoded words.now).sizes) × (at ≡ places_of (decoded words.now)) × Legal z × (image_length z ≤ length image.now) }
+    ensures { Next (λ m. store_at (decoded words.now) Checkpoint) (λ m. store_value (decoded words.now) m Checkpoint)
+        i (image_length z) image.now result }
 {
     let s = recorded_slot(z, words, i / 3);
     if s < z.slots {
@@ -60,7 +60,7 @@ pub fn checkpoint_piece(image: &[u8], z: Sizes, at: Places, words: &Words, i: us
 // No slot has a live record any more.
 fn put_no_lasts(z: Sizes, words: &mut Words)
     requires { Legal z }
-    ensures { decoded words.new ≡ withTable (decoded words.old) (withoutLasts z (decoded words.old).table) }
+    ensures { decoded words.new ≡ with_table (decoded words.old) (without_lasts z (decoded words.old).table) }
 {
     let mut s = 0;
     while s < z.slots {

@@ -1,11 +1,11 @@
 // A consolidation of a state in words: its pieces, and the state after its last store.
 ghost use Rattle.std.specs.Prelude.{◌≡◌, ◌*◌, ◌<◌, ◌≤◌, true, length, get_or};
-ghost use Rattle.layout.specs.Layout.{Legal, frames, imageLength};
-ghost use Rattle.journal.specs.Slots.{freeSlot};
+ghost use Rattle.layout.specs.Layout.{Legal, frames, image_length};
+ghost use Rattle.journal.specs.Slots.{free_slot};
 ghost use Rattle.state.specs.declared.Op.TheVariants.{Consolidate};
 ghost use Rattle.operations.specs.Operations.{Ranged, slotted};
-ghost use Rattle.refinement.specs.Consolidate.{copyTo, copyFrom, copy_lines, consolidationAt, consolidationValue, Consolidates};
-ghost use Rattle.refinement.specs.Stores.{storeAt, storeValue, completed};
+ghost use Rattle.refinement.specs.Consolidate.{copy_to, copy_from, copy_lines, consolidation_at, consolidation_value, Consolidates};
+ghost use Rattle.refinement.specs.Stores.{store_at, store_value, completed};
 ghost use Rattle.op_pieces.specs.Pieces.{Fits, Next};
 ghost use Rattle.state_words.specs.Decoded.{decoded, places_of};
 
@@ -17,7 +17,7 @@ use state_words::Words;
 
 // The frame that lines go to: the original where at most 32 are in the spare, else the spare.
 fn copy_to(t: Slot) -> usize
-    ensures { result ≡ copyTo t }
+    ensures { result ≡ copy_to t }
 {
     if masks::count(t.bitmap) <= 32 {
         return t.original;
@@ -27,7 +27,7 @@ fn copy_to(t: Slot) -> usize
 
 // The frame that lines come from.
 fn copy_from(t: Slot) -> usize
-    ensures { result ≡ copyFrom t }
+    ensures { result ≡ copy_from t }
 {
     if masks::count(t.bitmap) <= 32 {
         return t.spare;
@@ -47,7 +47,7 @@ fn copied_line(t: Slot, j: usize) -> usize
 
 // The record that frees slot s, of words t.
 fn freeing_record(head: usize, s: usize, t: Slot) -> Record
-    ensures { result ≡ record { first = head; slot = s; now = freeSlot (copyFrom t) } }
+    ensures { result ≡ record { first = head; slot = s; now = free_slot (copy_from t) } }
 {
     let now = journal::slots::free_slot(copy_from(t));
     Record {
@@ -59,9 +59,9 @@ fn freeing_record(head: usize, s: usize, t: Slot) -> Record
 
 // The piece that store i lies in, of a slot t that record e frees: a line, read from its frame; the page-table word; the record; head.
 fn slot_piece(image: &[u8], z: Sizes, head: usize, t: Slot, e: Record, p: usize, i: usize) -> Piece
-    requires { Legal z × (head < 2 * z.places) × (copyFrom t < frames z) × (copyTo t < frames z) × (copyTo t ≡ copyFrom t → ⊥)
-        × Fits e × (p < z.pages) × (imageLength z ≤ length image.now) }
-    ensures { Next (λ m. consolidationAt z head t p) (λ m. consolidationValue z head t e m) i (imageLength z) image.now result }
+    requires { Legal z × (head < 2 * z.places) × (copy_from t < frames z) × (copy_to t < frames z) × (copy_to t ≡ copy_from t → ⊥)
+        × Fits e × (p < z.pages) × (image_length z ≤ length image.now) }
+    ensures { Next (λ m. consolidation_at z head t p) (λ m. consolidation_value z head t e m) i (image_length z) image.now result }
 {
     let c = 8 * needs::copy_count(t.bitmap);
     if i < c {
@@ -89,9 +89,9 @@ pub fn consolidate_piece(
     i: usize,
 ) -> Piece
     requires { (z ≡ (decoded words.now).sizes) × (at ≡ places_of (decoded words.now)) × Consolidates z at.head (decoded words.now).table p
-        × (imageLength z ≤ length image.now) }
-    ensures { Next (λ m. storeAt (decoded words.now) (Consolidate p))
-        (λ m. storeValue (decoded words.now) m (Consolidate p)) i (imageLength z) image.now result }
+        × (image_length z ≤ length image.now) }
+    ensures { Next (λ m. store_at (decoded words.now) (Consolidate p))
+        (λ m. store_value (decoded words.now) m (Consolidate p)) i (image_length z) image.now result }
 {
     let s = state_held::slots::slot_of(z, words, p);
     let t = state_words::slot_at(words, s);

@@ -1,13 +1,13 @@
 // A wide commit of a state in words: its pieces, and the state after its last store.
 ghost use Rattle.std.specs.Prelude.{◌≡◌, ℕ, ◌<◌, ◌≤◌, length, get_or};
-ghost use Rattle.layout.specs.Layout.{Legal, frames as framesOf, imageLength};
-ghost use Rattle.entries.specs.Entries.{keyPage};
-ghost use Rattle.state.specs.State.{ownFrame};
-ghost use Rattle.state.specs.Wide.{noWide};
+ghost use Rattle.layout.specs.Layout.{Legal, frames as frames_of, image_length};
+ghost use Rattle.entries.specs.Entries.{key_page};
+ghost use Rattle.state.specs.State.{own_frame};
+ghost use Rattle.state.specs.Wide.{no_wide};
 ghost use Rattle.op_pieces.specs.Pieces.{Next};
-ghost use Rattle.refinement.specs.Settled.{withWide, withWriters};
-ghost use Rattle.refinement.specs.Commit.{closedWriter};
-ghost use Rattle.refinement.specs.Wide.{copiedFrame, copyAtOf, copyValueOf, copyDone};
+ghost use Rattle.refinement.specs.Settled.{with_wide, with_writers};
+ghost use Rattle.refinement.specs.Commit.{closed_writer};
+ghost use Rattle.refinement.specs.Wide.{copied_frame, copy_at_of, copy_value_of, copy_done};
 ghost use Rattle.state_words.specs.Decoded.{decoded};
 
 use layout::Sizes;
@@ -16,7 +16,7 @@ use state_words::{COUNT, KEYS, NO_WRITER, WIDE, Words};
 
 // There is no wide transaction, and no entry is used.
 pub fn put_no_wide(words: &mut Words)
-    ensures { decoded words.new ≡ withWide (decoded words.old) noWide }
+    ensures { decoded words.new ≡ with_wide (decoded words.old) no_wide }
 {
     let _ = state_words::all_words(*words);
     let mut e = 0;
@@ -31,7 +31,7 @@ pub fn put_no_wide(words: &mut Words)
 // Closes writer w, if there is such a one, and empties its held lines.
 fn close(z: Sizes, words: &mut Words, w: usize)
     requires { Legal z }
-    ensures { decoded words.new ≡ withWriters (decoded words.old) (closedWriter z (decoded words.old).writers w) }
+    ensures { decoded words.new ≡ with_writers (decoded words.old) (closed_writer z (decoded words.old).writers w) }
 {
     let _ = state_words::all_words(*words);
     if w > 3 {
@@ -44,7 +44,7 @@ fn close(z: Sizes, words: &mut Words, w: usize)
 // What a wide commit leaves: its writer w is closed, and no entry is used. A copying that a mount found has no writer.
 pub fn complete_copy(z: Sizes, words: &mut Words, w: usize)
     requires { (z ≡ (decoded words.old).sizes) × Legal z × (w ≡ (decoded words.old).wide.writer) }
-    ensures { decoded words.new ≡ copyDone (decoded words.old) }
+    ensures { decoded words.new ≡ copy_done (decoded words.old) }
 {
     close(z, words, w);
     put_no_wide(words);
@@ -53,8 +53,8 @@ pub fn complete_copy(z: Sizes, words: &mut Words, w: usize)
 
 // The frame that the line with this key is copied to.
 fn copied_frame(z: Sizes, words: &Words, key: u64) -> usize
-    requires { Legal z × (keyPage key < z.pages) }
-    ensures { result ≡ copiedFrame (ownFrame (decoded words.now)) z (decoded words.now).table key }
+    requires { Legal z × (key_page key < z.pages) }
+    ensures { result ≡ copied_frame (own_frame (decoded words.now)) z (decoded words.now).table key }
 {
     let p = (key / 64) as usize;
     let l = (key % 64) as usize;
@@ -68,11 +68,11 @@ fn copied_frame(z: Sizes, words: &Words, key: u64) -> usize
 
 // The piece of a wide commit that store i lies in: the count of entries, a line, or 0 for the count.
 pub fn copy_piece(image: &[u8], z: Sizes, words: &Words, count: usize, i: usize) -> Piece
-    requires { Legal z × (count ≤ z.entries) × ((e : ℕ) → e < count → (keyPage (get_or (decoded words.now).wide.keys e 0) < z.pages)
-        × (copiedFrame (ownFrame (decoded words.now)) z (decoded words.now).table (get_or (decoded words.now).wide.keys e 0) < framesOf z))
-        × (imageLength z ≤ length image.now) }
-    ensures { Next (λ m. copyAtOf (ownFrame (decoded words.now)) z (decoded words.now).table count
-        (decoded words.now).wide.keys) (copyValueOf z count) i (imageLength z) image.now result }
+    requires { Legal z × (count ≤ z.entries) × ((e : ℕ) → e < count → (key_page (get_or (decoded words.now).wide.keys e 0) < z.pages)
+        × (copied_frame (own_frame (decoded words.now)) z (decoded words.now).table (get_or (decoded words.now).wide.keys e 0) < frames_of z))
+        × (image_length z ≤ length image.now) }
+    ensures { Next (λ m. copy_at_of (own_frame (decoded words.now)) z (decoded words.now).table count
+        (decoded words.now).wide.keys) (copy_value_of z count) i (image_length z) image.now result }
 {
     if i == 0 {
         return op_pieces::one(layout::COUNT_WORD, count as u64);

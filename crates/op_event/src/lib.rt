@@ -1,16 +1,16 @@
 // An event on a state in words: its pieces, which are those of writer 1's writes and commit, and the state after its last store.
 ghost use Rattle.std.specs.Prelude.{◌≡◌, true, false, List, ℕ, ◌*◌, ◌<◌};
 ghost use Rattle.bounded.specs.Rows.{refusal};
-ghost use Rattle.layout.specs.Layout.{Legal, imageLength};
-ghost use Rattle.meters.specs.Meters.{eventKnown};
+ghost use Rattle.layout.specs.Layout.{Legal, image_length};
+ghost use Rattle.meters.specs.Meters.{event_known};
 ghost use Rattle.state.specs.declared.Op.TheVariants.{Event};
-ghost use Rattle.operations.specs.Operations.{isIdle, opRows};
-ghost use Rattle.validity.specs.Validity.{stateOk};
-ghost use Rattle.refinement.specs.Commit.{commitAt, commitValue};
-ghost use Rattle.refinement.specs.Event.{lineStores, linesDone, eventAt, eventValue, eventDone};
+ghost use Rattle.operations.specs.Operations.{is_idle, op_rows};
+ghost use Rattle.validity.specs.Validity.{state_ok};
+ghost use Rattle.refinement.specs.Commit.{commit_at, commit_value};
+ghost use Rattle.refinement.specs.Event.{line_stores, lines_done, event_at, event_value, event_done};
 ghost use Rattle.op_pieces.specs.Pieces.{Next};
 ghost use Rattle.state_words.specs.Decoded.{decoded, places_of};
-ghost use Rattle.op_event.specs.LinesHeld.{linesHeld};
+ghost use Rattle.op_event.specs.LinesHeld.{lines_held};
 
 use layout::Sizes;
 use op_pieces::Piece;
@@ -19,15 +19,15 @@ use state_words::Words;
 
 // The stores of an event's lines.
 fn line_stores(kind: usize) -> usize
-    ensures { result ≡ lineStores kind }
+    ensures { result ≡ line_stores kind }
 {
     if meters::moves_credit(kind) { 16 } else { 8 }
 }
 
 // Writer 1 begins and holds the lines of an event.
 fn hold_lines(z: Sizes, words: &mut Words, kind: usize, meter: usize)
-    requires { (z ≡ (decoded words.old).sizes) × Legal z × ((decoded words.old).next < z.slots) × (eventKnown kind meter ≡ true) }
-    ensures { decoded words.new ≡ linesHeld (decoded words.old) kind meter }
+    requires { (z ≡ (decoded words.old).sizes) × Legal z × ((decoded words.old).next < z.slots) × (event_known kind meter ≡ true) }
+    ensures { decoded words.new ≡ lines_held (decoded words.old) kind meter }
 {
     state_words::put_open(words, 1, true);
     op_write::hold_line(z, words, 1, 0, meters::first_meter(kind, meter));
@@ -39,10 +39,10 @@ fn hold_lines(z: Sizes, words: &mut Words, kind: usize, meter: usize)
 
 // The piece that store i of an event's commit lies in: its lines are held in a copy of the words.
 fn commit_piece(z: Sizes, at: Places, words: &Words, kind: usize, meter: usize, i: usize) -> Piece
-    requires { (z ≡ (decoded words.now).sizes) × (at ≡ places_of (decoded words.now)) × (stateOk (decoded words.now) ≡ true)
-        × (refusal (opRows (decoded words.now) (Event kind meter 0)) ≡ 0) }
-    ensures { (img : List ℕ) → Next (λ m. commitAt (linesDone (decoded words.now) kind meter) 1)
-        (λ m. commitValue (linesDone (decoded words.now) kind meter) 1) i (imageLength z) img result }
+    requires { (z ≡ (decoded words.now).sizes) × (at ≡ places_of (decoded words.now)) × (state_ok (decoded words.now) ≡ true)
+        × (refusal (op_rows (decoded words.now) (Event kind meter 0)) ≡ 0) }
+    ensures { (img : List ℕ) → Next (λ m. commit_at (lines_done (decoded words.now) kind meter) 1)
+        (λ m. commit_value (lines_done (decoded words.now) kind meter) 1) i (image_length z) img result }
 {
     let _ = state_words::all_words(*words);
     let mut after = *words;
@@ -59,10 +59,10 @@ pub fn event_piece(
     meter: usize,
     i: usize,
 ) -> Piece
-    requires { (z ≡ (decoded words.now).sizes) × (at ≡ places_of (decoded words.now)) × (stateOk (decoded words.now) ≡ true)
-        × (isIdle (decoded words.now).pending.op ≡ false) × (refusal (opRows (decoded words.now) (Event kind meter 0)) ≡ 0) }
-    ensures { (img : List ℕ) → Next (λ m. eventAt (decoded words.now) kind meter)
-        (λ m. eventValue (decoded words.now) kind meter) i (imageLength z) img result }
+    requires { (z ≡ (decoded words.now).sizes) × (at ≡ places_of (decoded words.now)) × (state_ok (decoded words.now) ≡ true)
+        × (is_idle (decoded words.now).pending.op ≡ false) × (refusal (op_rows (decoded words.now) (Event kind meter 0)) ≡ 0) }
+    ensures { (img : List ℕ) → Next (λ m. event_at (decoded words.now) kind meter)
+        (λ m. event_value (decoded words.now) kind meter) i (image_length z) img result }
 {
     let _ = state_words::all_words(*words);
     if i < 8 {
@@ -82,8 +82,8 @@ pub fn event_piece(
 // What an event leaves when it is complete.
 pub fn complete_event(z: Sizes, words: &mut Words, kind: usize, meter: usize)
     requires { (z ≡ (decoded words.old).sizes) × Legal z × ((decoded words.old).head < 2 * z.places)
-        × ((decoded words.old).next < z.slots) × (eventKnown kind meter ≡ true) }
-    ensures { decoded words.new ≡ eventDone (decoded words.old) kind meter }
+        × ((decoded words.old).next < z.slots) × (event_known kind meter ≡ true) }
+    ensures { decoded words.new ≡ event_done (decoded words.old) kind meter }
 {
     hold_lines(z, words, kind, meter);
     op_commit::complete_commit(z, words, 1);

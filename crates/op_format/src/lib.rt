@@ -1,10 +1,10 @@
 // A format (document 02, L6): its pieces, and the state after its last store.
 ghost use Rattle.std.specs.Prelude.{◌≡◌, List, ℕ, ◌+◌, ◌<◌};
 ghost use Rattle.bounded.specs.Tab.{tab};
-ghost use Rattle.layout.specs.Layout.{Legal, imageLength};
+ghost use Rattle.layout.specs.Layout.{Legal, image_length};
 ghost use Rattle.state.specs.declared.Op.TheVariants.{Format};
-ghost use Rattle.operations.specs.Operations.{formatNeeds};
-ghost use Rattle.fresh.specs.Fresh.{freshWord, formatAt, formatValue};
+ghost use Rattle.operations.specs.Operations.{format_needs};
+ghost use Rattle.fresh.specs.Fresh.{fresh_word, format_at, format_value};
 ghost use Rattle.refinement.specs.Stores.{completed};
 ghost use Rattle.op_pieces.specs.Pieces.{Next};
 ghost use Rattle.state_words.specs.Decoded.{decoded};
@@ -16,8 +16,8 @@ use state_words::Words;
 
 // Eight words of a fresh image, from word a on.
 fn fresh_words(z: Sizes, a: usize) -> [u64; 8]
-    requires { Legal z × (a < formatNeeds z) }
-    ensures { result ≡ tab 8 (λ k. freshWord z (a + k)) }
+    requires { Legal z × (a < format_needs z) }
+    ensures { result ≡ tab 8 (λ k. fresh_word z (a + k)) }
 {
     [
         fresh_word(z, a),
@@ -34,8 +34,8 @@ fn fresh_words(z: Sizes, a: usize) -> [u64; 8]
 // The piece of a format that store i lies in: the layout word alone, 0 first and its own number last; between them the three words before it, then
 // eight and eight of those past it.
 pub fn format_piece(z: Sizes, i: usize) -> Piece
-    requires { Legal z × (i < formatNeeds z) }
-    ensures { (img : List ℕ) → Next (λ m. formatAt z) (λ m. formatValue z) i (imageLength z) img result }
+    requires { Legal z × (i < format_needs z) }
+    ensures { (img : List ℕ) → Next (λ m. format_at z) (λ m. format_value z) i (image_length z) img result }
 {
     if i == 0 {
         return op_pieces::one(layout::LAYOUT_WORD, 0);

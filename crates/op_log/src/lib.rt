@@ -1,10 +1,10 @@
 // A wide write of a state in words: its pieces, and the state after its last store.
 ghost use Rattle.std.specs.Prelude.{◌≡◌, false, List, ℕ, ◌<◌, ◌≤◌};
-ghost use Rattle.layout.specs.Layout.{Legal, imageLength};
-ghost use Rattle.state.specs.Wide.{entryFor};
-ghost use Rattle.operations.specs.Operations.{isIdle};
+ghost use Rattle.layout.specs.Layout.{Legal, image_length};
+ghost use Rattle.state.specs.Wide.{entry_for};
+ghost use Rattle.operations.specs.Operations.{is_idle};
 ghost use Rattle.op_pieces.specs.Pieces.{Next};
-ghost use Rattle.refinement.specs.Wide.{log_at, logValue, logDone};
+ghost use Rattle.refinement.specs.Wide.{log_at, log_value, log_done};
 ghost use Rattle.state_words.specs.Decoded.{decoded};
 
 use layout::Sizes;
@@ -15,10 +15,10 @@ use state_words::Words;
 // The piece of a wide write of line l of page p that store i lies in: the key, or the line, which stands in the words. So many entries are used.
 pub fn log_piece(z: Sizes, words: &Words, count: usize, p: usize, l: usize, i: usize) -> Piece
     requires { (z ≡ (decoded words.now).sizes) × (count ≡ (decoded words.now).wide.count) × Legal z × (count ≤ z.entries)
-        × (entryFor (decoded words.now).wide p l < z.entries) × (p < z.pages) × (l < 64) × (i < 9)
-        × (isIdle (decoded words.now).pending.op ≡ false) }
-    ensures { (img : List ℕ) → Next (λ m. log_at (decoded words.now) p l) (λ m. logValue (decoded words.now) p l)
-        i (imageLength z) img result }
+        × (entry_for (decoded words.now).wide p l < z.entries) × (p < z.pages) × (l < 64) × (i < 9)
+        × (is_idle (decoded words.now).pending.op ≡ false) }
+    ensures { (img : List ℕ) → Next (λ m. log_at (decoded words.now) p l) (λ m. log_value (decoded words.now) p l)
+        i (image_length z) img result }
 {
     let key = (64 * p + l) as u64;
     let e = find_entry(words, count, key);
@@ -33,8 +33,8 @@ pub fn log_piece(z: Sizes, words: &Words, count: usize, p: usize, l: usize, i: u
 // What a wide write leaves: the line of page p has its entry, the one that it had or one more. The wide writer uses so many.
 pub fn complete_log(words: &mut Words, wide: usize, count: usize, p: usize, l: usize)
     requires { (wide ≡ (decoded words.old).wide.writer) × (count ≡ (decoded words.old).wide.count) × (count ≤ 64)
-        × (entryFor (decoded words.old).wide p l < 64) × (p < 1024) × (l < 64) }
-    ensures { decoded words.new ≡ logDone (decoded words.old) p l }
+        × (entry_for (decoded words.old).wide p l < 64) × (p < 1024) × (l < 64) }
+    ensures { decoded words.new ≡ log_done (decoded words.old) p l }
 {
     let key = (64 * p + l) as u64;
     let e = find_entry(words, count, key);

@@ -1,6 +1,6 @@
 // Pieces: words that lie side by side and that an operation stores one after the other. Nothing here writes an image.
 ghost use Rattle.std.specs.Prelude.{◌≡◌, ◌+◌, ◌*◌, ◌≤◌, length};
-ghost use Rattle.op_pieces.specs.Pieces.{Fits, onePiece, recordPiece, linePiece, slotPiece, copyPiece};
+ghost use Rattle.op_pieces.specs.Pieces.{Fits, one_piece, record_piece, line_piece, slot_piece, copy_piece};
 
 use journal::Record;
 
@@ -15,7 +15,7 @@ pub struct Piece {
 
 // One word. What decides is stored so: head, tail, the count of entries.
 pub fn one(at: usize, v: u64) -> Piece
-    ensures { result ≡ onePiece at v }
+    ensures { result ≡ one_piece at v }
 {
     let words = [v, 0, 0, 0, 0, 0, 0, 0];
     Piece {
@@ -29,7 +29,7 @@ pub fn one(at: usize, v: u64) -> Piece
 // The four words of a record, from word k on.
 pub fn of_record(at: usize, e: Record, k: usize) -> Piece
     requires { Fits e }
-    ensures { result ≡ recordPiece at e k }
+    ensures { result ≡ record_piece at e k }
 {
     let w0 = journal::records::word_of_record(e, 0);
     let w1 = journal::records::word_of_record(e, 1);
@@ -46,7 +46,7 @@ pub fn of_record(at: usize, e: Record, k: usize) -> Piece
 
 // The eight words of a line, from word k on.
 pub fn of_line(at: usize, line: &[u64; 8], k: usize) -> Piece
-    ensures { result ≡ linePiece at line.now k }
+    ensures { result ≡ line_piece at line.now k }
 {
     let words = *line;
     Piece {
@@ -60,7 +60,7 @@ pub fn of_line(at: usize, line: &[u64; 8], k: usize) -> Piece
 // The three words that stand from word a on, as a slot's.
 pub fn of_slot(at: usize, image: &[u8], a: usize, k: usize) -> Piece
     requires { 8 * (a + 3) ≤ length image.now }
-    ensures { result ≡ slotPiece at image.now a k }
+    ensures { result ≡ slot_piece at image.now a k }
 {
     let w0 = image_words::read_word(image, a);
     let w1 = image_words::read_word(image, a + 1);
@@ -77,7 +77,7 @@ pub fn of_slot(at: usize, image: &[u8], a: usize, k: usize) -> Piece
 // The eight words that stand from byte o on, as a line's: of a frame that was cut out of an image, or of an image.
 pub fn of_copy(at: usize, bytes: &[u8], o: usize, k: usize) -> Piece
     requires { o + 64 ≤ length bytes.now }
-    ensures { result ≡ copyPiece at bytes.now o k }
+    ensures { result ≡ copy_piece at bytes.now o k }
 {
     let words = runs::words_of(&bytes[o..o + 64]);
     Piece {

@@ -1,8 +1,8 @@
 // The rows from 11 on of a commit, in one part or in two, of a wide commit, and of a consolidation.
 ghost use Rattle.std.specs.Prelude.{◌≡◌, not, [], ◌∷◌, ltb, eqb};
 ghost use Rattle.bounded.specs.Rows.{refusal};
-ghost use Rattle.operations.specs.Operations.{commitRows, prepareRows, consolidateRows};
-ghost use Rattle.state.specs.Held.{somePrepared};
+ghost use Rattle.operations.specs.Operations.{commit_rows, prepare_rows, consolidate_rows};
+ghost use Rattle.state.specs.Held.{some_prepared};
 ghost use Rattle.state_words.specs.Decoded.{decoded};
 ghost use Rattle.op_rows.specs.Seen.{Low, seen};
 
@@ -14,7 +14,7 @@ use state_words::Words;
 // The first row from 11 on that turns a commit back.
 pub fn commit_row(z: Sizes, at: Places, words: &Words, writer: usize) -> usize
     requires { Low z at }
-    ensures { result ≡ refusal (commitRows (seen z at (decoded words.now)) writer) }
+    ensures { result ≡ refusal (commit_rows (seen z at (decoded words.now)) writer) }
 {
     if writer > 3 {
         return 11;
@@ -35,7 +35,7 @@ pub fn commit_row(z: Sizes, at: Places, words: &Words, writer: usize) -> usize
 // The first row from 11 on that turns a prepare back.
 pub(crate) fn prepare_row(z: Sizes, at: Places, words: &Words, writer: usize) -> usize
     requires { Low z at }
-    ensures { result ≡ refusal (prepareRows (seen z at (decoded words.now)) writer) }
+    ensures { result ≡ refusal (prepare_rows (seen z at (decoded words.now)) writer) }
 {
     if (writer <= 3) & (at.wide < 4) {
         return 29;
@@ -45,7 +45,7 @@ pub(crate) fn prepare_row(z: Sizes, at: Places, words: &Words, writer: usize) ->
 
 // The first row from 11 on that turns a pending wide commit back.
 pub(crate) fn copy_row(prepared: usize) -> usize
-    ensures { result ≡ refusal ((somePrepared prepared, 23) ∷ []) }
+    ensures { result ≡ refusal ((some_prepared prepared, 23) ∷ []) }
 {
     if prepared < 4 { 23 } else { 0 }
 }
@@ -66,7 +66,7 @@ pub(crate) fn confirm_row(prepared: usize, writer: usize) -> usize
 // The first row from 11 on that turns a consolidation of page p back.
 pub fn consolidate_row(z: Sizes, at: Places, words: &Words, p: usize) -> usize
     requires { Low z at }
-    ensures { result ≡ refusal (consolidateRows (seen z at (decoded words.now)) p) }
+    ensures { result ≡ refusal (consolidate_rows (seen z at (decoded words.now)) p) }
 {
     if z.pages <= p {
         return 11;

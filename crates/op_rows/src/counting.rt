@@ -1,7 +1,7 @@
 // How many stores an operation needs.
 ghost use Rattle.std.specs.Prelude.{◌≡◌, ◌≤◌, length};
 ghost use Rattle.layout.specs.Layout.{Legal};
-ghost use Rattle.operations.specs.Operations.{Asked, recordedSlots, checkpointNeeds, needs};
+ghost use Rattle.operations.specs.Operations.{Asked, recorded_slots, checkpoint_needs, needs};
 ghost use Rattle.state_words.specs.Decoded.{decoded};
 ghost use Rattle.op_rows.specs.Seen.{seen};
 
@@ -13,7 +13,7 @@ use state_words::Words;
 // How many slots have a live record.
 pub fn recorded_count(z: Sizes, words: &Words) -> usize
     requires { Legal z }
-    ensures { result ≡ length (recordedSlots z (decoded words.now).table.last) }
+    ensures { result ≡ length (recorded_slots z (decoded words.now).table.last) }
 {
     let mut n = 0;
     let mut s = 0;
@@ -28,7 +28,7 @@ pub fn recorded_count(z: Sizes, words: &Words) -> usize
 // The stores that a checkpoint needs.
 pub fn checkpoint_needs(z: Sizes, at: Places, words: &Words) -> usize
     requires { Legal z }
-    ensures { result ≡ checkpointNeeds at.head at.tail (length (recordedSlots z (decoded words.now).table.last)) }
+    ensures { result ≡ checkpoint_needs at.head at.tail (length (recorded_slots z (decoded words.now).table.last)) }
 {
     if at.head == at.tail {
         return 0;

@@ -2,11 +2,11 @@
 ghost use Rattle.std.specs.Prelude.{◌≡◌, true, ◌<◌};
 ghost use Rattle.bounded.specs.Rows.{refusal};
 ghost use Rattle.layout.specs.Layout.{Legal};
-ghost use Rattle.meters.specs.Meters.{eventKnown};
+ghost use Rattle.meters.specs.Meters.{event_known};
 ghost use Rattle.state.specs.declared.Op.TheVariants.{Event};
-ghost use Rattle.operations.specs.Operations.{opRows};
+ghost use Rattle.operations.specs.Operations.{op_rows};
 ghost use Rattle.state_words.specs.Decoded.{decoded};
-ghost use Rattle.op_rows.specs.Seen.{Low, seen, eventNextRowsIn};
+ghost use Rattle.op_rows.specs.Seen.{Low, seen, event_next_rows_in};
 
 use crate::{no_room, writing};
 use layout::Sizes;
@@ -22,8 +22,8 @@ pub fn event_next_row(
     meter: usize,
     s: usize,
 ) -> usize
-    requires { Legal z × (at.next < z.slots) × (eventKnown kind meter ≡ true) }
-    ensures { result ≡ refusal (eventNextRowsIn z at (decoded words.now) kind meter s) }
+    requires { Legal z × (at.next < z.slots) × (event_known kind meter ≡ true) }
+    ensures { result ≡ refusal (event_next_rows_in z at (decoded words.now) kind meter s) }
 {
     if state_words::open_at(words, 1) {
         return 12;
@@ -44,7 +44,7 @@ pub fn event_next_row(
 // The first row that turns a pending event back.
 pub(crate) fn event_row(z: Sizes, at: Places, words: &Words, kind: usize, meter: usize) -> usize
     requires { Low z at }
-    ensures { result ≡ refusal (opRows (seen z at (decoded words.now)) (Event kind meter 0)) }
+    ensures { result ≡ refusal (op_rows (seen z at (decoded words.now)) (Event kind meter 0)) }
 {
     if at.wide < 4 {
         return 29;

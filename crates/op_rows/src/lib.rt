@@ -7,7 +7,7 @@ mod writing;
 
 ghost use Rattle.std.specs.Prelude.{◌≡◌, ◌≤◌};
 ghost use Rattle.bounded.specs.Rows.{refusal};
-ghost use Rattle.operations.specs.Operations.{opRows};
+ghost use Rattle.operations.specs.Operations.{op_rows};
 ghost use Rattle.state_words.specs.Decoded.{decoded};
 ghost use Rattle.op_rows.specs.Seen.{Low, seen};
 
@@ -46,7 +46,7 @@ fn span_of(page: usize, line: usize, offset: usize, length: usize) -> Span
 // The first row from 11 on that turns an operation back.
 pub fn op_row(z: Sizes, at: Places, words: &Words, op: Op) -> usize
     requires { Low z at × (at.count ≤ 64) }
-    ensures { result ≡ refusal (opRows (seen z at (decoded words.now)) op) }
+    ensures { result ≡ refusal (op_rows (seen z at (decoded words.now)) op) }
 {
     match op {
         Op::Idle => 0,

@@ -2,10 +2,10 @@
 ghost use Rattle.std.specs.Prelude.{◌≡◌, ◌<◌, ◌≤◌};
 ghost use Rattle.bounded.specs.Rows.{refusal};
 ghost use Rattle.layout.specs.Layout.{Legal};
-ghost use Rattle.state.specs.Wide.{wide_of, noEntryLeft};
-ghost use Rattle.operations.specs.Operations.{writeArgsBad, lineTaken, noneFree};
+ghost use Rattle.state.specs.Wide.{wide_of, no_entry_left};
+ghost use Rattle.operations.specs.Operations.{write_args_bad, line_taken, none_free};
 ghost use Rattle.state_words.specs.Decoded.{decoded};
-ghost use Rattle.op_rows.specs.Seen.{writeRowsIn, logRowsIn};
+ghost use Rattle.op_rows.specs.Seen.{write_rows_in, log_rows_in};
 
 use crate::Span;
 use layout::Sizes;
@@ -14,7 +14,7 @@ use state_words::Words;
 
 // Row 11 of a write, without the data. No sum wraps.
 fn write_args_bad(z: Sizes, writer: usize, span: Span) -> bool
-    ensures { result ≡ writeArgsBad z writer span.page span.line span.offset span.length }
+    ensures { result ≡ write_args_bad z writer span.page span.line span.offset span.length }
 {
     if span.offset > 64 {
         return true;
@@ -32,7 +32,7 @@ fn write_args_bad(z: Sizes, writer: usize, span: Span) -> bool
 // Row 14: the page has slot s, and a writer other than w holds line l.
 pub(crate) fn line_taken(z: Sizes, words: &Words, w: usize, s: usize, l: usize) -> bool
     requires { Legal z × (l < 64) }
-    ensures { result ≡ lineTaken z (decoded words.now).writers.held w s l }
+    ensures { result ≡ line_taken z (decoded words.now).writers.held w s l }
 {
     if z.slots <= s {
         return false;
@@ -43,7 +43,7 @@ pub(crate) fn line_taken(z: Sizes, words: &Words, w: usize, s: usize, l: usize) 
 // Row 15: the page has no slot and none is free.
 pub(crate) fn none_free(z: Sizes, next: usize, words: &Words, s: usize) -> bool
     requires { Legal z × (next < z.slots) }
-    ensures { result ≡ noneFree z (decoded words.now).table.page next s }
+    ensures { result ≡ none_free z (decoded words.now).table.page next s }
 {
     if s < z.slots {
         return false;
@@ -54,7 +54,7 @@ pub(crate) fn none_free(z: Sizes, next: usize, words: &Words, s: usize) -> bool
 // The first row from 11 on that turns a write back, with the page's slot s, S where it has none.
 pub fn write_row(z: Sizes, at: Places, words: &Words, writer: usize, span: Span, s: usize) -> usize
     requires { Legal z × (at.next < z.slots) }
-    ensures { result ≡ refusal (writeRowsIn z at (decoded words.now) writer span s) }
+    ensures { result ≡ refusal (write_rows_in z at (decoded words.now) writer span s) }
 {
     if write_args_bad(z, writer, span) {
         return 11;
@@ -77,7 +77,7 @@ pub fn write_row(z: Sizes, at: Places, words: &Words, writer: usize, span: Span,
 // Row 30: line l of page p has no entry, and all are used.
 fn no_entry_left(z: Sizes, count: usize, words: &Words, p: usize, l: usize) -> bool
     requires { (count ≤ 64) × (p < 1024) × (l < 64) }
-    ensures { result ≡ noEntryLeft z (wide_of 0 count (decoded words.now).wide.keys) p l }
+    ensures { result ≡ no_entry_left z (wide_of 0 count (decoded words.now).wide.keys) p l }
 {
     let e = state_held::held::find_entry(words, count, (64 * p + l) as u64);
     !(e < count) & (z.entries <= count)
@@ -86,7 +86,7 @@ fn no_entry_left(z: Sizes, count: usize, words: &Words, p: usize, l: usize) -> b
 // The first row from 11 on that turns a wide write back.
 pub fn log_row(z: Sizes, at: Places, words: &Words, span: Span) -> usize
     requires { Legal z × (at.count ≤ 64) }
-    ensures { result ≡ refusal (logRowsIn z at (decoded words.now) span) }
+    ensures { result ≡ refusal (log_rows_in z at (decoded words.now) span) }
 {
     if write_args_bad(z, at.wide, span) {
         return 11;

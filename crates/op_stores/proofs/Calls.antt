@@ -5,18 +5,18 @@ use mathlib.Core.List.{List}
 use mathlib.Core.Path.{◌≡◌, refl, sym, ap, ap₂, ◌∙◌}
 use native.Mathlib.Omega.{arith}
 use lib.Dec.{eqb}
-use Rattle.bounded.proofs.Tests.{caseOn}
+use Rattle.bounded.proofs.Tests.{case_on}
 use Rattle.state.specs.State.{State}
 use Rattle.refinement.specs.Outcome.{Outcome, answered}
-use Rattle.refinement.specs.Stores.{steppedBy, left}
-use Rattle.refinement.specs.Calls.{stepRow, worldOf, run_of, runBytes}
+use Rattle.refinement.specs.Stores.{stepped_by, left}
+use Rattle.refinement.specs.Calls.{step_row, world_of, run_of, run_bytes}
 use Rattle.refinement.specs.Run.{run, exec}
 use Rattle.refinement.proofs.Steps.{run_none}
 use Rattle.answers.specs.declared.Answer.{Answer}
 use Rattle.answers.specs.Answers.{number_of, stores_of}
 use Rattle.op_stores.specs.declared.Until.{Until}
 use Rattle.op_stores.specs.declared.Until.TheVariants.{Asked, Fence, End}
-use Rattle.op_stores.specs.Started.{budget, startedOf, startedBytes, startedRun, Started, InLists}
+use Rattle.op_stores.specs.Started.{budget, started_of, started_bytes, started_run, Started, InLists}
 
 -- a run of no store changes nothing, whether it is taken or not
 module _ (st : State) (img : List ℕ) where
@@ -24,23 +24,23 @@ module _ (st : State) (img : List ℕ) where
   unfolding run_of
   none-state =
       let m : min 0 (left st) ≡ 0 = omega arith in
-      caseOn (eqb (stepRow st img) 0) (λ t. rw (t, m, run_none (worldOf st img))) (λ t. rw t)
+      case_on (eqb (step_row st img) 0) (λ t. rw (t, m, run_none (world_of st img))) (λ t. rw t)
 
-  none-bytes : runBytes st img 0 ≡ img
-  unfolding runBytes
+  none-bytes : run_bytes st img 0 ≡ img
+  unfolding run_bytes
   none-bytes =
       let m : min 0 (left st) ≡ 0 = omega arith in
-      caseOn (eqb (stepRow st img) 0) (λ t. rw (t, m, run_none (worldOf st img))) (λ t. rw t)
+      case_on (eqb (step_row st img) 0) (λ t. rw (t, m, run_none (world_of st img))) (λ t. rw t)
 
-pub asked_is : (o : Outcome) (img : List ℕ) → (startedOf o img Asked ≡ o) × (startedBytes o img Asked ≡ img)
+pub asked_is : (o : Outcome) (img : List ℕ) → (started_of o img Asked ≡ o) × (started_bytes o img Asked ≡ img)
 asked_is o img =
-    caseOn (eqb o.stores 0)
+    case_on (eqb o.stores 0)
     (λ t. (rw t, rw t))
     (λ t. (rw t (ap (λ (s : State). record { number = o.number; stores = o.stores; state = s }) (none-state o.state img)), rw t (none-bytes o.state img)))
 
 pub in-lists : InLists
 unfolding exec
 in-lists o img u =
-    caseOn (eqb o.stores 0)
-    (λ t. rw t (ap₂ worldOf (none-state o.state img) (none-bytes o.state img)))
+    case_on (eqb o.stores 0)
+    (λ t. rw t (ap₂ world_of (none-state o.state img) (none-bytes o.state img)))
     (λ t. rw t)

@@ -9,41 +9,41 @@ use lib.ListN.{length, replicate}
 use borrow.Author.Tests.{eqb-true, ne_eqb, le-ltb}
 use Rattle.bounded.specs.Rows.{Row, refusal}
 use Rattle.bounded.proofs.Rows.{row-none}
-use Rattle.bounded.proofs.Tests.{caseOn, row_keeps}
+use Rattle.bounded.proofs.Tests.{case_on, row_keeps}
 use Rattle.layout.specs.declared.Sizes.{Sizes}
-use Rattle.layout.specs.Layout.{Legal, imageLength}
+use Rattle.layout.specs.Layout.{Legal, image_length}
 use Rattle.state.specs.State.{State}
 use Rattle.state.specs.declared.Places.{Places}
 use Rattle.state.specs.declared.Pending.{Pending}
 use Rattle.state.specs.declared.Op.{Op}
 use Rattle.state.specs.declared.Op.TheVariants.{Idle, Write, Commit, Consolidate, Checkpoint, Event, Prepare, Confirm, Log, Copy, Format}
-use Rattle.operations.specs.Operations.{Asked as AskedOf, isIdle, opRows, needs}
+use Rattle.operations.specs.Operations.{Asked as AskedOf, is_idle, op_rows, needs}
 use Rattle.operations.proofs.Taken.{op-asked}
-use Rattle.validity.specs.Validity.{stateOk, opFits}
-use Rattle.refinement.specs.Settled.{withLines}
-use Rattle.refinement.specs.Stores.{completed, storesMade, stateAfter, steppedBy, left}
+use Rattle.validity.specs.Validity.{state_ok, op_fits}
+use Rattle.refinement.specs.Settled.{with_lines}
+use Rattle.refinement.specs.Stores.{completed, stores_made, state_after, stepped_by, left}
 use Rattle.refinement.specs.Outcome.{Outcome, answered}
-use Rattle.refinement.specs.Calls.{withPending, worldOf, asked, quietRows, stepRows, stepRow, run_of, runBytes}
+use Rattle.refinement.specs.Calls.{with_pending, world_of, asked, quiet_rows, step_rows, step_row, run_of, run_bytes}
 use Rattle.refinement.specs.Run.{run, exec}
 use Rattle.refinement.proofs.Going.{ranges-of, entries-of}
 use Rattle.refinement.proofs.LinesAsked.{needs-lines, lines-valid}
 use Rattle.refinement.proofs.Steps.{run_none, run-image, run-after}
 use Rattle.answers.specs.declared.Answer.{Answer}
 use Rattle.answers.specs.declared.Answer.TheVariants.{Taken}
-use Rattle.answers.specs.Answers.{asAnswer, isAnswer}
+use Rattle.answers.specs.Answers.{as_answer, is_answer}
 use Rattle.answers.proofs.Answered.{refused-known}
 use Rattle.state_words.specs.Decoded.{places_of}
-use Rattle.state_pending.specs.Put.{withPending as put}
+use Rattle.state_pending.specs.Put.{with_pending as put}
 use Rattle.op_rows.specs.Seen.{seen}
 use Rattle.op_writer.specs.Served.{Served}
 use Rattle.op_stores.specs.declared.Until.{Until}
 use Rattle.op_stores.specs.declared.Until.TheVariants.{Asked, Fence, End}
 use Rattle.op_stores.specs.Asks.{Asks}
-use Rattle.op_stores.specs.Started.{fenceIn, budgetIn, budget, startedOf, startedBytes, startedRun, Started, InLists}
+use Rattle.op_stores.specs.Started.{fence_in, budget_in, budget, started_of, started_bytes, started_run, Started, InLists}
 
 -- ---- how far
 
-pub fence-few : (op : Op) (m n : ℕ) → fenceIn op m n ≤ n
+pub fence-few : (op : Op) (m n : ℕ) → fence_in op m n ≤ n
 fence-few Idle m n = omega arith
 fence-few (Write w p l o k) m n = omega arith
 fence-few (Commit w) m n = omega arith
@@ -56,7 +56,7 @@ fence-few (Log p l o k) m n = omega arith
 fence-few Copy m n = row_keeps (λ (x : ℕ). x ≤ n) (eqb m 0) 0 (n - 1) (omega arith) (omega arith)
 fence-few Format m n = row_keeps (λ (x : ℕ). x ≤ n) (eqb m 0) 0 (n - 1) (omega arith) (omega arith)
 
-budget-in-few : (u : Until) (op : Op) (m n : ℕ) → budgetIn u op m n ≤ n
+budget-in-few : (u : Until) (op : Op) (m n : ℕ) → budget_in u op m n ≤ n
 budget-in-few Asked op m n = omega arith
 budget-in-few Fence op m n = fence-few op m n
 budget-in-few End op m n = omega arith
@@ -67,10 +67,10 @@ budget-few u st = budget-in-few u st.pending.op st.pending.made (left st)
 -- ---- the operation pending
 
 module _ (z : Sizes) (at : Places) (st : State) (img : List ℕ) (p : Pending) (h : Asks z at st img p) where
-  as-lines : put st p ≡ withLines st p.op p.line p.second
+  as-lines : put st p ≡ with_lines st p.op p.line p.second
   as-lines = ap (λ (m : ℕ). put st (record { op = p.op; made = m; line = p.line; second = p.second })) h.none_made
 
-  pub put-valid : stateOk (put st p) ≡ true
+  pub put-valid : state_ok (put st p) ≡ true
   put-valid = rw as-lines (lines-valid st p.line p.second p.op h.ok h.fits h.rows h.some)
 
   pub put-served : Served z at (put st p)
@@ -92,35 +92,35 @@ module _ (z : Sizes) (at : Places) (st : State) (img : List ℕ) (p : Pending) (
   pub asks-needs : (k : ℕ) → k ≡ needs (seen z at st) p.op → k ≡ needs st p.op
   asks-needs k e = e ∙ rw (h.sizes, h.places)
 
-  pub put-budget : (u : Until) (k n : ℕ) → k ≡ needs st p.op → n ≡ budgetIn u p.op 0 k → n ≡ budget u (put st p)
-  put-budget u k n ek en = en ∙ ap₂ (λ (m l : ℕ). budgetIn u p.op m l) (sym h.none_made) (ek ∙ sym put-left)
+  pub put-budget : (u : Until) (k n : ℕ) → k ≡ needs st p.op → n ≡ budget_in u p.op 0 k → n ≡ budget u (put st p)
+  put-budget u k n ek en = en ∙ ap₂ (λ (m l : ℕ). budget_in u p.op m l) (sym h.none_made) (ek ∙ sym put-left)
 
   pub go-may : (now : State) (u : Until) (n : ℕ) → now ≡ put st p → n ≡ budget u (put st p) → Served z at now × (n ≤ left now)
   go-may now u n e b =
       let few = budget-few u (put st p) in
       rw (e, b) (put-served, few)
 
-  run-taken : stepRow (put st p) img ≡ 0
+  run-taken : step_row (put st p) img ≡ 0
   run-taken =
-      let long : imageLength st.sizes ≤ length img = rw h.sizes at h.long in
-      sym (row-none (stepRows (put st p) img) (ap not put-valid, (le-ltb (length img) (imageLength st.sizes) long, (h.busy, tt))))
+      let long : image_length st.sizes ≤ length img = rw h.sizes at h.long in
+      sym (row-none (step_rows (put st p) img) (ap not put-valid, (le-ltb (length img) (image_length st.sizes) long, (h.busy, tt))))
 
   -- a run of so many stores
-  run-state : (n : ℕ) → n ≤ left (put st p) → (run_of (put st p) img n).state ≡ stateAfter (put st p) n
+  run-state : (n : ℕ) → n ≤ left (put st p) → (run_of (put st p) img n).state ≡ state_after (put st p) n
   unfolding run_of
   run-state n l =
       let m : min n (left (put st p)) ≡ n = omega (arith, l) in
       let some : 0 < left (put st p) = omega (arith, put-left, h.some) in
-      rw (run-taken, m) (run-after n (worldOf (put st p) img) h.busy some l)
+      rw (run-taken, m) (run-after n (world_of (put st p) img) h.busy some l)
 
-  run-bytes : (n : ℕ) → n ≤ left (put st p) → runBytes (put st p) img n ≡ storesMade (put st p) n img
-  unfolding runBytes
+  run-bytes : (n : ℕ) → n ≤ left (put st p) → run_bytes (put st p) img n ≡ stores_made (put st p) n img
+  unfolding run_bytes
   run-bytes n l =
       let m : min n (left (put st p)) ≡ n = omega (arith, l) in
-      rw (run-taken, m) (run-image n (worldOf (put st p) img) l)
+      rw (run-taken, m) (run-image n (world_of (put st p) img) l)
 
   -- ---- what a call came to that started it: a is its answer, bs and after are the bytes and the state after it, as `start` says
-  module _ (u : Until) (a : Answer) (bs : List ℕ) (after : State) (ha : a ≡ Taken (needs st p.op)) (hb : bs ≡ storesMade (put st p) (budget u (put st p)) img) (hs : after ≡ stateAfter (put st p) (budget u (put st p))) where
+  module _ (u : Until) (a : Answer) (bs : List ℕ) (after : State) (ha : a ≡ Taken (needs st p.op)) (hb : bs ≡ stores_made (put st p) (budget u (put st p)) img) (hs : after ≡ state_after (put st p) (budget u (put st p))) where
     pub started : (o : Outcome) → o ≡ record { number = 0; stores = needs st p.op; state = put st p } → Started a after bs o img u
     started o e =
         let some : eqb (needs st p.op) 0 ≡ false = ne_eqb (needs st p.op) 0 (λ q. omega (arith, q, h.some)) in
@@ -134,7 +134,7 @@ module _ (z : Sizes) (at : Places) (st : State) (img : List ℕ) (p : Pending) (
       started-asked q =
           let some : eqb (needs st p.op) 0 ≡ false = ne_eqb (needs st p.op) 0 (λ x. omega (arith, x, h.some)) in
           let zero : refusal rs ≡ 0 = sym e ∙ none in
-          let same : put st p ≡ withPending st p.op p.line = as-lines ∙ ap (λ (l : List ℕ). withLines st p.op p.line l) q in
+          let same : put st p ≡ with_pending st p.op p.line = as-lines ∙ ap (λ (l : List ℕ). with_lines st p.op p.line l) q in
           started (asked (refusal rs) st p.op p.line) (rw (zero, some) (ap (λ (s : State). record { number = 0; stores = needs st p.op; state = s }) (sym same)))
 
       -- its outcome is the operation pending, with so many stores
@@ -146,7 +146,7 @@ module _ (z : Sizes) (at : Places) (st : State) (img : List ℕ) (p : Pending) (
 -- ---- the other ways that a call comes to its end: turned back by a row, or complete with no store
 
 module _ (st : State) (img : List ℕ) (u : Until) (rs : List Row) (row : ℕ) (e : row ≡ refusal rs) where
-  pub started-refused : (row ≡ 0 → ⊥) → isAnswer row ≡ true → (a : Answer) → a ≡ asAnswer row 0 → (n : ℕ) (after : State) → Started a st img (answered (refusal rs) st n after) img u
+  pub started-refused : (row ≡ 0 → ⊥) → is_answer row ≡ true → (a : Answer) → a ≡ as_answer row 0 → (n : ℕ) (after : State) → Started a st img (answered (refusal rs) st n after) img u
   started-refused z l a ha n after =
       let f : eqb (refusal rs) 0 ≡ false = ne_eqb (refusal rs) 0 (λ q. z (e ∙ q)) in
       let k = refused-known a row st l ha in

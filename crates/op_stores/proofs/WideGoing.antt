@@ -6,28 +6,28 @@ use native.Mathlib.Omega.{arith}
 use lib.Dec.{eqb, leb}
 use borrow.Author.Tests.{ltb-true, leb-false}
 use Rattle.bounded.specs.Rows.{refusal}
-use Rattle.bounded.proofs.Tests.{caseOn, row_keeps}
+use Rattle.bounded.proofs.Tests.{case_on, row_keeps}
 use Rattle.layout.specs.declared.Sizes.{Sizes}
 use Rattle.entries.specs.Entries.{key_of}
 use Rattle.entries.proofs.EntryLaws.{entry-le}
 use Rattle.state.specs.State.{State, Wide}
 use Rattle.state.specs.declared.Op.TheVariants.{Log, Copy}
-use Rattle.state.specs.Wide.{entryFor, hasEntry, noEntryLeft}
-use Rattle.operations.specs.Operations.{opRows, needs, copyNeeds}
+use Rattle.state.specs.Wide.{entry_for, has_entry, no_entry_left}
+use Rattle.operations.specs.Operations.{op_rows, needs, copy_needs}
 use Rattle.operations.proofs.Taken.{LogTaken, log-taken}
 use Rattle.refinement.specs.Stores.{left}
 use Rattle.refinement.proofs.Going.{Going}
 
 -- a line that has no entry has one left for it
-pub entry-room : (z : Sizes) (d : Wide) (p l : ℕ) → d.count ≤ z.entries → noEntryLeft z d p l ≡ false → entryFor d p l < z.entries
+pub entry-room : (z : Sizes) (d : Wide) (p l : ℕ) → d.count ≤ z.entries → no_entry_left z d p l ≡ false → entry_for d p l < z.entries
 entry-room z d p l few room =
-    caseOn (hasEntry d p l)
-    (λ t. omega (arith, few, ltb-true (entryFor d p l) d.count t))
+    case_on (has_entry d p l)
+    (λ t. omega (arith, few, ltb-true (entry_for d p l) d.count t))
     (λ t.
     let full : leb z.entries d.count ≡ false = rw t at room in
     omega (arith, entry-le d.keys d.count (key_of p l), leb-false z.entries d.count full))
 
-pub log-of : (st : State) → refusal (opRows st st.pending.op) ≡ 0 → {p l o n : ℕ} → st.pending.op ≡ Log p l o n → LogTaken st p l o n
+pub log-of : (st : State) → refusal (op_rows st st.pending.op) ≡ 0 → {p l o n : ℕ} → st.pending.op ≡ Log p l o n → LogTaken st p l o n
 log-of st taken {p} {l} {o} {n} e = log-taken st p l o n (rw e at taken)
 
 -- of n stores that are left, the last is the operation's at most
@@ -42,6 +42,6 @@ module _ (st : State) (g : Going st) (n : ℕ) (h : n ≤ left st) where
   unfolding needs
   copy-left e =
       let c : ℕ = st.wide.count in
-      let q : needs st st.pending.op ≡ copyNeeds c = rw e in
-      let m : copyNeeds c ≤ 8 * c + 2 = row_keeps (λ (x : ℕ). x ≤ 8 * c + 2) (eqb c 0) 0 (8 * c + 2) (omega arith) (omega arith) in
+      let q : needs st st.pending.op ≡ copy_needs c = rw e in
+      let m : copy_needs c ≤ 8 * c + 2 = row_keeps (λ (x : ℕ). x ≤ 8 * c + 2) (eqb c 0) 0 (8 * c + 2) (omega arith) (omega arith) in
       omega (arith, g.made-low)

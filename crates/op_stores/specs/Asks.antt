@@ -2,34 +2,34 @@
 use Rattle.std.specs.Prelude.{ℕ, ◌<◌, ◌≤◌, true, false, List, ◌≡◌, length}
 use Rattle.bounded.specs.Rows.{refusal}
 use Rattle.layout.specs.declared.Sizes.{Sizes}
-use Rattle.layout.specs.Layout.{imageLength}
+use Rattle.layout.specs.Layout.{image_length}
 use Rattle.state.specs.State.{State}
 use Rattle.state.specs.declared.Places.{Places}
 use Rattle.state.specs.declared.Pending.{Pending}
 use Rattle.state.specs.declared.Op.{Op}
-use Rattle.operations.specs.Operations.{isIdle, opRows, needs}
-use Rattle.validity.specs.Validity.{stateOk, opFits, isFresh}
+use Rattle.operations.specs.Operations.{is_idle, op_rows, needs}
+use Rattle.validity.specs.Validity.{state_ok, op_fits, is_fresh}
 use Rattle.state_words.specs.Decoded.{places_of}
 
 -- z and at are the sizes and places of st; p is the operation with none of its stores made
 pub record Asks (z : Sizes) (at : Places) (st : State) (img : List ℕ) (p : Pending) : Type 0 where
   pub sizes : z ≡ st.sizes
   pub places : at ≡ places_of st
-  pub ok : stateOk st ≡ true
-  pub long : imageLength z ≤ length img
-  pub idle : isIdle st.pending.op ≡ true
-  pub busy : isIdle p.op ≡ false
+  pub ok : state_ok st ≡ true
+  pub long : image_length z ≤ length img
+  pub idle : is_idle st.pending.op ≡ true
+  pub busy : is_idle p.op ≡ false
   pub none_made : p.made ≡ 0
-  pub rows : refusal (opRows st p.op) ≡ 0
-  pub fits : opFits st.wide.writer (isFresh st) p.op ≡ true
+  pub rows : refusal (op_rows st p.op) ≡ 0
+  pub fits : op_fits st.wide.writer (is_fresh st) p.op ≡ true
   pub some : 0 < needs st p.op
 
 -- the same of an operation that keeps no lines; it may need no store
 pub record Allowed (z : Sizes) (at : Places) (st : State) (op : Op) : Type 0 where
   pub sizes : z ≡ st.sizes
   pub places : at ≡ places_of st
-  pub ok : stateOk st ≡ true
-  pub idle : isIdle st.pending.op ≡ true
-  pub busy : isIdle op ≡ false
-  pub rows : refusal (opRows st op) ≡ 0
-  pub fits : opFits st.wide.writer (isFresh st) op ≡ true
+  pub ok : state_ok st ≡ true
+  pub idle : is_idle st.pending.op ≡ true
+  pub busy : is_idle op ≡ false
+  pub rows : refusal (op_rows st op) ≡ 0
+  pub fits : op_fits st.wide.writer (is_fresh st) op ≡ true

@@ -1,6 +1,6 @@
 // An operation that keeps no lines, asked for: complete at once where it needs no store, else started.
 ghost use Rattle.std.specs.Prelude.{◌≡◌, ◌≤◌, length, replicate};
-ghost use Rattle.layout.specs.Layout.{imageLength};
+ghost use Rattle.layout.specs.Layout.{image_length};
 ghost use Rattle.operations.specs.Operations.{needs};
 ghost use Rattle.refinement.specs.Calls.{asked};
 ghost use Rattle.refinement.specs.Stores.{completed};
@@ -59,7 +59,7 @@ pub fn ask(
     op: Op,
     until: Until,
 ) -> Answer
-    requires { Allowed z at (decoded words.old) op × (imageLength z ≤ length image.old) }
+    requires { Allowed z at (decoded words.old) op × (image_length z ≤ length image.old) }
     ensures answer { result ≡ Taken (needs (decoded words.old) op) }
     ensures started { Started result (decoded words.new) image.new
         (asked 0 (decoded words.old) op (replicate 8 0)) image.old until }

@@ -5,14 +5,14 @@ mod making;
 mod telling;
 
 ghost use Rattle.std.specs.Prelude.{◌≡◌, ◌<◌, ◌≤◌, length};
-ghost use Rattle.layout.specs.Layout.{imageLength};
+ghost use Rattle.layout.specs.Layout.{image_length};
 ghost use Rattle.operations.specs.Operations.{needs};
-ghost use Rattle.refinement.specs.Stores.{storesMade, stateAfter, left};
+ghost use Rattle.refinement.specs.Stores.{stores_made, state_after, left};
 ghost use Rattle.answers.specs.declared.Answer.TheVariants.{Taken};
 ghost use Rattle.state_words.specs.Decoded.{decoded};
-ghost use Rattle.state_pending.specs.Put.{withPending};
+ghost use Rattle.state_pending.specs.Put.{with_pending};
 ghost use Rattle.op_writer.specs.Served.{Served};
-ghost use Rattle.op_stores.specs.Started.{fenceIn, budgetIn, budget};
+ghost use Rattle.op_stores.specs.Started.{fence_in, budget_in, budget};
 ghost use Rattle.op_stores.specs.Asks.{Asks};
 
 use answers::Answer;
@@ -32,9 +32,9 @@ pub enum Until {
 
 // Makes the next n stores of what is pending, and leaves what they leave where they are the last.
 pub fn go(image: &mut [u8], z: Sizes, at: Places, words: &mut Words, n: usize)
-    requires { Served z at (decoded words.old) × (n ≤ left (decoded words.old)) × (imageLength z ≤ length image.old) }
-    ensures image { image.new ≡ storesMade (decoded words.old) n image.old }
-    ensures words { decoded words.new ≡ stateAfter (decoded words.old) n }
+    requires { Served z at (decoded words.old) × (n ≤ left (decoded words.old)) × (image_length z ≤ length image.old) }
+    ensures image { image.new ≡ stores_made (decoded words.old) n image.old }
+    ensures words { decoded words.new ≡ state_after (decoded words.old) n }
 {
     let op = state_words::parts::op_in(words);
     let made = state_words::parts::made_in(words);
@@ -50,7 +50,7 @@ pub fn go(image: &mut [u8], z: Sizes, at: Places, words: &mut Words, n: usize)
 // Of an operation with m stores made and n left, those before the next store that decides.
 fn before_fence(op: Op, m: usize, n: usize) -> usize
     requires { 0 < n }
-    ensures { result ≡ fenceIn op m n }
+    ensures { result ≡ fence_in op m n }
 {
     match op {
         Op::Idle => n,
@@ -85,7 +85,7 @@ fn before_fence(op: Op, m: usize, n: usize) -> usize
 // Those that a call makes.
 pub fn budget(until: Until, op: Op, m: usize, n: usize) -> usize
     requires { 0 < n }
-    ensures { result ≡ budgetIn until op m n }
+    ensures { result ≡ budget_in until op m n }
 {
     match until {
         Until::Asked => 0,
@@ -105,10 +105,10 @@ pub fn start(
 ) -> Answer
     requires { Asks z at (decoded words.old) image.old p }
     ensures answer { result ≡ Taken (needs (decoded words.old) p.op) }
-    ensures image { image.new ≡ storesMade (withPending (decoded words.old) p)
-        (budget until (withPending (decoded words.old) p)) image.old }
-    ensures words { decoded words.new ≡ stateAfter (withPending (decoded words.old) p)
-        (budget until (withPending (decoded words.old) p)) }
+    ensures image { image.new ≡ stores_made (with_pending (decoded words.old) p)
+        (budget until (with_pending (decoded words.old) p)) image.old }
+    ensures words { decoded words.new ≡ state_after (with_pending (decoded words.old) p)
+        (budget until (with_pending (decoded words.old) p)) }
 {
     let op = p.op;
     let n = op_rows::op_needs(z, at, words, op);

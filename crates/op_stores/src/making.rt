@@ -1,13 +1,13 @@
 // The stores of what is pending: the piece that a store lies in, by operation, and the loop that puts pieces.
 ghost use Rattle.std.specs.Prelude.{◌≡◌, true, List, ℕ, ◌+◌, ◌*◌, ◌^◌, ◌<◌, ◌≤◌, length};
-ghost use Rattle.layout.specs.Layout.{Legal, headWord, imageLength};
+ghost use Rattle.layout.specs.Layout.{Legal, head_word, image_length};
 ghost use Rattle.journal.specs.Records.{position};
-ghost use Rattle.replay.specs.Table.{slotsShaped};
-ghost use Rattle.state.specs.Held.{heldSlots};
+ghost use Rattle.replay.specs.Table.{slots_shaped};
+ghost use Rattle.state.specs.Held.{held_slots};
 ghost use Rattle.operations.specs.Operations.{needs};
-ghost use Rattle.refinement.specs.Commit.{commitAtOf, commitValueOf};
-ghost use Rattle.refinement.specs.Stores.{storeAt, storeValue, storesMade};
-ghost use Rattle.op_pieces.specs.Pieces.{Next, onePiece};
+ghost use Rattle.refinement.specs.Commit.{commit_at_of, commit_value_of};
+ghost use Rattle.refinement.specs.Stores.{store_at, store_value, stores_made};
+ghost use Rattle.op_pieces.specs.Pieces.{Next, one_piece};
 ghost use Rattle.state_words.specs.Decoded.{decoded};
 ghost use Rattle.op_writer.specs.Served.{Served};
 
@@ -19,9 +19,9 @@ use state_words::Words;
 
 // The piece of a commit or a prepare by writer w that store i lies in.
 fn commit_piece(z: Sizes, at: Places, words: &Words, w: usize, i: usize) -> Piece
-    requires { Legal z × (at.head < 2 * z.places) × (slotsShaped z (decoded words.now).table ≡ true) × (w < 4) }
-    ensures { (img : List ℕ) → Next (λ m. commitAtOf z at.head (decoded words.now).writers.held w)
-        (λ m. commitValueOf z at.head (decoded words.now).table (decoded words.now).writers.held w) i (imageLength z) img result }
+    requires { Legal z × (at.head < 2 * z.places) × (slots_shaped z (decoded words.now).table ≡ true) × (w < 4) }
+    ensures { (img : List ℕ) → Next (λ m. commit_at_of z at.head (decoded words.now).writers.held w)
+        (λ m. commit_value_of z at.head (decoded words.now).table (decoded words.now).writers.held w) i (image_length z) img result }
 {
     let c = held_count(z, words, w);
     op_commit::piece::commit_piece(z, at.head, words, w, c, i)
@@ -30,7 +30,7 @@ fn commit_piece(z: Sizes, at: Places, words: &Words, w: usize, i: usize) -> Piec
 // The piece of a confirm by writer w.
 fn confirm_piece(z: Sizes, at: Places, words: &Words, w: usize) -> Piece
     requires { Legal z × (at.head < 2 * z.places) × (w < 4) }
-    ensures { result ≡ onePiece headWord (position z at.head (length (heldSlots z (decoded words.now).writers.held w))) }
+    ensures { result ≡ one_piece head_word (position z at.head (length (held_slots z (decoded words.now).writers.held w))) }
 {
     let c = held_count(z, words, w);
     op_commit::piece::confirm_piece(z, at.head, c)
@@ -46,9 +46,9 @@ pub(crate) fn next_piece(
     i: usize,
 ) -> Piece
     requires { Served z at (decoded words.now) × (op ≡ (decoded words.now).pending.op) × (i < needs (decoded words.now) op)
-        × (imageLength z ≤ length image.now) }
-    ensures { Next (λ m. storeAt (decoded words.now) op) (λ m. storeValue (decoded words.now) m op)
-        i (imageLength z) image.now result }
+        × (image_length z ≤ length image.now) }
+    ensures { Next (λ m. store_at (decoded words.now) op) (λ m. store_value (decoded words.now) m op)
+        i (image_length z) image.now result }
 {
     match op {
         Op::Idle => op_pieces::one(0, 0),
@@ -91,8 +91,8 @@ pub(crate) fn make_stores(
     n: usize,
 )
     requires { Served z at (decoded words.now) × (op ≡ (decoded words.now).pending.op) × (made ≡ (decoded words.now).pending.made)
-        × (made + n ≤ needs (decoded words.now) op) × (made + n < 2 ^ 64) × (imageLength z ≤ length image.old) }
-    ensures { image.new ≡ storesMade (decoded words.now) n image.old }
+        × (made + n ≤ needs (decoded words.now) op) × (made + n < 2 ^ 64) × (image_length z ≤ length image.old) }
+    ensures { image.new ≡ stores_made (decoded words.now) n image.old }
 {
     let mut i = 0;
     while i < n {

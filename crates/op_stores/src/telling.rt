@@ -1,11 +1,11 @@
 // What is left of the pending operation, and what comes next.
 ghost use Rattle.std.specs.Prelude.{◌≡◌, ◌≤◌, length};
-ghost use Rattle.layout.specs.Layout.{imageLength};
-ghost use Rattle.refinement.specs.Stores.{storeAt, left};
+ghost use Rattle.layout.specs.Layout.{image_length};
+ghost use Rattle.refinement.specs.Stores.{store_at, left};
 ghost use Rattle.state_words.specs.Decoded.{decoded};
 ghost use Rattle.op_writer.specs.Served.{Served};
 ghost use Rattle.op_stores.specs.Beside.{Beside};
-ghost use Rattle.op_stores.specs.Started.{beforeFence};
+ghost use Rattle.op_stores.specs.Started.{before_fence};
 
 use crate::making;
 use layout::Sizes;
@@ -35,11 +35,11 @@ pub struct Ahead {
 
 // Returns what comes next.
 pub fn look_ahead(image: &[u8], z: Sizes, at: Places, words: &Words) -> Ahead
-    requires { Served z at (decoded words.now) × (imageLength z ≤ length image.now) }
-    ensures at { result.at ≡ storeAt (decoded words.now) (decoded words.now).pending.op
+    requires { Served z at (decoded words.now) × (image_length z ≤ length image.now) }
+    ensures at { result.at ≡ store_at (decoded words.now) (decoded words.now).pending.op
         (decoded words.now).pending.made }
     ensures beside { Beside (decoded words.now) result.beside }
-    ensures before { result.before ≡ beforeFence (decoded words.now) }
+    ensures before { result.before ≡ before_fence (decoded words.now) }
     ensures left { result.left ≡ left (decoded words.now) }
 {
     let op = op_in(words);

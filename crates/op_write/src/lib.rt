@@ -1,12 +1,12 @@
 // A write on a state in words: its piece, and the state after its last store.
 ghost use Rattle.std.specs.Prelude.{◌≡◌, true, false, List, ℕ, ◌+◌, ◌*◌, ◌<◌, ◌≤◌};
-ghost use Rattle.layout.specs.Layout.{Legal, lineWord, imageLength};
-ghost use Rattle.replay.specs.Table.{slotsShaped};
-ghost use Rattle.operations.specs.Operations.{isIdle};
-ghost use Rattle.op_pieces.specs.Pieces.{Next, linePiece};
-ghost use Rattle.refinement.specs.Write.{frameToWrite, writeAt, writeValue, writeDone};
+ghost use Rattle.layout.specs.Layout.{Legal, line_word, image_length};
+ghost use Rattle.replay.specs.Table.{slots_shaped};
+ghost use Rattle.operations.specs.Operations.{is_idle};
+ghost use Rattle.op_pieces.specs.Pieces.{Next, line_piece};
+ghost use Rattle.refinement.specs.Write.{frame_to_write, write_at, write_value, write_done};
 ghost use Rattle.state_words.specs.Decoded.{decoded};
-ghost use Rattle.op_write.specs.LineHeld.{slotFrom, lineHeld};
+ghost use Rattle.op_write.specs.LineHeld.{slot_from, line_held};
 
 use journal::Slot;
 use layout::Sizes;
@@ -16,7 +16,7 @@ use state_words::Words;
 // The slot that page p is written by, own being the one that it has: that one, or else the first free one going round from the next slot to try.
 fn write_slot(z: Sizes, next: usize, words: &Words, own: usize) -> usize
     requires { Legal z × (next < z.slots) }
-    ensures { result ≡ slotFrom z next (decoded words.now).table.page own }
+    ensures { result ≡ slot_from z next (decoded words.now).table.page own }
 {
     if own < z.slots {
         return own;
@@ -35,9 +35,9 @@ pub fn line_piece(
     l: usize,
     k: usize,
 ) -> Piece
-    requires { Legal z × (next < z.slots) × (slotsShaped z (decoded words.now).table ≡ true) × (l < 64) }
-    ensures piece { result ≡ linePiece (lineWord z (frameToWrite z (decoded words.now).table next p l) l) line k }
-    ensures inside { 8 * (result.at + 8) ≤ imageLength z }
+    requires { Legal z × (next < z.slots) × (slots_shaped z (decoded words.now).table ≡ true) × (l < 64) }
+    ensures piece { result ≡ line_piece (line_word z (frame_to_write z (decoded words.now).table next p l) l) line k }
+    ensures inside { 8 * (result.at + 8) ≤ image_length z }
 {
     let own = state_held::slots::slot_of(z, words, p);
     let s = write_slot(z, next, words, own);
@@ -49,9 +49,9 @@ pub fn line_piece(
 // The piece of a write of line l of page p that store i lies in: its finished line.
 pub fn write_piece(z: Sizes, next: usize, words: &Words, p: usize, l: usize, i: usize) -> Piece
     requires { (z ≡ (decoded words.now).sizes) × (next ≡ (decoded words.now).next) × Legal z × (next < z.slots)
-        × (slotsShaped z (decoded words.now).table ≡ true) × (isIdle (decoded words.now).pending.op ≡ false) × (l < 64) × (i < 8) }
-    ensures { (img : List ℕ) → Next (λ m. writeAt (decoded words.now) p l) (λ m. writeValue (decoded words.now))
-        i (imageLength z) img result }
+        × (slots_shaped z (decoded words.now).table ≡ true) × (is_idle (decoded words.now).pending.op ≡ false) × (l < 64) × (i < 8) }
+    ensures { (img : List ℕ) → Next (λ m. write_at (decoded words.now) p l) (λ m. write_value (decoded words.now))
+        i (image_length z) img result }
 {
     let line = state_words::parts::line_in(words);
     line_piece(z, next, words, line, p, l, i)
@@ -60,7 +60,7 @@ pub fn write_piece(z: Sizes, next: usize, words: &Words, p: usize, l: usize, i: 
 // Writer w holds line l of page p from now on. A page without a slot takes one, its frame being the original.
 pub fn hold_line(z: Sizes, words: &mut Words, w: usize, p: usize, l: usize)
     requires { (z ≡ (decoded words.old).sizes) × Legal z × ((decoded words.old).next < z.slots) × (w < 4) × (p < 1024) × (l < 64) }
-    ensures { decoded words.new ≡ lineHeld (decoded words.old) w p l }
+    ensures { decoded words.new ≡ line_held (decoded words.old) w p l }
 {
     let next = state_words::places_in(words).next;
     let own = state_held::slots::slot_of(z, words, p);
@@ -86,7 +86,7 @@ pub fn hold_line(z: Sizes, words: &mut Words, w: usize, p: usize, l: usize)
 pub fn complete_write(z: Sizes, words: &mut Words, w: usize, p: usize, l: usize)
     requires { (z ≡ (decoded words.old).sizes) × Legal z × ((decoded words.old).next < z.slots)
         × (w < 4) × (p < 1024) × (l < 64) }
-    ensures { decoded words.new ≡ writeDone (decoded words.old) w p l }
+    ensures { decoded words.new ≡ write_done (decoded words.old) w p l }
 {
     hold_line(z, words, w, p, l);
     state_words::put_nothing(words);

@@ -2,7 +2,7 @@
 use Rattle.std.specs.Prelude.{ℕ, ◌+◌, ◌≤◌, List, ◌≡◌, length}
 use Rattle.state.specs.State.{State}
 use Rattle.operations.specs.Operations.{needs}
-use Rattle.refinement.specs.Stores.{storeAt, storeValue, storesMade}
+use Rattle.refinement.specs.Stores.{store_at, store_value, stores_made}
 use Rattle.op_pieces.specs.declared.Piece.{Piece}
 use Rattle.op_pieces.specs.Pieces.{Next}
 
@@ -10,7 +10,7 @@ use Rattle.op_pieces.specs.Pieces.{Next}
 pub record Due (st : State) (img : List ℕ) (p : Piece) (n : ℕ) : Type 0 where
   pub i : ℕ
   pub start : List ℕ
-  pub landed : img ≡ storesMade st i start
-  pub next : Next (λ m. storeAt st st.pending.op) (λ m. storeValue st m st.pending.op) (st.pending.made + i) (length img) img p
+  pub landed : img ≡ stores_made st i start
+  pub next : Next (λ m. store_at st st.pending.op) (λ m. store_value st m st.pending.op) (st.pending.made + i) (length img) img p
   pub inside : p.from + n ≤ p.count
   pub within : st.pending.made + (i + n) ≤ needs st st.pending.op

@@ -8,27 +8,27 @@ use borrow.Author.Tests.{ltb-true, ltb-false, leb-true}
 use native.Mathlib.Omega.{arith}
 use lib.ListN.{length, get_or, set, replicate, length-set}
 use lib.Seq.{take_all}
-use Rattle.bounded.proofs.Tests.{caseOn, contradicts, every_held}
-use Rattle.words.specs.Words.{le_of, bytes_of, part, over, word_at, putWord}
+use Rattle.bounded.proofs.Tests.{case_on, contradicts, every_held}
+use Rattle.words.specs.Words.{le_of, bytes_of, part, over, word_at, put_word}
 use Rattle.words.proofs.Bytes.{length-bytes}
 use Rattle.state.specs.declared.Op.TheVariants.{Idle, Write, Commit, Consolidate, Checkpoint, Event, Prepare, Confirm, Log, Copy, Format}
 use Rattle.state.specs.declared.Op.{Op}
 use Rattle.state.specs.declared.Pending.{Pending}
-use Rattle.operations.specs.Operations.{isIdle}
+use Rattle.operations.specs.Operations.{is_idle}
 use Rattle.state_words.specs.Decoded as words
 use Rattle.state_words.specs.Decoded.{decoded}
 use Rattle.state_words.proofs.DecodedLaws.{part_at, put-part}
-use Rattle.state_pending.specs.Put.{withPending}
+use Rattle.state_pending.specs.Put.{with_pending}
 use Rattle.text.specs.declared.Line.{Line}
 use Rattle.workbench.specs.Turns.{arg}
-use Rattle.workbench.specs.Finished.{finishedLines}
-use Rattle.pending_edits.specs.Edits.{withByte, pendingSet}
+use Rattle.workbench.specs.Finished.{finished_lines}
+use Rattle.pending_edits.specs.Edits.{with_byte, pending_set}
 
-abbrev withLines : Pending → List ℕ → List ℕ → Pending
-withLines p line second = record { op = p.op; made = p.made; line = line; second = second }
+abbrev with_lines : Pending → List ℕ → List ℕ → Pending
+with_lines p line second = record { op = p.op; made = p.made; line = line; second = second }
 
 -- what the form of a line of Q tells
-pub finished-few : (op : Op) → finishedLines op ≤ 2
+pub finished-few : (op : Op) → finished_lines op ≤ 2
 finished-few Idle = omega arith
 finished-few (Write w p l o n) = omega arith
 finished-few (Commit w) = omega arith
@@ -42,7 +42,7 @@ finished-few Copy = omega arith
 finished-few Format = omega arith
 
 -- an operation that is none has no finished line
-some-busy : (op : Op) → 0 < finishedLines op → isIdle op ≡ false
+some-busy : (op : Op) → 0 < finished_lines op → is_idle op ≡ false
 some-busy Idle h = absurd (omega (arith, h))
 some-busy (Write w p l o n) h = refl
 some-busy (Commit w) h = refl
@@ -55,46 +55,46 @@ some-busy (Log p l o n) h = refl
 some-busy Copy h = refl
 some-busy Format h = refl
 
-pub line-byte-formed : (line : Line) (op : Op) → eqb line.count 2 && ltb (arg line 0) (64 * finishedLines op) && leb (arg line 1) 255 ≡ true
-    → (arg line 0 < 128) × (arg line 1 ≤ 255) × (isIdle op ≡ false)
+pub line-byte-formed : (line : Line) (op : Op) → eqb line.count 2 && ltb (arg line 0) (64 * finished_lines op) && leb (arg line 1) 255 ≡ true
+    → (arg line 0 < 128) × (arg line 1 ≤ 255) × (is_idle op ≡ false)
 line-byte-formed line op e =
-    let h = every_held (eqb line.count 2 ∷ ltb (arg line 0) (64 * finishedLines op) ∷ leb (arg line 1) 255 ∷ []) e in
-    let l = ltb-true (arg line 0) (64 * finishedLines op) h.1.0 in
+    let h = every_held (eqb line.count 2 ∷ ltb (arg line 0) (64 * finished_lines op) ∷ leb (arg line 1) 255 ∷ []) e in
+    let l = ltb-true (arg line 0) (64 * finished_lines op) h.1.0 in
     (omega (arith, l, finished-few op), leb-true (arg line 1) 255 h.1.1.0, some-busy op (omega (arith, l)))
 
-module _ (c : List ℕ) (w : isIdle (decoded c).pending.op ≡ false) where
-  none-idle : eqb (get_or (words.part c 8) 0 0) 0 ≡ true → isIdle (decoded c).pending.op ≡ true
+module _ (c : List ℕ) (w : is_idle (decoded c).pending.op ≡ false) where
+  none-idle : eqb (get_or (words.part c 8) 0 0) 0 ≡ true → is_idle (decoded c).pending.op ≡ true
   unfolding decoded
   none-idle t = rw t refl
 
   some : eqb (get_or (words.part c 8) 0 0) 0 ≡ false
-  some = caseOn (eqb (get_or (words.part c 8) 0 0) 0) (λ t. contradicts (none-idle t) w) (λ f. f)
+  some = case_on (eqb (get_or (words.part c 8) 0 0) 0) (λ t. contradicts (none-idle t) w) (λ f. f)
 
   -- word k of a finished line, read and put
   module _ (k : ℕ) (l : k < 8) where
-    line_word : get_or c (24 + k) 0 ≡ get_or (decoded c).pending.line k 0
+    line_word_is : get_or c (24 + k) 0 ≡ get_or (decoded c).pending.line k 0
     unfolding decoded words.start words.size
-    line_word = rw some (sym (part_at c 9 k l))
+    line_word_is = rw some (sym (part_at c 9 k l))
 
     second_word : get_or c (32 + k) 0 ≡ get_or (decoded c).pending.second k 0
     unfolding decoded words.start words.size
     second_word = rw some (sym (part_at c 10 k l))
 
-    line-put : (v : ℕ) → decoded (set c (24 + k) v) ≡ withPending (decoded c) (withLines (decoded c).pending (set (decoded c).pending.line k v) (decoded c).pending.second)
+    line-put : (v : ℕ) → decoded (set c (24 + k) v) ≡ with_pending (decoded c) (with_lines (decoded c).pending (set (decoded c).pending.line k v) (decoded c).pending.second)
     unfolding decoded words.start words.size
     line-put v = put-part c 9 k v (omega arith) l ∙ rw some
 
-    second-put : (v : ℕ) → decoded (set c (32 + k) v) ≡ withPending (decoded c) (withLines (decoded c).pending (decoded c).pending.line (set (decoded c).pending.second k v))
+    second-put : (v : ℕ) → decoded (set c (32 + k) v) ≡ with_pending (decoded c) (with_lines (decoded c).pending (decoded c).pending.line (set (decoded c).pending.second k v))
     unfolding decoded words.start words.size
     second-put v = put-part c 10 k v (omega arith) l ∙ rw some
 
   -- byte i of both
-  pub byte_put : (i v : ℕ) → i < 128 → decoded (set c (24 + i / 8) (withByte (get_or c (24 + i / 8) 0) (i % 8) v)) ≡ withPending (decoded c) (pendingSet (decoded c).pending i v)
+  pub byte_put : (i v : ℕ) → i < 128 → decoded (set c (24 + i / 8) (with_byte (get_or c (24 + i / 8) 0) (i % 8) v)) ≡ with_pending (decoded c) (pending_set (decoded c).pending i v)
   byte_put i v h =
-      caseOn (ltb i 64)
+      case_on (ltb i 64)
       (λ t.
       let low : i / 8 < 8 = omega (arith, ltb-true i 64 t) in
-      line-put (i / 8) low _ ∙ rw (t, line_word (i / 8) low))
+      line-put (i / 8) low _ ∙ rw (t, line_word_is (i / 8) low))
       (λ f.
       let past : 64 ≤ i = ltb-false i 64 f in
       let low : (i - 64) / 8 < 8 = omega (arith, h) in
@@ -103,14 +103,14 @@ module _ (c : List ℕ) (w : isIdle (decoded c).pending.op ≡ false) where
       rw (place, byte) (second-put ((i - 64) / 8) low _ ∙ rw (f, second_word ((i - 64) / 8) low)))
 
 -- eight bytes with a word put over them are the word's bytes
-put-eight : (w : ℕ) → putWord (replicate 8 0) 0 w ≡ bytes_of 8 w
-unfolding putWord over bytes_of
+put-eight : (w : ℕ) → put_word (replicate 8 0) 0 w ≡ bytes_of 8 w
+unfolding put_word over bytes_of
 put-eight w = refl
 
-pub eight-long : (b : List ℕ) (w k v : ℕ) → b ≡ putWord (replicate 8 0) 0 w → 8 ≤ length (set b k v)
+pub eight-long : (b : List ℕ) (w k v : ℕ) → b ≡ put_word (replicate 8 0) 0 w → 8 ≤ length (set b k v)
 eight-long b w k v e = simp length-set (omega (arith, ap length (e ∙ put-eight w) ∙ length-bytes 8 w))
 
-pub line-byte : (b : List ℕ) (w k v : ℕ) → b ≡ putWord (replicate 8 0) 0 w → word_at (set b k v) 0 ≡ le_of (set (bytes_of 8 w) k v)
+pub line-byte : (b : List ℕ) (w k v : ℕ) → b ≡ put_word (replicate 8 0) 0 w → word_at (set b k v) 0 ≡ le_of (set (bytes_of 8 w) k v)
 unfolding word_at part
 line-byte b w k v e =
     let q : b ≡ bytes_of 8 w = e ∙ put-eight w in

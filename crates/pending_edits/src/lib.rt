@@ -2,11 +2,11 @@
 // over any that are there.
 ghost use Rattle.std.specs.Prelude.{◌≡◌, true, false, ◌+◌, ◌<◌, ◌≤◌, get_or, set, length};
 ghost use Rattle.words.specs.Words.{le_of, bytes_of};
-ghost use Rattle.operations.specs.Operations.{isIdle};
+ghost use Rattle.operations.specs.Operations.{is_idle};
 ghost use Rattle.state_words.specs.Decoded.{decoded};
-ghost use Rattle.state_pending.specs.Put.{eight, opIn, withPending};
-ghost use Rattle.workbench.specs.Turns.{turnAt};
-ghost use Rattle.pending_edits.specs.Edits.{pendingIn, pendingOf, pendingTurn, withByte, pendingSet, lineByteTurn};
+ghost use Rattle.state_pending.specs.Put.{eight, op_in, with_pending};
+ghost use Rattle.workbench.specs.Turns.{turn_at};
+ghost use Rattle.pending_edits.specs.Edits.{pending_in, pending_of, pending_turn, with_byte, pending_set, line_byte_turn};
 
 use state_words::{LINE, PENDING, SECOND, Words, parts};
 use text::Line;
@@ -30,8 +30,8 @@ fn put_eight(words: &mut Words, i: usize, l: [u64; 8])
 
 // Puts an operation by its eight numbers, its finished lines zeros.
 fn put_numbers(words: &mut Words, n: [u64; 8])
-    requires { isIdle (opIn n) ≡ false }
-    ensures { decoded words.new ≡ withPending (decoded words.old) (pendingIn n) }
+    requires { is_idle (op_in n) ≡ false }
+    ensures { decoded words.new ≡ with_pending (decoded words.old) (pending_in n) }
 {
     let _ = state_words::all_words(*words);
     let none = [0u64; 8];
@@ -43,7 +43,7 @@ fn put_numbers(words: &mut Words, n: [u64; 8])
 // Puts the operation that a line describes.
 fn put_described(words: &mut Words, line: Line)
     requires { get_or line.numbers 0 0 ≤ 10 }
-    ensures { decoded words.new ≡ withPending (decoded words.old) (pendingOf line) }
+    ensures { decoded words.new ≡ with_pending (decoded words.old) (pending_of line) }
 {
     let n = line.numbers;
     let k = n[0];
@@ -55,7 +55,7 @@ fn put_described(words: &mut Words, line: Line)
 }
 
 pub fn set_pending(words: &mut Words, line: Line) -> Said
-    ensures { turnAt result words.new ≡ pendingTurn (decoded words.old) line }
+    ensures { turn_at result words.new ≡ pending_turn (decoded words.old) line }
 {
     let k = line.numbers[0];
     if (line.count == 7) & (k <= 10) {
@@ -68,7 +68,7 @@ pub fn set_pending(words: &mut Words, line: Line) -> Said
 // A word with its byte j set to v.
 fn with_byte(word: u64, j: usize, v: u8) -> u64
     requires { j < 8 }
-    ensures { result ≡ withByte word j v }
+    ensures { result ≡ with_byte word j v }
 {
     let mut b = [0u8; 8];
     words::put_word(&mut b, 0, word);
@@ -78,16 +78,16 @@ fn with_byte(word: u64, j: usize, v: u8) -> u64
 
 // Sets byte i of the finished lines, which stand one behind the other.
 fn put_line_byte(words: &mut Words, i: usize, v: u8)
-    requires { (i < 128) × (isIdle (decoded words.old).pending.op ≡ false) }
+    requires { (i < 128) × (is_idle (decoded words.old).pending.op ≡ false) }
     ensures { decoded words.new
-        ≡ withPending (decoded words.old) (pendingSet (decoded words.old).pending i v) }
+        ≡ with_pending (decoded words.old) (pending_set (decoded words.old).pending i v) }
 {
     let k = LINE + i / 8;
     words[k] = with_byte(words[k], i % 8, v);
 }
 
 pub fn set_line_byte(words: &mut Words, line: Line) -> Said
-    ensures { turnAt result words.new ≡ lineByteTurn (decoded words.old) line }
+    ensures { turn_at result words.new ≡ line_byte_turn (decoded words.old) line }
 {
     let i = line.numbers[0] as usize;
     let v = line.numbers[1];

@@ -6,20 +6,20 @@ use mathlib.Core.Path.{◌≡◌, refl}
 use native.Mathlib.Omega.{arith}
 use lib.Dec.{eqb}
 use lib.ListN.{length, get_or, replicate, length-append}
-use Rattle.bounded.proofs.Tests.{caseOn, contradicts}
+use Rattle.bounded.proofs.Tests.{case_on, contradicts}
 use Rattle.words.proofs.Bytes.{length-bytes}
 use Rattle.state.specs.declared.Op.TheVariants.{Idle, Write, Commit, Consolidate, Checkpoint, Event, Prepare, Confirm, Log, Copy, Format}
 use Rattle.state.specs.declared.Op.{Op}
 use Rattle.state.specs.declared.Pending.{Pending}
-use Rattle.operations.specs.Operations.{isIdle}
+use Rattle.operations.specs.Operations.{is_idle}
 use Rattle.number_text.proofs.Puts.{length-each}
-use Rattle.pending_text.specs.Numbers.{lineBytes, lineNumbers, opNumbers, finishedNumbers, pendingNumbers}
-use Rattle.workbench.specs.Finished.{finishedLines}
+use Rattle.pending_text.specs.Numbers.{line_bytes, line_numbers, op_numbers, finished_numbers, pending_numbers}
+use Rattle.workbench.specs.Finished.{finished_lines}
 
-pub line-bytes : (words : List ℕ) (i : ℕ) → length (lineBytes words i) ≤ 8
+pub line-bytes : (words : List ℕ) (i : ℕ) → length (line_bytes words i) ≤ 8
 line-bytes words i = omega (arith, length-bytes 8 (get_or words i 0))
 
-pub length-op : (op : Op) (made : ℕ) → length (opNumbers op made) ≡ 7
+pub length-op : (op : Op) (made : ℕ) → length (op_numbers op made) ≡ 7
 length-op Idle made = refl
 length-op (Write w p l o n) made = refl
 length-op (Commit w) made = refl
@@ -32,23 +32,23 @@ length-op (Log p l o n) made = refl
 length-op Copy made = refl
 length-op Format made = refl
 
-pub line-long : (words : List ℕ) → length (lineNumbers words) ≤ 64
-line-long words = length-each 8 (lineBytes words) (line-bytes words) 8
+pub line-long : (words : List ℕ) → length (line_numbers words) ≤ 64
+line-long words = length-each 8 (line_bytes words) (line-bytes words) 8
 
-finished-long : (n : ℕ) (line second : List ℕ) → length (finishedNumbers n line second) ≤ 128
+finished-long : (n : ℕ) (line second : List ℕ) → length (finished_numbers n line second) ≤ 128
 finished-long n line second =
-    caseOn (eqb n 0) (λ t. rw t (omega arith))
-    (λ f. caseOn (eqb n 1)
-    (λ t. rw (f, t) (omega (arith, length-append (lineNumbers line) [], line-long line)))
-    (λ u. rw (f, u) (omega (arith, length-append (lineNumbers line) (lineNumbers second), line-long line, line-long second))))
+    case_on (eqb n 0) (λ t. rw t (omega arith))
+    (λ f. case_on (eqb n 1)
+    (λ t. rw (f, t) (omega (arith, length-append (line_numbers line) [], line-long line)))
+    (λ u. rw (f, u) (omega (arith, length-append (line_numbers line) (line_numbers second), line-long line, line-long second))))
 
-pub pending-long : (p : Pending) → length (pendingNumbers p) ≤ 135
+pub pending-long : (p : Pending) → length (pending_numbers p) ≤ 135
 pending-long p =
-    let n = finishedLines p.op in
-    omega (arith, length-append (opNumbers p.op p.made) (finishedNumbers n p.line p.second), length-op p.op p.made, finished-long n p.line p.second)
+    let n = finished_lines p.op in
+    omega (arith, length-append (op_numbers p.op p.made) (finished_numbers n p.line p.second), length-op p.op p.made, finished-long n p.line p.second)
 
 -- where nothing is pending they are seven zeros
-idle-op : (op : Op) (made : ℕ) (line second : List ℕ) → isIdle op ≡ true → opNumbers op made ++ finishedNumbers (finishedLines op) line second ≡ replicate 7 0
+idle-op : (op : Op) (made : ℕ) (line second : List ℕ) → is_idle op ≡ true → op_numbers op made ++ finished_numbers (finished_lines op) line second ≡ replicate 7 0
 idle-op Idle made line second e = refl
 idle-op (Write w p l o n) made line second e = contradicts e refl
 idle-op (Commit w) made line second e = contradicts e refl
@@ -61,5 +61,5 @@ idle-op (Log p l o n) made line second e = contradicts e refl
 idle-op Copy made line second e = contradicts e refl
 idle-op Format made line second e = contradicts e refl
 
-pub idle-zeros : (p : Pending) → isIdle p.op ≡ true → pendingNumbers p ≡ replicate 7 0
+pub idle-zeros : (p : Pending) → is_idle p.op ≡ true → pending_numbers p ≡ replicate 7 0
 idle-zeros p e = idle-op p.op p.made p.line p.second e

@@ -3,7 +3,7 @@ ghost use Rattle.std.specs.Prelude.{◌≡◌, [], ◌∷◌, ◌+◌, ◌<◌, 
 ghost use Rattle.words.specs.Words.{bytes_of};
 ghost use Rattle.number_text.specs.Text.{Put, blanked};
 ghost use Rattle.state_words.specs.Decoded.{decoded};
-ghost use Rattle.pending_text.specs.Numbers.{opNumbers, lineNumbers, finishedNumbers, pendingNumbers};
+ghost use Rattle.pending_text.specs.Numbers.{op_numbers, line_numbers, finished_numbers, pending_numbers};
 
 use state::Op;
 use state_words::{Words, parts};
@@ -18,7 +18,7 @@ fn written(code: u64, a: usize, b: usize, c: usize, d: usize, e: usize, made: u6
 
 // The numbers of an operation, and how many of its stores are made.
 fn op_numbers(op: Op, made: usize) -> [u64; 7]
-    ensures { result ≡ opNumbers op made }
+    ensures { result ≡ op_numbers op made }
 {
     let m = made as u64;
     match op {
@@ -77,7 +77,7 @@ fn byte_numbers(v: u64) -> [u64; 8]
 // The 64 bytes of a line of words.
 fn put_line(out: &mut [u8], at: usize, line: [u64; 8]) -> usize
     requires { at + 1344 ≤ length out.old }
-    ensures { Put out.old at (blanked (lineNumbers line)) out.new result }
+    ensures { Put out.old at (blanked (line_numbers line)) out.new result }
 {
     let mut next = at;
     let mut i = 0;
@@ -92,7 +92,7 @@ fn put_line(out: &mut [u8], at: usize, line: [u64; 8]) -> usize
 // The bytes of n finished lines.
 fn put_finished(out: &mut [u8], at: usize, n: usize, line: [u64; 8], second: [u64; 8]) -> usize
     requires { at + 2688 ≤ length out.old }
-    ensures { Put out.old at (blanked (finishedNumbers n line second)) out.new result }
+    ensures { Put out.old at (blanked (finished_numbers n line second)) out.new result }
 {
     if n == 0 {
         return at;
@@ -107,7 +107,7 @@ fn put_finished(out: &mut [u8], at: usize, n: usize, line: [u64; 8], second: [u6
 // The pending operation of a state in words, at most 135 numbers: seven zeros where there is none.
 pub fn put_pending(out: &mut [u8], at: usize, words: &Words) -> usize
     requires { at + 2835 ≤ length out.old }
-    ensures { Put out.old at (blanked (pendingNumbers (decoded words.now).pending)) out.new result }
+    ensures { Put out.old at (blanked (pending_numbers (decoded words.now).pending)) out.new result }
 {
     if parts::idle_in(words) {
         return number_text::put_numbers(out, at, &[0; 7]);

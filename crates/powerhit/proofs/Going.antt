@@ -1,17 +1,17 @@
 -- A session and its buffers, and where the bytes bring them.
 use Rattle.std.proofs.Common.{◌≡◌, ℕ, ◌+◌, ◌-◌, ◌%◌, ◌^◌, ◌<◌, ◌≤◌, min, Bool, true, leb, List, [], ◌∷◌, ◌++◌, length, take, drop, set, sym, refl, ap, ◌∙◌, append-nil, add-one, arith, length-drop, length-set, drop_of_length-le, length-take, length-take-le, take_all, take-take, take-suc-set, take_at, drop_at, ne_eqb, le-leb, leb-false, leb-true}
-use Rattle.bounded.proofs.Tests.{caseOn}
+use Rattle.bounded.proofs.Tests.{case_on}
 use Rattle.words.specs.Words.{part, over}
-use Rattle.cutting.specs.Pieces.{lineEnd, fitting}
+use Rattle.cutting.specs.Pieces.{line_end, fitting}
 use Rattle.cutting.specs.Buffers.{Holds, Ends}
-use Rattle.cutting.specs.Feeding.{Fed, fedByte, fed, ended}
+use Rattle.cutting.specs.Feeding.{Fed, fed_byte, fed, ended}
 use Rattle.cutting.proofs.Buffers.{holds-none, holds-length, holds_more, ends-none, ends_more}
 use Rattle.cutting.proofs.Cutting.{end-here}
 use Rattle.cutting.proofs.Feeding.{fed-append, fed-line, fed-to, fed-rest}
 use Rattle.text.proofs.LongLine.{cut_line}
-use Rattle.printing.specs.Output.{outputLine}
+use Rattle.printing.specs.Output.{output_line}
 use Rattle.executing.specs.Called.{Machine}
-use Rattle.script.specs.Performed.{lineTurn, Performance, performed}
+use Rattle.script.specs.Performed.{line_turn, Performance, performed}
 use Rattle.powerhit.specs.declared.Session.{Session}
 use Rattle.powerhit.specs.Program.{Work, roomed, act, first, Stands, Shows, Takes, Lines, Closes, TakesSome, Ran}
 
@@ -23,18 +23,18 @@ unfolding act
 act-cut w n line h = rw (cut_line 9 n line h)
 
 roomed-low : (at : ℕ) → roomed at ≤ 65000
-roomed-low at = caseOn (leb at 65000) (λ t. rw t (leb-true at 65000 t)) (λ t. rw t (omega arith))
+roomed-low at = case_on (leb at 65000) (λ t. rw t (leb-true at 65000 t)) (λ t. rw t (omega arith))
 
 -- all that waits is written, or nothing
 ends-room : {out : List ℕ} {at : ℕ} {printed : List ℕ} → Ends out at printed → Ends out (roomed at) printed
-ends-room {out} {at} {printed} h = caseOn (leb at 65000) (λ t. rw t h) (λ t. rw t (ends-none out printed))
+ends-room {out} {at} {printed} h = case_on (leb at 65000) (λ t. rw t h) (λ t. rw t (ends-none out printed))
 
 -- with room for what it prints
 act-stands : (w : Work) (line out : List ℕ) → Ends out (roomed w.waiting) w.printed → roomed w.waiting ≤ length out
-    → (let t = lineTurn w.machine w.image line in
+    → (let t = line_turn w.machine w.image line in
     let n = (w.lines + 1) % 2 ^ 64 in
     let at = roomed w.waiting in
-    let text = outputLine n t.output in
+    let text = output_line n t.output in
     length (over out at text) ≡ length out → Stands t.machine n (at + length text) t.image (over out at text) (act w line))
 unfolding act
 act-stands w line out h r k = record { machine = refl; image = refl; lines = refl; waiting = refl; unwritten = ends_more _ h r k }
@@ -62,10 +62,10 @@ pub record Reached (m : Machine) (n at : ℕ) (img out piece : List ℕ) (start 
   pub left : bytes ≡ fed act (record { done = work; begun = part piece start (end - start) }) (drop end piece)
 
 -- past a newline, up to the end of the next line
-fed-next : (f : Fed Work) (piece : List ℕ) (end : ℕ) → end ≡ lineEnd piece end → end < length piece
+fed-next : (f : Fed Work) (piece : List ℕ) (end : ℕ) → end ≡ line_end piece end → end < length piece
     → fed act f (drop end piece)
-    ≡ fed act (record { done = act f.done f.begun; begun = part piece (end + 1) (lineEnd piece (end + 1) - (end + 1)) })
-    (drop (lineEnd piece (end + 1)) piece)
+    ≡ fed act (record { done = act f.done f.begun; begun = part piece (end + 1) (line_end piece (end + 1) - (end + 1)) })
+    (drop (line_end piece (end + 1)) piece)
 unfolding part
 fed-next f piece end e h =
     let z : end - end ≡ 0 = omega arith in
@@ -73,11 +73,11 @@ fed-next f piece end e h =
     ∙ rw (← e, z, append-nil) (fed-to act (record { done = act f.done f.begun; begun = [] }) piece (end + 1) (omega arith))
 
 module _ {m : Machine} {n at : ℕ} {img out piece : List ℕ} {start end : ℕ} {bytes : Fed Work} (reached : Reached m n at img out piece start end bytes) where
-  pub reached-line : (room k : ℕ) (p : Performance) (next : ℕ) → end ≡ lineEnd piece end → end < length piece
+  pub reached-line : (room k : ℕ) (p : Performance) (next : ℕ) → end ≡ line_end piece end → end < length piece
       → room ≡ roomed at → length out ≡ 65536 → length p.out ≡ 65536
       → k ≡ (n + 1) % 2 ^ 64
       → p ≡ performed m img k (part piece start (end - start)) out room
-      → next ≡ lineEnd piece (end + 1)
+      → next ≡ line_end piece (end + 1)
       → Reached p.machine k p.end p.image p.out piece (end + 1) next bytes
   reached-line room k p next e some made size size' count h found =
       let line : List ℕ = part piece start (end - start) in
@@ -125,12 +125,12 @@ module _ (line : List ℕ) (end : ℕ) (inside : end < length line) where
       let z : end - 0 ≡ end = omega arith in
       rw (closed, z) (take_at (take end line) (10 ∷ []) end short)
 
-  pub closed-end : end ≡ lineEnd (take (end + 1) (set line end 10)) end
+  pub closed-end : end ≡ line_end (take (end + 1) (set line end 10)) end
   closed-end = end-here (take (end + 1) (set line end 10)) end [] (simp (length-take, length-set) (omega arith)) closed-rest
 
 take-both : (a b : ℕ) (l : List ℕ) → take (min a b) l ≡ take b (take a l)
 take-both a b l =
-    caseOn (leb a b)
+    case_on (leb a b)
     (λ t.
     let h : a ≤ b = leb-true a b t in
     let e : min a b ≡ a = omega arith in
@@ -143,7 +143,7 @@ take-both a b l =
 -- a newline: its line is performed by what the buffer has of it
 pub goes-newline : {s r : Session} {words img line out words' img' line' out' : List ℕ} (end : ℕ) → length line ≡ 2048 → end ≡ min s.kept 2047
     → Lines s words img out (take (end + 1) (set line end 10)) 0 end r words' img' out' → Takes s words img line out (10 ∷ []) r words' img' line' out'
-unfolding fed fedByte
+unfolding fed fed_byte
 goes-newline {s = s} {line = line} {line' = line'} end size e lines =
     record {
       shows = λ f shows.
@@ -166,7 +166,7 @@ module _ {s : Session} {words img line out : List ℕ} where
   -- one that no newline ends is performed as if one did
   pub finishes-some : {r : Session} {words' img' line' out' : List ℕ} → (s.kept ≡ 0 → ⊥)
       → Takes s words img line out (10 ∷ []) r words' img' line' out' → Closes s words img line out r words' img' out'
-  unfolding ended fed fedByte
+  unfolding ended fed fed_byte
   finishes-some e g =
       record { stands = λ f shows. rw (ne_eqb (length f.begun) 0 (some-begun shows.next e)) (g.shows f shows).lines }
 
@@ -194,7 +194,7 @@ module _ {s : Session} {words img line out : List ℕ} where
 
 -- a piece whose first line goes on to `end`: q is the session with what the line keeps of it
 module _ {s : Session} {words img line out : List ℕ} (piece : List ℕ) (end : ℕ) (q : Session) (line' : List ℕ)
-    (found : end ≡ lineEnd piece 0)
+    (found : end ≡ line_end piece 0)
     (bytes : line' ≡ over line s.kept (fitting line s.kept piece 0 end))
     (kept : q.kept ≡ s.kept + length (fitting line s.kept piece 0 end))
     (mode : q.mode ≡ s.mode) (lines : q.lines ≡ s.lines) (at : q.at ≡ s.at) where
@@ -211,12 +211,12 @@ module _ {s : Session} {words img line out : List ℕ} (piece : List ℕ) (end :
   -- then its newline, and the lines after it; what stands after the last newline is kept
   pub goes_lines : {n r t : Session} {words' img' line'' out' words'' img'' line''' out'' : List ℕ} (e : ℕ) → end < length piece
       → Takes q words img line' out (10 ∷ []) n words' img' line'' out'
-      → e ≡ lineEnd piece (end + 1) → Lines n words' img' out' piece (end + 1) e r words'' img'' out''
+      → e ≡ line_end piece (end + 1) → Lines n words' img' out' piece (end + 1) e r words'' img'' out''
       → line''' ≡ over line'' 0 (fitting line'' 0 piece r.start (length piece))
       → t.kept ≡ 0 + length (fitting line'' 0 piece r.start (length piece))
       → t.mode ≡ r.mode → t.lines ≡ r.lines → t.at ≡ r.at
       → Takes s words img line out piece t words'' img'' line''' out''
-  unfolding fed fedByte part
+  unfolding fed fed_byte part
   goes_lines {r = r} {line'' = line''} e some g at-e h a b c d k =
       record {
         shows = λ f shows.

@@ -3,7 +3,7 @@ use Rattle.std.specs.Prelude.{◌≡◌, ℕ, ◌-◌, List, [], take, drop, nat
 use Rattle.words.specs.Words.{part}
 use Rattle.cutting.specs.Buffers.{Holds, Ends}
 use Rattle.cutting.specs.Feeding.{Fed, fed, ended}
-use Rattle.executing.specs.Called.{Machine, machineAt}
+use Rattle.executing.specs.Called.{Machine, machine_at}
 use Rattle.script.specs.Work.{opening}
 pub use Rattle.script.specs.Work.{Work, roomed}
 unfoldable pub use Rattle.script.specs.Work.{act}
@@ -25,7 +25,7 @@ pub record Stands (m : Machine) (n at : ℕ) (img out : List ℕ) (w : Work) : T
 -- that a session, its state's words and its buffers are what the bytes so far came to: of the next line the line buffer has what has come, as much as
 -- fits
 pub record Shows (s : Session) (words image line out : List ℕ) (f : Fed Work) : Type 0 where
-  pub lines : Stands (machineAt s.mode words) s.lines s.at image out f.done
+  pub lines : Stands (machine_at s.mode words) s.lines s.at image out f.done
   pub next : Holds line s.kept f.begun
 
 -- that these bytes bring the one session and its buffers to the other
@@ -34,14 +34,14 @@ pub record Takes (s : Session) (words image line out bytes : List ℕ) (r : Sess
 
 -- the same of the lines of a piece, from one on that goes from byte `from` to byte `to`: what has come of the next one begins at `start`
 pub record Lines (s : Session) (words image out piece : List ℕ) (from to : ℕ) (r : Session) (words' image' out' : List ℕ) : Type 0 where
-  pub stands : (w : Work) → Stands (machineAt s.mode words) s.lines s.at image out w
+  pub stands : (w : Work) → Stands (machine_at s.mode words) s.lines s.at image out w
       → (let f = fed act (record { done = w; begun = part piece from (to - from) }) (drop to piece) in
-      Stands (machineAt r.mode words') r.lines r.at image' out' f.done × (f.begun ≡ drop r.start piece))
+      Stands (machine_at r.mode words') r.lines r.at image' out' f.done × (f.begun ≡ drop r.start piece))
   pub kept : r.kept ≡ 0
 
 -- the input's end does: a last line that no newline ends is performed too
 pub record Closes (s : Session) (words image line out : List ℕ) (r : Session) (words' image' out' : List ℕ) : Type 0 where
-  pub stands : (f : Fed Work) → Shows s words image line out f → Stands (machineAt r.mode words') r.lines r.at image' out' (ended act f)
+  pub stands : (f : Fed Work) → Shows s words image line out f → Stands (machine_at r.mode words') r.lines r.at image' out' (ended act f)
 
 -- the bytes do that a read put at the start of `input`; there may be more where it put any. (Which bytes they are no contract says.)
 pub record Reads (s : Session) (words image line out input : List ℕ) (r : Session) (words' image' line' out' : List ℕ) : Type 0 where
@@ -57,4 +57,4 @@ pub record TakesSome (s : Session) (words image line out : List ℕ) (r : Sessio
 -- the whole input, whatever it is, has brought the program here, with this image at first
 pub record Ran (image : List ℕ) (r : Session) (words' image' out' : List ℕ) : Type 0 where
   pub input : List ℕ
-  pub stands : Stands (machineAt r.mode words') r.lines r.at image' out' (ended act (fed act (first image) input))
+  pub stands : Stands (machine_at r.mode words') r.lines r.at image' out' (ended act (fed act (first image) input))

@@ -1,7 +1,7 @@
 // Program powerhit: calls as lines of standard input, each answered by a line of standard output (document 01).
 // What a line does and prints is script's. Here the input is cut into lines and the output is collected.
 ghost use Rattle.std.specs.Prelude.{◌≡◌, ℕ, ◌≤◌, List, [], ◌∷◌, length};
-ghost use Rattle.cutting.specs.Pieces.{lineEnd};
+ghost use Rattle.cutting.specs.Pieces.{line_end};
 ghost use Rattle.powerhit.specs.Program.{roomed, Shows, first, Takes, Lines, Closes, Reads, TakesSome, Ran};
 
 use executing::Mode;
@@ -76,7 +76,7 @@ fn perform_lines(
     out: &mut [u8; 65536],
 ) -> Session
     requires from_le_to { from ≤ to }
-    requires to_value { to ≡ lineEnd piece.now to }
+    requires to_value { to ≡ line_end piece.now to }
     ensures { Lines s words.old image.old out.old piece.now from to
         result words.new image.new out.new }
 {

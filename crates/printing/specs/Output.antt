@@ -1,7 +1,7 @@
 -- The line that a line prints: its number, the call, the answer, the stores made, the byte read or a dash.
 use Rattle.std.specs.Prelude.{ℕ, List, [], ◌∷◌, ◌++◌}
 use Prim.Native.Char.{Char, code}
-use Rattle.decimals.specs.Decimal.{decimalOf}
+use Rattle.decimals.specs.Decimal.{decimal_of}
 use Rattle.printing.specs.declared.Output.{Output}
 use Rattle.printing.specs.declared.Output.TheVariants.{Answered, Shown, Unknown}
 
@@ -16,9 +16,9 @@ sign c = code c ∷ []
 
 -- call, answer, stores, byte
 abbrev pub fields_of : Output → List (List ℕ)
-fields_of (Answered letter number stores) = (letter ∷ []) ∷ decimalOf number ∷ decimalOf stores ∷ sign "-" ∷ []
-fields_of (Shown byte) = sign "R" ∷ decimalOf 0 ∷ decimalOf 0 ∷ decimalOf byte ∷ []
-fields_of Unknown = sign "?" ∷ sign "?" ∷ decimalOf 0 ∷ sign "-" ∷ []
+fields_of (Answered letter number stores) = (letter ∷ []) ∷ decimal_of number ∷ decimal_of stores ∷ sign "-" ∷ []
+fields_of (Shown byte) = sign "R" ∷ decimal_of 0 ∷ decimal_of 0 ∷ decimal_of byte ∷ []
+fields_of Unknown = sign "?" ∷ sign "?" ∷ decimal_of 0 ∷ sign "-" ∷ []
 
-unfoldable pub outputLine : ℕ → Output → List ℕ
-outputLine n output = decimalOf n ++ commas (fields_of output)
+unfoldable pub output_line : ℕ → Output → List ℕ
+output_line n output = decimal_of n ++ commas (fields_of output)

@@ -2,7 +2,7 @@
 ghost use Rattle.std.specs.Prelude.{[], ◌∷◌, ◌+◌, ◌≤◌, length};
 ghost use Rattle.number_text.specs.Text.{Put};
 ghost use Rattle.printing.specs.declared.Output.TheVariants.{Answered, Shown, Unknown};
-ghost use Rattle.printing.specs.Output.{commas, fields_of, outputLine};
+ghost use Rattle.printing.specs.Output.{commas, fields_of, output_line};
 
 use number_text::put_after;
 
@@ -78,7 +78,7 @@ fn put_fields(out: &mut [u8], at: usize, output: Output) -> usize
 // Puts the line of number n. No line has more than 67 bytes.
 pub fn put_output(out: &mut [u8], at: usize, n: usize, output: Output) -> usize
     requires { at + 67 ≤ length out.old }
-    ensures { Put out.old at (outputLine n output) out.new result }
+    ensures { Put out.old at (output_line n output) out.new result }
 {
     let next = decimals::put_decimal(out, at, n as u64);
     put_fields(out, next, output)

@@ -1,10 +1,10 @@
 -- Where the program stands after a line, and at a place of a piece.
 use Rattle.std.proofs.Common.{◌≡◌, ℕ, ◌+◌, ◌-◌, ◌%◌, ◌^◌, ◌<◌, ◌≤◌, leb, List, [], ◌∷◌, ◌++◌, length, take, drop, sym, refl, ap, ◌∙◌, subst, arith, length-drop, drop_of_length-le, take_all, eq-eqb, ne_eqb}
-use Rattle.bounded.proofs.Tests.{caseOn}
+use Rattle.bounded.proofs.Tests.{case_on}
 use Rattle.words.specs.Words.{part, over}
-use Rattle.cutting.specs.Pieces.{lineEnd, fitting}
+use Rattle.cutting.specs.Pieces.{line_end, fitting}
 use Rattle.cutting.specs.Buffers.{Ends}
-use Rattle.cutting.specs.Feeding.{Fed, fed, fedByte, ended}
+use Rattle.cutting.specs.Feeding.{Fed, fed, fed_byte, ended}
 use Rattle.cutting.proofs.Cutting.{end-le, end_ge}
 use Rattle.cutting.proofs.Feeding.{fed-append, fed-line, fed-rest}
 use Rattle.cutting.proofs.Buffers.{holds-none, holds-length, holds_more, ends-none, ends_more}
@@ -12,37 +12,37 @@ use Rattle.text.specs.Fields.{parsed}
 use Rattle.text.proofs.LongLine.{cut_line}
 use Rattle.number_text.specs.Text.{Put}
 use Rattle.probe.specs.declared.Session.{Session}
-use Rattle.probe.specs.Program.{Work, act, Stand, stand, benchIn, Shows, Takes, Reads, TakesSome, Closes, benchAfter, bytesAfter, lineText, roomed}
+use Rattle.probe.specs.Program.{Work, act, Stand, stand, bench_in, Shows, Takes, Reads, TakesSome, Closes, bench_after, bytes_after, line_text, roomed}
 
 -- ---- a line that was kept, and its newline
 
-abbrev keptLine : Stand → List ℕ
-keptLine p = take p.session.kept p.line
+abbrev kept_line : Stand → List ℕ
+kept_line p = take p.session.kept p.line
 
 -- what is kept is read as the whole line would be
-kept-parsed : (p : Stand) (f : Fed Work) → Shows p f → 1450 < length p.line → parsed 20 (keptLine p) ≡ parsed 20 f.begun
+kept-parsed : (p : Stand) (f : Fed Work) → Shows p f → 1450 < length p.line → parsed 20 (kept_line p) ≡ parsed 20 f.begun
 kept-parsed p f h long = ap (parsed 20) h.begun.bytes ∙ cut_line 20 (length p.line) f.begun (omega arith)
 
 -- what `lines::perform` does, and the session after it
 pub record Performed (p q : Stand) : Type 0 where
   pub lines : q.session.lines ≡ (p.session.lines + 1) % 2 ^ 64
   pub kept : q.session.kept ≡ 0
-  pub bench : benchIn q ≡ benchAfter (benchIn p) p.buffer (keptLine p)
-  pub buffer : q.buffer ≡ bytesAfter (benchIn p) p.buffer (keptLine p)
-  pub text : Put p.out (roomed p.session.at) (lineText (benchIn p) p.buffer (keptLine p) q.session.lines) q.out q.session.at
+  pub bench : bench_in q ≡ bench_after (bench_in p) p.buffer (kept_line p)
+  pub buffer : q.buffer ≡ bytes_after (bench_in p) p.buffer (kept_line p)
+  pub text : Put p.out (roomed p.session.at) (line_text (bench_in p) p.buffer (kept_line p) q.session.lines) q.out q.session.at
   pub same_size : length q.out ≡ length p.out
 
 -- what waits, once there is room
 ends-roomed : {out : List ℕ} {at : ℕ} {printed : List ℕ} → Ends out at printed → Ends out (roomed at) printed
-ends-roomed {out} {at} {printed} h = caseOn (leb at 36000) (λ t. rw t h) (λ t. rw t (ends-none out printed))
+ends-roomed {out} {at} {printed} h = case_on (leb at 36000) (λ t. rw t h) (λ t. rw t (ends-none out printed))
 
 pub shows-performed : (p q : Stand) → 1450 < length p.line → roomed p.session.at ≤ length p.out → Performed p q
     → Takes p (10 ∷ []) q
-unfolding fed fedByte act
+unfolding fed fed_byte act
 shows-performed p q long room d f h =
     let e = kept-parsed p f h long in
     let n = d.lines ∙ ap (λ (k : ℕ). (k + 1) % 2 ^ 64) h.lines in
-    let text : List ℕ = lineText f.done.bench f.done.buffer f.begun ((f.done.lines + 1) % 2 ^ 64) in
+    let text : List ℕ = line_text f.done.bench f.done.buffer f.begun ((f.done.lines + 1) % 2 ^ 64) in
     let t : Put p.out (roomed p.session.at) text q.out q.session.at = rw (← h.bench, ← h.buffer, ← e, ← n) d.text in
     record {
       bench = rw (← h.bench, ← h.buffer, ← e) d.bench;
@@ -76,13 +76,13 @@ part-rest l a = take_all (length l - a) (drop a l) (omega (arith, length-drop a 
 -- of a line that goes on at `from` and ends at `end`, as much as fits is put behind what is kept
 pub record More (p : Stand) (piece : List ℕ) (s : Session) (buffer words table line out : List ℕ) (from end : ℕ) (line' : List ℕ) (k : ℕ) : Type 0 where
   pub inside : from < length piece
-  pub found : end ≡ lineEnd piece from
+  pub found : end ≡ line_end piece from
   pub laid : line' ≡ over line s.kept (fitting line s.kept piece from end)
   pub count : k ≡ s.kept + length (fitting line s.kept piece from end)
   pub before : Before p piece (stand s buffer words table line out) (drop from piece)
 
-abbrev withKept : Session → ℕ → Session
-withKept s k = record { lent = s.lent; lines = s.lines; kept = k; at = s.at; more = s.more }
+abbrev with_kept : Session → ℕ → Session
+with_kept s k = record { lent = s.lent; lines = s.lines; kept = k; at = s.at; more = s.more }
 
 module _
     {p : Stand}
@@ -94,7 +94,7 @@ module _
     {k : ℕ}
     (m : More p piece s buffer words table line out from end line' k) where
   shows_kept : (g : Fed Work) → Shows (stand s buffer words table line out) g
-      → Shows (stand (withKept s k) buffer words table line' out) (record { done = g.done; begun = g.begun ++ part piece from (end - from) })
+      → Shows (stand (with_kept s k) buffer words table line' out) (record { done = g.done; begun = g.begun ++ part piece from (end - from) })
   shows_kept g h =
       record {
         bench = h.bench;
@@ -106,25 +106,25 @@ module _
       }
 
   -- the line ends here and is performed
-  pub before-line : {q : Stand} → end < length piece → Takes (stand (withKept s k) buffer words table line' out) (10 ∷ []) q
+  pub before-line : {q : Stand} → end < length piece → Takes (stand (with_kept s k) buffer words table line' out) (10 ∷ []) q
       → Before p piece q (drop (end + 1) piece)
-  unfolding Before fed fedByte
+  unfolding Before fed fed_byte
   before-line {q} more t f h =
       let (g, d, e) = m.before f h in
-      let l : lineEnd piece from < length piece = omega (arith, m.found) in
+      let l : line_end piece from < length piece = omega (arith, m.found) in
       (_, t _ (shows_kept g d), rw m.found (sym (fed-line act g piece from (omega (arith, m.inside)) l) ∙ e))
 
   pub less-left : end < length piece → length piece - (end + 1) < length piece - from
   less-left more = omega (arith, m.inside, m.found, end_ge piece from (omega (arith, m.inside)))
 
   -- it goes on past the piece
-  pub before-rest : length piece ≤ end → Takes p piece (stand (withKept s k) buffer words table line' out)
+  pub before-rest : length piece ≤ end → Takes p piece (stand (with_kept s k) buffer words table line' out)
   unfolding Before
   before-rest none f h =
       let (g, d, e) = m.before f h in
       let whole : end ≡ length piece = omega (arith, m.found, end-le piece from) in
       let rest : part piece from (end - from) ≡ drop from piece = rw whole (part-rest piece from) in
-      subst (Shows (stand (withKept s k) buffer words table line' out))
+      subst (Shows (stand (with_kept s k) buffer words table line' out))
       (ap (λ (l : List ℕ). record { done = g.done; begun = g.begun ++ l }) rest
       ∙ sym (fed-rest act g piece from (omega (arith, m.inside)) (sym m.found ∙ whole))
       ∙ e)
@@ -142,7 +142,7 @@ module _ (p : Stand) (some : 0 < length p.line) where
       (subst (λ (l : List ℕ). Shows p (record { done = f.done; begun = l })) none h)
 
   pub closes-line : (q : Stand) → (p.session.kept ≡ 0 → ⊥) → Takes p (10 ∷ []) q → Closes p q
-  unfolding ended fed fedByte
+  unfolding ended fed fed_byte
   closes-line q e t f h =
       let n : length f.begun ≡ 0 → ⊥ = λ z. e (omega (arith, holds-length h.begun)) in
       rw (ne_eqb (length f.begun) 0 n) (t f h)

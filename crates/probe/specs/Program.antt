@@ -5,10 +5,10 @@ use Rattle.cutting.specs.Feeding.{Fed, fed, ended}
 use Rattle.text.specs.Fields.{parsed}
 use Rattle.state.specs.State.{State}
 use Rattle.state_words.specs.Decoded.{decoded}
-use Rattle.workbench.specs.Turns.{firstState}
-use Rattle.workbench.specs.Moduli.{firstModuli}
-use Rattle.probing.specs.Lines.{turn_of, bufferAfter, tableAfter, lentAfter}
-use Rattle.reporting.specs.Text.{printedOf}
+use Rattle.workbench.specs.Turns.{first_state}
+use Rattle.workbench.specs.Moduli.{first_moduli}
+use Rattle.probing.specs.Lines.{turn_of, buffer_after, table_after, lent_after}
+use Rattle.reporting.specs.Text.{printed_of}
 use Rattle.probe.specs.declared.Session.{Session}
 
 -- what the calls work on beside the buffer: the state, the table of moduli, and how many of the buffer's first bytes they are lent
@@ -18,25 +18,25 @@ pub record Bench : Type 0 where
   pub lent : ℕ
 
 -- at first they are lent the whole buffer
-abbrev pub firstBench : Bench
-firstBench = record { st = firstState; table = firstModuli; lent = 65536 }
+abbrev pub first_bench : Bench
+first_bench = record { st = first_state; table = first_moduli; lent = 65536 }
 
 -- the bench and the buffer after a line
-abbrev pub benchAfter : Bench → List ℕ → List ℕ → Bench
-benchAfter b buffer line =
+abbrev pub bench_after : Bench → List ℕ → List ℕ → Bench
+bench_after b buffer line =
     let l = parsed 20 line in
     record {
       st = (turn_of b.st b.lent buffer b.table l).st;
-      table = tableAfter b.st b.lent buffer b.table l;
-      lent = lentAfter b.lent (length buffer) l;
+      table = table_after b.st b.lent buffer b.table l;
+      lent = lent_after b.lent (length buffer) l;
     }
 
-abbrev pub bytesAfter : Bench → List ℕ → List ℕ → List ℕ
-bytesAfter b buffer line = bufferAfter b.st b.lent buffer (parsed 20 line)
+abbrev pub bytes_after : Bench → List ℕ → List ℕ → List ℕ
+bytes_after b buffer line = buffer_after b.st b.lent buffer (parsed 20 line)
 
 -- what input line n prints
-abbrev pub lineText : Bench → List ℕ → List ℕ → ℕ → List ℕ
-lineText b buffer line n = let l = parsed 20 line in printedOf n l.letter (turn_of b.st b.lent buffer b.table l)
+abbrev pub line_text : Bench → List ℕ → List ℕ → ℕ → List ℕ
+line_text b buffer line n = let l = parsed 20 line in printed_of n l.letter (turn_of b.st b.lent buffer b.table l)
 
 -- what the lines so far came to: the bench, the buffer, how many lines, all that they print, and how many of its last bytes
 -- are not yet handed to a write
@@ -49,7 +49,7 @@ pub record Work : Type 0 where
 
 -- before the first byte
 abbrev pub first : List ℕ → Fed Work
-first buffer = record { done = record { bench = firstBench; buffer = buffer; lines = 0; printed = []; waiting = 0 }; begun = [] }
+first buffer = record { done = record { bench = first_bench; buffer = buffer; lines = 0; printed = []; waiting = 0 }; begun = [] }
 
 -- before a line all that waits is written, unless there is room for the line's text behind it
 abbrev pub roomed : ℕ → ℕ
@@ -59,10 +59,10 @@ roomed waiting = cond (nat_le waiting 36000) waiting 0
 unfoldable pub act : Work → List ℕ → Work
 act w line =
     let n = (w.lines + 1) % 2 ^ 64 in
-    let text = lineText w.bench w.buffer line n in
+    let text = line_text w.bench w.buffer line n in
     record {
-      bench = benchAfter w.bench w.buffer line;
-      buffer = bytesAfter w.bench w.buffer line;
+      bench = bench_after w.bench w.buffer line;
+      buffer = bytes_after w.bench w.buffer line;
       lines = n;
       printed = w.printed ++ text;
       waiting = roomed w.waiting + length text;
@@ -80,16 +80,16 @@ pub record Stand : Type 0 where
 abbrev pub stand : Session → List ℕ → List ℕ → List ℕ → List ℕ → List ℕ → Stand
 stand s buffer words table line out = record { session = s; buffer = buffer; words = words; table = table; line = line; out = out }
 
-abbrev pub benchAt : List ℕ → List ℕ → ℕ → Bench
-benchAt words table lent = record { st = decoded words; table = table; lent = lent }
+abbrev pub bench_at : List ℕ → List ℕ → ℕ → Bench
+bench_at words table lent = record { st = decoded words; table = table; lent = lent }
 
-abbrev pub benchIn : Stand → Bench
-benchIn p = benchAt p.words p.table p.session.lent
+abbrev pub bench_in : Stand → Bench
+bench_in p = bench_at p.words p.table p.session.lent
 
 -- that it stands where the input's bytes so far have brought it: of the next line it keeps what fits, and what waits to be
 -- written stands in `out`. (What a write does with it no contract says.)
 pub record Shows (p : Stand) (f : Fed Work) : Type 0 where
-  pub bench : benchIn p ≡ f.done.bench
+  pub bench : bench_in p ≡ f.done.bench
   pub buffer : p.buffer ≡ f.done.buffer
   pub lines : p.session.lines ≡ f.done.lines
   pub waiting : p.session.at ≡ f.done.waiting

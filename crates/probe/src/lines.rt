@@ -1,7 +1,7 @@
 // An input line: parsed, performed and printed.
 ghost use Rattle.std.specs.Prelude.{◌≡◌, ◌+◌, ◌≤◌, length};
 ghost use Rattle.number_text.specs.Text.{Put};
-ghost use Rattle.probe.specs.Program.{benchAt, benchAfter, bytesAfter, lineText};
+ghost use Rattle.probe.specs.Program.{bench_at, bench_after, bytes_after, line_text};
 
 use crate::Printed;
 use state_words::Words;
@@ -19,11 +19,11 @@ pub fn perform(
     at: usize,
 ) -> Printed
     requires { at + 29066 ≤ length out.old }
-    ensures bench { benchAt words.new table.new result.lent
-        ≡ benchAfter (benchAt words.old table.old lent) buffer.old line.now }
-    ensures buffer { buffer.new ≡ bytesAfter (benchAt words.old table.old lent) buffer.old line.now }
+    ensures bench { bench_at words.new table.new result.lent
+        ≡ bench_after (bench_at words.old table.old lent) buffer.old line.now }
+    ensures buffer { buffer.new ≡ bytes_after (bench_at words.old table.old lent) buffer.old line.now }
     ensures text { Put out.old at
-        (lineText (benchAt words.old table.old lent) buffer.old line.now n) out.new result.next }
+        (line_text (bench_at words.old table.old lent) buffer.old line.now n) out.new result.next }
 {
     let l = text::parse::parse(line, 20);
     let later = probing::lent_after(lent, buffer.len(), l);

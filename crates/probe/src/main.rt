@@ -5,8 +5,8 @@ mod reading;
 
 ghost use Rattle.std.specs.Prelude.{◌≡◌, ℕ, List};
 ghost use Rattle.state_words.specs.Decoded.{decoded};
-ghost use Rattle.workbench.specs.Turns.{firstState};
-ghost use Rattle.workbench.specs.Moduli.{firstModuli};
+ghost use Rattle.workbench.specs.Turns.{first_state};
+ghost use Rattle.workbench.specs.Moduli.{first_moduli};
 ghost use Rattle.probe.specs.Program.{stand, Shows, first};
 
 use state_words::WORD_COUNT;
@@ -30,7 +30,7 @@ struct Session {
 }
 
 fn started() -> Session
-    ensures { (buffer words table line out : List ℕ) → decoded words ≡ firstState → table ≡ firstModuli
+    ensures { (buffer words table line out : List ℕ) → decoded words ≡ first_state → table ≡ first_moduli
         → Shows (stand result buffer words table line out) (first buffer) }
 {
     Session {

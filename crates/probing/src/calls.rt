@@ -1,8 +1,8 @@
 // The lines that make a call, on the bytes lent.
 ghost use Rattle.std.specs.Prelude.{◌≡◌};
 ghost use Rattle.state_words.specs.Decoded.{decoded};
-ghost use Rattle.workbench.specs.Turns.{turnAt};
-ghost use Rattle.probing.specs.Calls.{placeTurn, placeBytes, askTurn, callTurn, callBytes};
+ghost use Rattle.workbench.specs.Turns.{turn_at};
+ghost use Rattle.probing.specs.Calls.{place_turn, place_bytes, ask_turn, call_turn, call_bytes};
 
 use state_words::Words;
 use text::Line;
@@ -12,8 +12,8 @@ use workbench::moduli::Moduli;
 
 // In place.
 fn perform(image: &mut [u8], words: &mut Words, line: Line) -> Said
-    ensures turn { turnAt result words.new ≡ placeTurn (decoded words.old) image.old line }
-    ensures bytes { image.new ≡ placeBytes (decoded words.old) image.old line }
+    ensures turn { turn_at result words.new ≡ place_turn (decoded words.old) image.old line }
+    ensures bytes { image.new ≡ place_bytes (decoded words.old) image.old line }
 {
     let letter = line.letter;
     match letter {
@@ -30,8 +30,8 @@ fn perform(image: &mut [u8], words: &mut Words, line: Line) -> Said
 
 // Of a transaction, or an operation that is asked for; else in place.
 fn ask(image: &mut [u8], words: &mut Words, table: Moduli, line: Line) -> Said
-    ensures turn { turnAt result words.new ≡ askTurn (decoded words.old) image.old table line }
-    ensures bytes { image.new ≡ placeBytes (decoded words.old) image.old line }
+    ensures turn { turn_at result words.new ≡ ask_turn (decoded words.old) image.old table line }
+    ensures bytes { image.new ≡ place_bytes (decoded words.old) image.old line }
 {
     let letter = line.letter;
     match letter {
@@ -52,8 +52,8 @@ fn ask(image: &mut [u8], words: &mut Words, table: Moduli, line: Line) -> Said
 }
 
 pub fn call(image: &mut [u8], words: &mut Words, table: Moduli, line: Line) -> Said
-    ensures turn { turnAt result words.new ≡ callTurn (decoded words.old) image.old table line }
-    ensures bytes { image.new ≡ callBytes (decoded words.old) image.old line }
+    ensures turn { turn_at result words.new ≡ call_turn (decoded words.old) image.old table line }
+    ensures bytes { image.new ≡ call_bytes (decoded words.old) image.old line }
 {
     let letter = line.letter;
     match letter {

@@ -3,9 +3,9 @@ mod calls;
 
 ghost use Rattle.std.specs.Prelude.{◌≡◌, take, drop, ◌++◌};
 ghost use Rattle.state_words.specs.Decoded.{decoded};
-ghost use Rattle.workbench.specs.Turns.{turnAt};
-ghost use Rattle.probing.specs.Calls.{callTurn, callBytes};
-ghost use Rattle.probing.specs.Lines.{numbersSaid, hashSaid, turn_of, bufferAfter, tableAfter, lentAfter};
+ghost use Rattle.workbench.specs.Turns.{turn_at};
+ghost use Rattle.probing.specs.Calls.{call_turn, call_bytes};
+ghost use Rattle.probing.specs.Lines.{numbers_said, hash_said, turn_of, buffer_after, table_after, lent_after};
 
 use moduli_calls::loading;
 use state_words::Words;
@@ -15,7 +15,7 @@ use workbench::moduli::Moduli;
 
 // G: the state's numbers are printed.
 fn show_numbers(line: Line) -> Said
-    ensures { result ≡ numbersSaid line }
+    ensures { result ≡ numbers_said line }
 {
     if line.count == 0 {
         return Said::Numbers;
@@ -25,7 +25,7 @@ fn show_numbers(line: Line) -> Said
 
 // H: the hash of the whole buffer.
 fn show_hash(buffer: &[u8], line: Line) -> Said
-    ensures { result ≡ hashSaid buffer.now line }
+    ensures { result ≡ hash_said buffer.now line }
 {
     if line.count == 0 {
         return Said::Hash(hashing::hash(buffer));
@@ -35,10 +35,10 @@ fn show_hash(buffer: &[u8], line: Line) -> Said
 
 // A call on the bytes lent; never are more lent than there are.
 fn call_lent(buffer: &mut [u8], words: &mut Words, table: Moduli, lent: usize, line: Line) -> Said
-    ensures turn { turnAt result words.new
-        ≡ callTurn (decoded words.old) (take lent buffer.old) table line }
+    ensures turn { turn_at result words.new
+        ≡ call_turn (decoded words.old) (take lent buffer.old) table line }
     ensures bytes { buffer.new
-        ≡ callBytes (decoded words.old) (take lent buffer.old) line ++ drop lent buffer.old }
+        ≡ call_bytes (decoded words.old) (take lent buffer.old) line ++ drop lent buffer.old }
 {
     if lent < buffer.len() {
         return calls::call(&mut buffer[..lent], words, table, line);
@@ -54,9 +54,9 @@ pub fn turn(
     lent: usize,
     line: Line,
 ) -> Said
-    ensures turn { turnAt result words.new ≡ turn_of (decoded words.old) lent buffer.old table.old line }
-    ensures bytes { buffer.new ≡ bufferAfter (decoded words.old) lent buffer.old line }
-    ensures table { table.new ≡ tableAfter (decoded words.old) lent buffer.old table.old line }
+    ensures turn { turn_at result words.new ≡ turn_of (decoded words.old) lent buffer.old table.old line }
+    ensures bytes { buffer.new ≡ buffer_after (decoded words.old) lent buffer.old line }
+    ensures table { table.new ≡ table_after (decoded words.old) lent buffer.old table.old line }
 {
     let letter = line.letter;
     match letter {
@@ -77,7 +77,7 @@ pub fn turn(
 
 // What the calls of later lines are lent.
 pub fn lent_after(lent: usize, size: usize, line: Line) -> usize
-    ensures { result ≡ lentAfter lent size line }
+    ensures { result ≡ lent_after lent size line }
 {
     if line.letter == b'L' {
         return buffer_edits::lent_by(lent, size, line);

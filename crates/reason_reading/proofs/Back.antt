@@ -8,79 +8,79 @@ use lib.Dec.{eqb}
 use lib.ListN.{length, take, drop}
 use lib.Seq.{take_at}
 use borrow.Author.Tests.{eq-eqb, eqb-true}
-use Rattle.bounded.proofs.Tests.{caseOn, contradicts, and_left, and_right}
+use Rattle.bounded.proofs.Tests.{case_on, contradicts, and_left, and_right}
 use Rattle.words.specs.Words.{over}
 use Rattle.words.proofs.Parts.{length_over}
-use Rattle.wording.specs.Calls.{canReturn}
+use Rattle.wording.specs.Calls.{can_return}
 use Rattle.reasons.specs.declared.Reason.{Reason}
 use Rattle.reasons.specs.declared.Composed.{Composed}
-use Rattle.reasons.specs.Sentence.{sentence, composeRow, composed, composedIn}
+use Rattle.reasons.specs.Sentence.{sentence, compose_row, composed, composed_in}
 use Rattle.reasons.proofs.Composing.{row-taken, row-cannot, composed-taken}
 use Rattle.reasons.proofs.Printable.{Shown, shown}
 use Rattle.reason_reading.specs.declared.ReadBack.{ReadBack}
 use Rattle.reason_reading.specs.declared.ReadBack.TheVariants.{These, Nothing}
-use Rattle.reason_reading.specs.Reading.{guess, sameText, readBack}
+use Rattle.reason_reading.specs.Reading.{guess, same_text, read_back}
 
 -- ---- texts compared
 
-pub same-eq : (xs ys : List ℕ) → sameText xs ys ≡ true → xs ≡ ys
-unfolding sameText
+pub same-eq : (xs ys : List ℕ) → same_text xs ys ≡ true → xs ≡ ys
+unfolding same_text
 same-eq [] [] e = refl
 same-eq [] (y ∷ ys) e = contradicts e refl
 same-eq (x ∷ xs) [] e = contradicts e refl
 same-eq (x ∷ xs) (y ∷ ys) e =
-    ap₂ (λ (b : ℕ) (l : List ℕ). b ∷ l) (eqb-true x y (and_left (eqb x y) (sameText xs ys) e)) (same-eq xs ys (and_right (eqb x y) (sameText xs ys) e))
+    ap₂ (λ (b : ℕ) (l : List ℕ). b ∷ l) (eqb-true x y (and_left (eqb x y) (same_text xs ys) e)) (same-eq xs ys (and_right (eqb x y) (same_text xs ys) e))
 
-same_refl : (xs : List ℕ) → sameText xs xs ≡ true
-unfolding sameText
+same_refl : (xs : List ℕ) → same_text xs xs ≡ true
+unfolding same_text
 same_refl [] = refl
 same_refl (x ∷ xs) = rw (eq-eqb x x refl, same_refl xs)
 
-pub eq-same : {xs ys : List ℕ} → xs ≡ ys → sameText xs ys ≡ true
-eq-same {xs} e = subst (λ (l : List ℕ). sameText xs l ≡ true) e (same_refl xs)
+pub eq-same : {xs ys : List ℕ} → xs ≡ ys → same_text xs ys ≡ true
+eq-same {xs} e = subst (λ (l : List ℕ). same_text xs l ≡ true) e (same_refl xs)
 
 -- ---- by the tests
 
 module _ (text : List ℕ) where
   abbrev can : Bool
-  can = canReturn (guess text).call (guess text).number
+  can = can_return (guess text).call (guess text).number
 
   abbrev same : Bool
-  same = sameText text (sentence (guess text))
+  same = same_text text (sentence (guess text))
 
-  pub back-these : can ≡ true → text ≡ sentence (guess text) → readBack text ≡ These (guess text)
-  unfolding readBack
+  pub back-these : can ≡ true → text ≡ sentence (guess text) → read_back text ≡ These (guess text)
+  unfolding read_back
   back-these e f = rw (e, eq-same f)
 
-  pub back-cannot : can ≡ false → readBack text ≡ Nothing
-  unfolding readBack
+  pub back-cannot : can ≡ false → read_back text ≡ Nothing
+  unfolding read_back
   back-cannot e = rw e
 
-  pub back-other : can ≡ true → (text ≡ sentence (guess text) → ⊥) → readBack text ≡ Nothing
-  unfolding readBack
-  back-other e f = caseOn same (λ t. absurd (f (same-eq text (sentence (guess text)) t))) (λ t. rw (e, t))
+  pub back-other : can ≡ true → (text ≡ sentence (guess text) → ⊥) → read_back text ≡ Nothing
+  unfolding read_back
+  back-other e f = case_on same (λ t. absurd (f (same-eq text (sentence (guess text)) t))) (λ t. rw (e, t))
 
 -- ---- the guess r composed again in a target of 200 bytes: d is what comes of it, and out the target after it
 
 module _ (text : List ℕ) (r : Reason) (d : Composed) (target out : List ℕ) (g : r ≡ guess text) (sized : length target ≡ 200)
-    (n : d ≡ composed r (length target)) (o : out ≡ composedIn r target) where
-  number_is : d.number ≡ composeRow r (length target)
+    (n : d ≡ composed r (length target)) (o : out ≡ composed_in r target) where
+  number_is : d.number ≡ compose_row r (length target)
   unfolding composed
   number_is = ap (λ (c : Composed). c.number) n
 
-  guessed : (b : Bool) → canReturn r.call r.number ≡ b → canReturn (guess text).call (guess text).number ≡ b
-  guessed b e = subst (λ (q : Reason). canReturn q.call q.number ≡ b) g e
+  guessed : (b : Bool) → can_return r.call r.number ≡ b → can_return (guess text).call (guess text).number ≡ b
+  guessed b e = subst (λ (q : Reason). can_return q.call q.number ≡ b) g e
 
-  pub again-cannot : (d.number ≡ 0 → ⊥) → Nothing ≡ readBack text
+  pub again-cannot : (d.number ≡ 0 → ⊥) → Nothing ≡ read_back text
   again-cannot f =
-      caseOn (canReturn r.call r.number)
+      case_on (can_return r.call r.number)
       (λ t. absurd (f (number_is ∙ row-taken r target (omega arith) t)))
       (λ t. sym (back-cannot text (guessed false t)))
 
   module _ (z : d.number ≡ 0) where
-    can-be : canReturn r.call r.number ≡ true
+    can-be : can_return r.call r.number ≡ true
     can-be =
-        caseOn (canReturn r.call r.number) (λ t. t)
+        case_on (can_return r.call r.number) (λ t. t)
         (λ t. let e = row-cannot r target (omega arith) t in let q = number_is in absurd (omega (arith, z, e, q)))
 
     length-is : d.length ≡ length (sentence r)
@@ -101,9 +101,9 @@ module _ (text : List ℕ) (r : Reason) (d : Composed) (target out : List ℕ) (
         ap₂ (λ (n : ℕ) (l : List ℕ). take n l) length-is laid
         ∙ take_at (sentence r) (drop (length (sentence r)) target) (length (sentence r)) refl
 
-    pub again-other : (text ≡ take d.length out → ⊥) → Nothing ≡ readBack text
+    pub again-other : (text ≡ take d.length out → ⊥) → Nothing ≡ read_back text
     again-other f =
         sym (back-other text (guessed true can-be) (λ e. f (e ∙ ap sentence (sym g) ∙ sym text-is)))
 
-    pub again-these : text ≡ take d.length out → These r ≡ readBack text
+    pub again-these : text ≡ take d.length out → These r ≡ read_back text
     again-these e = ap These g ∙ sym (back-these text (guessed true can-be) (e ∙ text-is ∙ ap sentence g))

@@ -1,7 +1,7 @@
 // Reading a refusal's sentence back: a reason is guessed from the text, composed again, and compared with the text.
 ghost use Rattle.std.specs.Prelude.{◌≡◌, ◌<◌, get_or};
-ghost use Rattle.reason_reading.specs.Numbers.{goesOn, numbersIn};
-ghost use Rattle.reason_reading.specs.Reading.{pick, after, guess, readBack};
+ghost use Rattle.reason_reading.specs.Numbers.{goes_on, numbers_in};
+ghost use Rattle.reason_reading.specs.Reading.{pick, after, guess, read_back};
 
 use reasons::Reason;
 
@@ -14,14 +14,14 @@ pub enum ReadBack {
 
 // Whether byte b goes on with a number of value v. The bound is the tenth part of 2^64.
 fn goes_on(v: usize, b: u8) -> bool
-    ensures { result ≡ goesOn v b }
+    ensures { result ≡ goes_on v b }
 {
     (48 <= b) & (b <= 57) & ((v < 1844674407370955161) | (v == 1844674407370955161) & (b <= 53))
 }
 
 // The number at place k of those that stand in the text, 0 where there are fewer.
 fn number_at(text: &[u8], k: usize) -> usize
-    ensures { result ≡ get_or (numbersIn text.now) k 0 }
+    ensures { result ≡ get_or (numbers_in text.now) k 0 }
 {
     let mut left = k;
     let mut on = false;
@@ -48,7 +48,7 @@ fn number_at(text: &[u8], k: usize) -> usize
 
 // The same where the sentence has the number.
 fn pick_number(text: &[u8], has: bool, k: usize) -> usize
-    ensures { result ≡ pick has k (numbersIn text.now) }
+    ensures { result ≡ pick has k (numbers_in text.now) }
 {
     if has { number_at(text, k) } else { 0 }
 }
@@ -91,7 +91,7 @@ fn guess_of(text: &[u8]) -> Reason
 
 // The reason whose sentence the text is, or nothing.
 pub fn read_back(text: &[u8]) -> ReadBack
-    ensures { result ≡ readBack text.now }
+    ensures { result ≡ read_back text.now }
 {
     let reason = guess_of(text);
     let mut target = [0; 200];

@@ -10,29 +10,29 @@ use borrow.Author.Tests.{leb-true}
 use Rattle.bounded.specs.Below.{all_below}
 use Rattle.bounded.proofs.Below.{all-at}
 use Rattle.words.specs.Words.{over}
-use Rattle.decimals.specs.Decimal.{digitsOf, decimalOf}
+use Rattle.decimals.specs.Decimal.{digits_of, decimal_of}
 use Rattle.decimals.proofs.Printing.{decimal-le}
 use Rattle.number_text.specs.Text.{Put}
-use Rattle.wording.specs.Calls.{numberCount}
+use Rattle.wording.specs.Calls.{number_count}
 use Rattle.wording.specs.Words.{codes, name_of, text_of}
 use Rattle.wording.proofs.Wording.{Fits, name-fits, text-fits}
 use Rattle.reasons.specs.declared.Reason.{Reason}
-use Rattle.reasons.specs.Sentence.{opening, field, pageLabel, holderLabel}
+use Rattle.reasons.specs.Sentence.{opening, field, page_label, holder_label}
 
 pub as-put : {l xs m : List ℕ} {a b : ℕ} → (m ≡ over l a xs) × (b ≡ a + length xs) → Put l a xs m b
 as-put h = record { laid = h.0; place = h.1 }
 
 -- a number of the table has at most two digits
-pub two_digits : (n : ℕ) → n < numberCount → length (decimalOf n) ≤ 2
-unfolding all_below digitsOf
-two_digits n h = leb-true (length (decimalOf n)) 2 (all-at (λ k. leb (length (decimalOf k)) 2) numberCount n h refl)
+pub two_digits : (n : ℕ) → n < number_count → length (decimal_of n) ≤ 2
+unfolding all_below digits_of
+two_digits n h = leb-true (length (decimal_of n)) 2 (all-at (λ k. leb (length (decimal_of k)) 2) number_count n h refl)
 
-pub opening-le : (c n : ℕ) → n < numberCount → length (opening c n) ≤ 74
+pub opening-le : (c n : ℕ) → n < number_count → length (opening c n) ≤ 74
 unfolding opening codes
 opening-le c n h =
     let text = text_of n in
     let after = codes "): " ++ text in
-    let number = decimalOf n ++ after in
+    let number = decimal_of n ++ after in
     let rest = codes " refused (" ++ number in
     omega (
       arith,
@@ -41,13 +41,13 @@ opening-le c n h =
       (text-fits n).short,
       length-append (name_of c) rest,
       length-append (codes " refused (") number,
-      length-append (decimalOf n) after,
+      length-append (decimal_of n) after,
       length-append (codes "): ") text,
     )
 
 pub field-le : (has : Bool) (label : List ℕ) (v : ℕ) → length (field has label v) ≤ length label + 20
 unfolding field
-field-le true label v = omega (arith, length-append label (decimalOf v), decimal-le v)
+field-le true label v = omega (arith, length-append label (decimal_of v), decimal-le v)
 field-le false label v = omega arith
 
 pub joined-le : (has later : Bool) (label first : List ℕ) (v n : ℕ) → length label ≡ n → length first ≡ n
@@ -55,11 +55,11 @@ pub joined-le : (has later : Bool) (label first : List ℕ) (v n : ℕ) → leng
 joined-le has true label first v n e f = omega (arith, field-le has label v, e)
 joined-le has false label first v n e f = omega (arith, field-le has first v, f)
 
-pub page-le : (has later : Bool) (v : ℕ) → length (field has (pageLabel later) v) ≤ 27
+pub page-le : (has later : Bool) (v : ℕ) → length (field has (page_label later) v) ≤ 27
 unfolding codes
 page-le has later v = joined-le has later (codes ", page ") (codes ". Page ") v 7 refl refl
 
-pub holder-le : (has later : Bool) (v : ℕ) → length (field has (holderLabel later) v) ≤ 37
+pub holder-le : (has later : Bool) (v : ℕ) → length (field has (holder_label later) v) ≤ 37
 unfolding codes
 holder-le has later v = joined-le has later (codes ", held by writer ") (codes ". Held by writer ") v 17 refl refl
 
@@ -67,8 +67,8 @@ holder-le has later v = joined-le has later (codes ", held by writer ") (codes "
 pub field_end : {l m : List ℕ} {a b : ℕ} (has : Bool) (label : List ℕ) (v : ℕ) → Put l a (field has label v) m b → b ≤ a + (length label + 20)
 field_end has label v p = omega (arith, p.place, field-le has label v)
 
-pub page-end : {l m : List ℕ} {a b : ℕ} (has later : Bool) (v : ℕ) → Put l a (field has (pageLabel later) v) m b → b ≤ a + 27
+pub page-end : {l m : List ℕ} {a b : ℕ} (has later : Bool) (v : ℕ) → Put l a (field has (page_label later) v) m b → b ≤ a + 27
 page-end has later v p = omega (arith, p.place, page-le has later v)
 
-pub holder-end : {l m : List ℕ} {a b : ℕ} (has later : Bool) (v : ℕ) → Put l a (field has (holderLabel later) v) m b → b ≤ a + 37
+pub holder-end : {l m : List ℕ} {a b : ℕ} (has later : Bool) (v : ℕ) → Put l a (field has (holder_label later) v) m b → b ≤ a + 37
 holder-end has later v p = omega (arith, p.place, holder-le has later v)

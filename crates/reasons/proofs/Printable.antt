@@ -8,16 +8,16 @@ use native.Mathlib.Omega.{arith}
 use lib.Dec.{eqb, ltb}
 use lib.ListN.{length, length-append}
 use borrow.Author.Tests.{le-leb, ltb-false}
-use Rattle.bounded.proofs.Tests.{caseOn}
+use Rattle.bounded.proofs.Tests.{case_on}
 use Rattle.words.proofs.Parts.{length_over}
-use Rattle.decimals.specs.Decimal.{digitsOf, decimalOf}
-use Rattle.wording.specs.Calls.{canReturn, takesWriter, takesPage, takesLine, meetsWriter}
+use Rattle.decimals.specs.Decimal.{digits_of, decimal_of}
+use Rattle.wording.specs.Calls.{can_return, takes_writer, takes_page, takes_line, meets_writer}
 use Rattle.wording.specs.Words.{codes, name_of, text_of, printable}
 use Rattle.wording.proofs.Returns.{Known, known}
 use Rattle.wording.proofs.Wording.{Fits, name-fits, text-fits, plain-printable, printable-append}
 use Rattle.reasons.specs.declared.Reason.{Reason}
 use Rattle.reasons.specs.declared.Composed.{Composed}
-use Rattle.reasons.specs.Sentence.{opening, field, pageLabel, holderLabel, closing, sentence, composeRow, composed, composedIn}
+use Rattle.reasons.specs.Sentence.{opening, field, page_label, holder_label, closing, sentence, compose_row, composed, composed_in}
 use Rattle.reasons.proofs.Lengths.{opening-le, field-le, page-le, holder-le}
 
 -- ---- how long
@@ -25,16 +25,16 @@ use Rattle.reasons.proofs.Lengths.{opening-le, field-le, page-le, holder-le}
 closing-le : (r : Reason) → length (closing r) ≤ 121
 unfolding closing codes
 closing-le r =
-    let w = field (takesWriter r.call) (codes ". Writer ") r.writer in
-    let p = field (takesPage r.call) (pageLabel (takesWriter r.call)) r.page in
-    let l = field (takesLine r.call) (codes ", line ") r.line in
-    let h = field (meetsWriter r.number) (holderLabel (takesPage r.call)) r.holder in
+    let w = field (takes_writer r.call) (codes ". Writer ") r.writer in
+    let p = field (takes_page r.call) (page_label (takes_writer r.call)) r.page in
+    let l = field (takes_line r.call) (codes ", line ") r.line in
+    let h = field (meets_writer r.number) (holder_label (takes_page r.call)) r.holder in
     omega (
       arith,
-      field-le (takesWriter r.call) (codes ". Writer ") r.writer,
-      page-le (takesPage r.call) (takesWriter r.call) r.page,
-      field-le (takesLine r.call) (codes ", line ") r.line,
-      holder-le (meetsWriter r.number) (takesPage r.call) r.holder,
+      field-le (takes_writer r.call) (codes ". Writer ") r.writer,
+      page-le (takes_page r.call) (takes_writer r.call) r.page,
+      field-le (takes_line r.call) (codes ", line ") r.line,
+      holder-le (meets_writer r.number) (takes_page r.call) r.holder,
       length-append w (p ++ (l ++ (h ++ codes "."))),
       length-append p (l ++ (h ++ codes ".")),
       length-append l (h ++ codes "."),
@@ -49,25 +49,25 @@ digit-printable v =
     let h : v % 10 < 10 = mod-lt v (omega arith) in
     rw (le-leb 32 (48 + v % 10) (omega arith), le-leb (48 + v % 10) 126 (omega arith))
 
-digits-printable : (n v : ℕ) → printable (digitsOf n v) ≡ true
-unfolding digitsOf printable
+digits-printable : (n v : ℕ) → printable (digits_of n v) ≡ true
+unfolding digits_of printable
 digits-printable zero v = refl
 digits-printable (suc n) v =
-    caseOn (eqb (v / 10) 0)
+    case_on (eqb (v / 10) 0)
     (λ t. rw t (digit-printable v))
-    (λ t. rw t (printable-append (digitsOf n (v / 10)) ((48 + v % 10) ∷ []) (digits-printable n (v / 10)) (digit-printable v)))
+    (λ t. rw t (printable-append (digits_of n (v / 10)) ((48 + v % 10) ∷ []) (digits-printable n (v / 10)) (digit-printable v)))
 
 field-printable : (has : Bool) (label : List ℕ) (v : ℕ) → printable label ≡ true → printable (field has label v) ≡ true
 unfolding field printable
-field-printable true label v e = printable-append label (decimalOf v) e (digits-printable 20 v)
+field-printable true label v e = printable-append label (decimal_of v) e (digits-printable 20 v)
 field-printable false label v e = refl
 
-page-printable : (later : Bool) → printable (pageLabel later) ≡ true
+page-printable : (later : Bool) → printable (page_label later) ≡ true
 unfolding codes printable
 page-printable true = refl
 page-printable false = refl
 
-holder-printable : (later : Bool) → printable (holderLabel later) ≡ true
+holder-printable : (later : Bool) → printable (holder_label later) ≡ true
 unfolding codes printable
 holder-printable true = refl
 holder-printable false = refl
@@ -76,11 +76,11 @@ opening-printable : (c n : ℕ) → printable (opening c n) ≡ true
 unfolding opening codes printable
 opening-printable c n =
     let after = codes "): " ++ text_of n in
-    let number = decimalOf n ++ after in
+    let number = decimal_of n ++ after in
     let text = plain-printable (text_of n) (text-fits n).clear in
     printable-append (name_of c) (codes " refused (" ++ number) (plain-printable (name_of c) (name-fits c).clear)
     (printable-append (codes " refused (") number refl
-    (printable-append (decimalOf n) after (digits-printable 20 n) (printable-append (codes "): ") (text_of n) refl text)))
+    (printable-append (decimal_of n) after (digits-printable 20 n) (printable-append (codes "): ") (text_of n) refl text)))
 
 -- a field before what is printable
 before-printable : (has : Bool) (label : List ℕ) (v : ℕ) (rest : List ℕ) → printable label ≡ true → printable rest ≡ true
@@ -90,13 +90,13 @@ before-printable has label v rest e f = printable-append (field has label v) res
 closing-printable : (r : Reason) → printable (closing r) ≡ true
 unfolding closing codes printable
 closing-printable r =
-    let holder = field (meetsWriter r.number) (holderLabel (takesPage r.call)) r.holder ++ codes "." in
-    let line = field (takesLine r.call) (codes ", line ") r.line ++ holder in
-    let page = field (takesPage r.call) (pageLabel (takesWriter r.call)) r.page ++ line in
-    before-printable (takesWriter r.call) (codes ". Writer ") r.writer page refl
-    (before-printable (takesPage r.call) (pageLabel (takesWriter r.call)) r.page line (page-printable (takesWriter r.call))
-    (before-printable (takesLine r.call) (codes ", line ") r.line holder refl
-    (before-printable (meetsWriter r.number) (holderLabel (takesPage r.call)) r.holder (codes ".") (holder-printable (takesPage r.call)) refl)))
+    let holder = field (meets_writer r.number) (holder_label (takes_page r.call)) r.holder ++ codes "." in
+    let line = field (takes_line r.call) (codes ", line ") r.line ++ holder in
+    let page = field (takes_page r.call) (page_label (takes_writer r.call)) r.page ++ line in
+    before-printable (takes_writer r.call) (codes ". Writer ") r.writer page refl
+    (before-printable (takes_page r.call) (page_label (takes_writer r.call)) r.page line (page-printable (takes_writer r.call))
+    (before-printable (takes_line r.call) (codes ", line ") r.line holder refl
+    (before-printable (meets_writer r.number) (holder_label (takes_page r.call)) r.holder (codes ".") (holder-printable (takes_page r.call)) refl)))
 
 -- ---- both, of each sentence that can be composed
 
@@ -104,7 +104,7 @@ pub record Shown (text : List ℕ) : Type 0 where
   pub short : length text ≤ 200
   pub clear : printable text ≡ true
 
-pub shown : (r : Reason) → canReturn r.call r.number ≡ true → Shown (sentence r)
+pub shown : (r : Reason) → can_return r.call r.number ≡ true → Shown (sentence r)
 unfolding sentence
 shown r e =
     let k = known r.call r.number e in
@@ -118,13 +118,13 @@ pub record Inside (target : List ℕ) (d : Composed) (out : List ℕ) : Type 0 w
   pub same : length out ≡ length target
   pub fits : d.length ≤ length out
 
-pub inside : (r : Reason) (target : List ℕ) → Inside target (composed r (length target)) (composedIn r target)
-unfolding composed composedIn composeRow
+pub inside : (r : Reason) (target : List ℕ) → Inside target (composed r (length target)) (composed_in r target)
+unfolding composed composed_in compose_row
 inside r target =
-    caseOn (ltb (length target) 200)
+    case_on (ltb (length target) 200)
     (λ t. rw t (record { same = refl; fits = omega arith }))
     (λ t.
-    caseOn (canReturn r.call r.number)
+    case_on (can_return r.call r.number)
     (λ e.
     let h : 0 + length (sentence r) ≤ length target = omega (arith, ltb-false (length target) 200 t, (shown r e).short) in
     let n = length_over target 0 (sentence r) h in

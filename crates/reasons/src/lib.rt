@@ -1,8 +1,8 @@
 // Reasons in words: a refusal as a sentence for the service screen.
 ghost use Rattle.std.specs.Prelude.{◌≡◌, cond, ◌+◌, ◌<◌, ◌≤◌, length};
 ghost use Rattle.number_text.specs.Text.{Put};
-ghost use Rattle.wording.specs.Calls.{callCount, numberCount};
-ghost use Rattle.reasons.specs.Sentence.{opening, field, closing, composed, composedIn};
+ghost use Rattle.wording.specs.Calls.{call_count, number_count};
+ghost use Rattle.reasons.specs.Sentence.{opening, field, closing, composed, composed_in};
 
 // A refused call, the number of the row that turned it back, and what it met: the writer, page and line that it was given
 // and the lowest writer in its way. Where the call is given none, or none is in its way, the field says nothing.
@@ -25,7 +25,7 @@ pub struct Composed {
 
 // The call, the number and the number's text, at the start of the buffer.
 fn put_opening(out: &mut [u8], call: usize, number: usize) -> usize
-    requires { (call < callCount) × (number < numberCount) × (200 ≤ length out.old) }
+    requires { (call < call_count) × (number < number_count) × (200 ≤ length out.old) }
     ensures { Put out.old 0 (opening call number) out.new result }
 {
     let next = wording::put_name(out, 0, call);
@@ -102,7 +102,7 @@ fn put_closing(out: &mut [u8], at: usize, reason: Reason) -> usize
 // Composes the sentence at the start of target. A target under 200 bytes, or a number that the call cannot return, is 11.
 pub fn compose(reason: Reason, target: &mut [u8]) -> Composed
     ensures value { result ≡ composed reason (length target.old) }
-    ensures target_after { target.new ≡ composedIn reason target.old }
+    ensures target_after { target.new ≡ composed_in reason target.old }
 {
     if target.len() < 200 {
         return Composed {

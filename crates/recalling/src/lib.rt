@@ -1,10 +1,10 @@
 // Recall, for a host screen written in C: it mounts, copies one committed line, which is that of its entry where there is one, and forgets.
 ghost use Rattle.std.specs.Prelude.{◌≡◌, ◌<◌, ◌≤◌, length};
-ghost use Rattle.layout.specs.Layout.{Legal, imageLength};
+ghost use Rattle.layout.specs.Layout.{Legal, image_length};
 ghost use Rattle.words.specs.Words.{word};
-ghost use Rattle.replay.specs.Map.{pageFrames};
-ghost use Rattle.state.specs.Slots.{slotOfPage};
-ghost use Rattle.refinement.specs.Recall.{frame_of, recallRow, recallBytes};
+ghost use Rattle.replay.specs.Map.{page_frames};
+ghost use Rattle.state.specs.Slots.{slot_of_page};
+ghost use Rattle.refinement.specs.Recall.{frame_of, recall_row, recall_bytes};
 
 use layout::Sizes;
 use replay::Table;
@@ -12,7 +12,7 @@ use replay::Table;
 // The slot of page p, or S where it has none.
 fn slot_of(z: Sizes, page: &[usize; 16], p: usize) -> usize
     requires { Legal z }
-    ensures { result ≡ slotOfPage z page.now p }
+    ensures { result ≡ slot_of_page z page.now p }
 {
     let mut s = 0;
     while s < z.slots {
@@ -26,8 +26,8 @@ fn slot_of(z: Sizes, page: &[usize; 16], p: usize) -> usize
 
 // The frame with the committed copy of a page's line.
 fn recall_frame(image: &[u8], z: Sizes, t: Table, page: usize, line: usize) -> usize
-    requires { Legal z × (page < z.pages) × (line < 64) × (imageLength z ≤ length image.now) }
-    ensures { result ≡ frame_of (pageFrames (word image.now)) z t page line }
+    requires { Legal z × (page < z.pages) × (line < 64) × (image_length z ≤ length image.now) }
+    ensures { result ≡ frame_of (page_frames (word image.now)) z t page line }
 {
     let s = slot_of(z, &t.page, page);
     if s < z.slots {
@@ -39,8 +39,8 @@ fn recall_frame(image: &[u8], z: Sizes, t: Table, page: usize, line: usize) -> u
 // The committed line of a page into the target's start, or the number of the first row that turns it back.
 #[unsafe(no_mangle)]
 pub extern "C" fn recall(page: usize, line: usize, image: &[u8], target: &mut [u8]) -> usize
-    ensures number { result ≡ recallRow image.now page line target.old }
-    ensures bytes { target.new ≡ recallBytes image.now page line target.old }
+    ensures number { result ≡ recall_row image.now page line target.old }
+    ensures bytes { target.new ≡ recall_bytes image.now page line target.old }
 {
     let m = mount::judge(image);
     if m.row != 0 {

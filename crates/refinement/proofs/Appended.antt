@@ -11,8 +11,8 @@ use Rattle.layout.specs.declared.Sizes.{Sizes}
 use Rattle.layout.specs.Layout.{Legal}
 use Rattle.journal.specs.declared.Record.{Record}
 use Rattle.replay.specs.declared.Table.{Table}
-use Rattle.journal.specs.Records.{position, liveCount}
-use Rattle.replay.specs.Table.{noPosition, lastIn, replay}
+use Rattle.journal.specs.Records.{position, live_count}
+use Rattle.replay.specs.Table.{no_position, last_in, replay}
 use Rattle.journal.proofs.Ring.{Positions, pos-lt, pos-apart, live_more}
 use Rattle.replay.proofs.Tables.{Sixteen}
 use Rattle.replay.proofs.Latest.{Latest, latest, sixteen-replay, replay-latest, replay-kept}
@@ -24,8 +24,8 @@ any-default [] i d e h = absurd (not-suc-le-zero h)
 any-default (x ∷ l) zero d e h = refl
 any-default (x ∷ l) (suc i) d e h = any-default l i d e (le_of_suc-le-suc h)
 
-pub last-at : (t : Table) (s : ℕ) → Sixteen t → s < 16 → last_at t s ≡ lastIn t s
-last-at t s full l = any-default t.last s 0 noPosition (omega arith)
+pub last-at : (t : Table) (s : ℕ) → Sixteen t → s < 16 → last_at t s ≡ last_in t s
+last-at t s full l = any-default t.last s 0 no_position (omega arith)
 
 -- slot s has its last position from record number i
 pub record NewLast (z : Sizes) (head n : ℕ) (e : ℕ → Record) (s last : ℕ) : Type 0 where
@@ -34,7 +34,7 @@ pub record NewLast (z : Sizes) (head n : ℕ) (e : ℕ → Record) (s last : ℕ
   pub slot : (e number).slot ≡ s
   pub at : last ≡ position z head number
 
-module _ (z : Sizes) (g : Legal z) (head tail : ℕ) (p : Positions z head tail) (n : ℕ) (room : liveCount z head tail + n ≤ z.places) (e : ℕ → Record) (t : Table) (full : Sixteen t) where
+module _ (z : Sizes) (g : Legal z) (head tail : ℕ) (p : Positions z head tail) (n : ℕ) (room : live_count z head tail + n ≤ z.places) (e : ℕ → Record) (t : Table) (full : Sixteen t) where
   abbrev after : Table
   after = replay z head n e t
 
@@ -48,15 +48,15 @@ module _ (z : Sizes) (g : Legal z) (head tail : ℕ) (p : Positions z head tail)
       (λ f. inr (at ∙ (replay-kept z head e t full s n f).last ∙ sym (last-at t s full low)))
       (latest n e s)
 
-  new-live : (i : ℕ) → i < n → liveCount z (position z head i) tail ≡ liveCount z head tail + i
+  new-live : (i : ℕ) → i < n → live_count z (position z head i) tail ≡ live_count z head tail + i
   new-live i l = live_more z g head tail p i (omega arith)
 
-  all_live : liveCount z (position z head n) tail ≡ liveCount z head tail + n
+  all_live : live_count z (position z head n) tail ≡ live_count z head tail + n
   all_live = live_more z g head tail p n room
 
   -- a new position is none of the old live ones
-  new-old : (i q : ℕ) → i < n → liveCount z q tail < liveCount z head tail → position z head i ≡ q → ⊥
-  new-old i q l h w = omega (arith, new-live i l, ap (λ (x : ℕ). liveCount z x tail) w)
+  new-old : (i q : ℕ) → i < n → live_count z q tail < live_count z head tail → position z head i ≡ q → ⊥
+  new-old i q l h w = omega (arith, new-live i l, ap (λ (x : ℕ). live_count z x tail) w)
 
   pub lasts-more : LastsFine z head tail (last_at t) → LastsFine z (position z head n) tail (last_at after)
   lasts-more h =

@@ -10,27 +10,27 @@ use lib.ListN.{length, replicate, length-set}
 use borrow.Author.Tests.{ltb-true}
 use Rattle.bounded.specs.Rows.{refusal}
 use Rattle.bounded.proofs.Rows.{none-apply}
-use Rattle.bounded.proofs.Tests.{caseOn, row-yes}
-use Rattle.image.specs.Lines.{lineBytes, merged, lineWords}
+use Rattle.bounded.proofs.Tests.{case_on, row-yes}
+use Rattle.image.specs.Lines.{line_bytes, merged, line_words}
 use Rattle.words.specs.Words.{Bytes, bytes_of, word_at}
 use Rattle.words.proofs.Parts.{bytes-part}
-use Rattle.words.proofs.Bytes.{length-bytes, bytes-bytesOf}
+use Rattle.words.proofs.Bytes.{length-bytes, bytes-bytes_of}
 use Rattle.masks.proofs.Members.{in-none}
-use Rattle.meters.specs.Meters.{eventKnown, movesCredit, firstMeter, ownMeter, eventNeeds, rolled, firstNumber, amountBad}
+use Rattle.meters.specs.Meters.{event_known, moves_credit, first_meter, own_meter, event_needs, rolled, first_number, amount_bad}
 use Rattle.meters.proofs.MeterLaws.{first-low, own_range}
 use Rattle.state.specs.State.{State}
 use Rattle.state.specs.declared.Op.{Op}
 use Rattle.state.specs.declared.Op.TheVariants.{Write, Event}
 use Rattle.state.specs.Wide.{is_wide}
-use Rattle.state.specs.Held.{heldAt}
-use Rattle.operations.specs.Operations.{isIdle, slotFor, slotted, needs}
+use Rattle.state.specs.Held.{held_at}
+use Rattle.operations.specs.Operations.{is_idle, slot_for, slotted, needs}
 use Rattle.operations.proofs.Taken.{EventTaken, event-taken}
-use Rattle.validity.specs.Validity.{stateOk}
-use Rattle.refinement.specs.Frames.{seenFrame}
-use Rattle.refinement.specs.Settled.{withLines, withOpen}
-use Rattle.refinement.specs.Event.{firstAsked}
-use Rattle.refinement.specs.Calls.{finishedLine, meterIn, meterLine, eventLine, eventSecond, eventCallRows}
-use Rattle.refinement.specs.Reference.{Reference, idle, under, writing, moving, withWork, written, meterOn, readLine, recallLine}
+use Rattle.validity.specs.Validity.{state_ok}
+use Rattle.refinement.specs.Frames.{seen_frame}
+use Rattle.refinement.specs.Settled.{with_lines, with_open}
+use Rattle.refinement.specs.Event.{first_asked}
+use Rattle.refinement.specs.Calls.{finished_line, meter_in, meter_line, event_line, event_second, event_call_rows}
+use Rattle.refinement.specs.Reference.{Reference, idle, under, writing, moving, with_work, written, meter_on, read_line, recall_line}
 use Rattle.refinement.proofs.Asked.{all_left, asked-busy}
 use Rattle.refinement.proofs.AskWrite.{merged-read}
 use Rattle.refinement.proofs.EventReady.{Ready, write-row, event-begun, nothing-held}
@@ -38,31 +38,31 @@ use Rattle.refinement.proofs.EventRows.{event-some, event-needs, event-op-row, e
 use Rattle.refinement.proofs.Invariant.{Never, Quiet, Busy, holds, not_wide}
 use Rattle.refinement.proofs.Keeps.{durable-kept}
 use Rattle.refinement.proofs.LinesAsked.{lines-valid}
-use Rattle.refinement.proofs.Moving.{Facts, Under, Moving, in-first, firstBytes, firstReference, firstTask}
+use Rattle.refinement.proofs.Moving.{Facts, Under, Moving, in-first, first_bytes, first_reference, first_task}
 use Rattle.refinement.proofs.Seen.{seen-line, unheld-line}
 use Rattle.refinement.proofs.WriterCalls.{seen-narrow, finished-narrow}
 use Rattle.refinement.proofs.StateValid.{valid}
 
-module _ {past : List ℕ} (st : State) (img : List ℕ) (b : Reference) (ms : List ℕ) (k m a : ℕ) (Q : Quiet past st img b) (row : refusal (eventCallRows st img ms k m a) ≡ 0) where
+module _ {past : List ℕ} (st : State) (img : List ℕ) (b : Reference) (ms : List ℕ) (k m a : ℕ) (Q : Quiet past st img b) (row : refusal (event_call_rows st img ms k m a) ≡ 0) where
   abbrev line : List ℕ
-  line = eventLine st img ms k m a
+  line = event_line st img ms k m a
 
   abbrev second : List ℕ
-  second = eventSecond st img ms k m a
+  second = event_second st img ms k m a
 
   abbrev asked : State
-  asked = withLines st (Event k m a) line second
+  asked = with_lines st (Event k m a) line second
 
   abbrev machine : Reference
-  machine = withWork (under (moving ms k m a) (eventNeeds k)) b
+  machine = with_work (under (moving ms k m a) (event_needs k)) b
 
   ok_rows : EventTaken st k m
   ok_rows = event-taken st k m a (event-op-row st img ms k m a row)
 
-  first : firstMeter k m < 64
+  first : first_meter k m < 64
   first = omega (arith, first-low k m ok_rows.known)
 
-  own : ownMeter k m < 64
+  own : own_meter k m < 64
   own = omega (arith, (own_range k m ok_rows.known).1)
 
   page : 0 < st.sizes.pages
@@ -82,18 +82,18 @@ module _ {past : List ℕ} (st : State) (img : List ℕ) (b : Reference) (ms : L
         fits = ok_rows.fits;
       }
 
-  asked-valid : stateOk asked ≡ true
+  asked-valid : state_ok asked ≡ true
   asked-valid = lines-valid st line second (Event k m a) Q.valid refl (event-op-row st img ms k m a row) (omega (arith, event-some k, event-needs st k m a))
 
-  ready : Ready (withOpen asked 1) k m
+  ready : Ready (with_open asked 1) k m
   ready = event-begun asked k m a asked-valid Q.durable.behind.sixteen Q.writers.sixty-four Q.writers.four asked-rows
 
   -- writer 1 holds nothing
   none-held : (p l : ℕ) → holds st 1 p l ≡ false
   none-held p l =
-      caseOn (slotted st p)
+      case_on (slotted st p)
       (λ t.
-      rw (t, nothing-held asked k m a asked-valid Q.durable.behind.sixteen Q.writers.sixty-four Q.writers.four asked-rows (slotFor st p) (ltb-true (slotFor st p) st.sizes.slots t))
+      rw (t, nothing-held asked k m a asked-valid Q.durable.behind.sixteen Q.writers.sixty-four Q.writers.four asked-rows (slot_for st p) (ltb-true (slot_for st p) st.sizes.slots t))
       (in-none l))
       (λ t. rw t)
 
@@ -101,39 +101,39 @@ module _ {past : List ℕ} (st : State) (img : List ℕ) (b : Reference) (ms : L
   other : is_wide st.wide 1 ≡ false
   other = not_wide st b 1 Q.narrow (omega arith)
 
-  seen : (l : ℕ) → l < 64 → lineBytes img st.sizes (seenFrame st 1 0 l) l ≡ readLine b 1 0 l
+  seen : (l : ℕ) → l < 64 → line_bytes img st.sizes (seen_frame st 1 0 l) l ≡ read_line b 1 0 l
   seen l low = seen-line st img b Never Q.durable Q.writers 1 0 l (omega arith) page low (λ x. x)
 
-  number : (l : ℕ) → l < 64 → meterIn st img l ≡ meterOn b l
+  number : (l : ℕ) → l < 64 → meter_in st img l ≡ meter_on b l
   number l low =
       ap (λ (x : List ℕ). word_at x 0) (seen-narrow st img 1 other 0 l ∙ seen l low ∙ sym (unheld-line st img b Never Q.durable Q.writers 1 0 l (omega arith) page low (none-held 0 l)))
 
-  line-bytes : (l : ℕ) → l < 64 → Bytes (readLine b 1 0 l)
+  line-bytes : (l : ℕ) → l < 64 → Bytes (read_line b 1 0 l)
   line-bytes l low = subst Bytes (seen l low) (bytes-part img _ 64 Q.durable.bytes)
 
-  finished : (l v : ℕ) → l < 64 → meterLine st img l v ≡ lineWords (readLine (written 1 0 l 0 8 (bytes_of 8 v) b) 1 0 l)
+  finished : (l v : ℕ) → l < 64 → meter_line st img l v ≡ line_words (read_line (written 1 0 l 0 8 (bytes_of 8 v) b) 1 0 l)
   finished l v low =
       finished-narrow st img 1 other 0 l 0 8 (bytes_of 8 v)
-      ∙ ap lineWords (ap (λ (x : List ℕ). merged x 0 8 (bytes_of 8 v)) (seen l low) ∙ merged-read b 1 0 l 0 8 (bytes_of 8 v) (omega arith) (omega (arith, length-bytes 8 v)))
+      ∙ ap line_words (ap (λ (x : List ℕ). merged x 0 8 (bytes_of 8 v)) (seen l low) ∙ merged-read b 1 0 l 0 8 (bytes_of 8 v) (omega arith) (omega (arith, length-bytes 8 v)))
 
   pub facts : Facts line second machine ms k m a
   facts =
       record {
         first-line =
-            finished (firstMeter k m) (firstNumber ms k m (meterIn st img (firstMeter k m)) a) first
-            ∙ ap (λ (x : ℕ). lineWords (readLine (written 1 0 (firstMeter k m) 0 8 (bytes_of 8 (firstNumber ms k m x a)) b) 1 0 (firstMeter k m))) (number (firstMeter k m) first);
+            finished (first_meter k m) (first_number ms k m (meter_in st img (first_meter k m)) a) first
+            ∙ ap (λ (x : ℕ). line_words (read_line (written 1 0 (first_meter k m) 0 8 (bytes_of 8 (first_number ms k m x a)) b) 1 0 (first_meter k m))) (number (first_meter k m) first);
         second-line =
             λ t.
-            sym (row-yes (movesCredit k) (meterLine st img (ownMeter k m) (rolled ms (ownMeter k m) (meterIn st img (ownMeter k m)) a)) (replicate 8 0) t)
-            ∙ (finished (ownMeter k m) (rolled ms (ownMeter k m) (meterIn st img (ownMeter k m)) a) own
-            ∙ ap (λ (x : ℕ). lineWords (readLine (written 1 0 (ownMeter k m) 0 8 (bytes_of 8 (rolled ms (ownMeter k m) x a)) b) 1 0 (ownMeter k m))) (number (ownMeter k m) own));
-        first-bytes = line-bytes (firstMeter k m) first;
-        own-bytes = line-bytes (ownMeter k m) own;
-        amount = ap (λ (x : ℕ). amountBad ms k m x a) (sym (number (firstMeter k m) first)) ∙ event-amount st img ms k m a row;
+            sym (row-yes (moves_credit k) (meter_line st img (own_meter k m) (rolled ms (own_meter k m) (meter_in st img (own_meter k m)) a)) (replicate 8 0) t)
+            ∙ (finished (own_meter k m) (rolled ms (own_meter k m) (meter_in st img (own_meter k m)) a) own
+            ∙ ap (λ (x : ℕ). line_words (read_line (written 1 0 (own_meter k m) 0 8 (bytes_of 8 (rolled ms (own_meter k m) x a)) b) 1 0 (own_meter k m))) (number (own_meter k m) own));
+        first-bytes = line-bytes (first_meter k m) first;
+        own-bytes = line-bytes (own_meter k m) own;
+        amount = ap (λ (x : ℕ). amount_bad ms k m x a) (sym (number (first_meter k m) first)) ∙ event-amount st img ms k m a row;
       }
 
   -- writer 1 begun
-  begun : Quiet past (withOpen asked 1) img b
+  begun : Quiet past (with_open asked 1) img b
   begun =
       let ws = Q.writers in
       record {
@@ -145,27 +145,27 @@ module _ {past : List ℕ} (st : State) (img : List ℕ) (b : Reference) (ms : L
         narrow = record { state = Q.narrow.state; book = Q.narrow.book };
       }
 
-  eight : 0 < needs (withOpen asked 1) (Write 1 0 (firstMeter k m) 0 8)
+  eight : 0 < needs (with_open asked 1) (Write 1 0 (first_meter k m) 0 8)
   unfolding needs
   eight = omega arith
 
   abbrev op : Op
-  op = Write 1 0 (firstMeter k m) 0 8
+  op = Write 1 0 (first_meter k m) 0 8
 
-  first-busy : Busy past (firstAsked asked k m) img (withWork (under (firstTask ms k m a b) (needs (withOpen asked 1) op)) b)
+  first-busy : Busy past (first_asked asked k m) img (with_work (under (first_task ms k m a b) (needs (with_open asked 1) op)) b)
   first-busy =
-      let bytes = firstBytes ms k m a b in
-      asked-busy (withOpen asked 1) img b op line (firstTask ms k m a b) begun (ap not other) eight
-      (write-row (withOpen asked 1) k m (firstMeter k m) line ready first ready.first-free)
-      (bytes, bytes-bytesOf 8 _, omega (arith, length-bytes 8 (firstNumber ms k m (meterOn b (firstMeter k m)) a)), all_left (withOpen asked 1) op line (firstTask ms k m a b), facts.first-line, line-bytes (firstMeter k m) first)
+      let bytes = first_bytes ms k m a b in
+      asked-busy (with_open asked 1) img b op line (first_task ms k m a b) begun (ap not other) eight
+      (write-row (with_open asked 1) k m (first_meter k m) line ready first ready.first-free)
+      (bytes, bytes-bytes_of 8 _, omega (arith, length-bytes 8 (first_number ms k m (meter_on b (first_meter k m)) a)), all_left (with_open asked 1) op line (first_task ms k m a b), facts.first-line, line-bytes (first_meter k m) first)
 
-  first_under : Under past (firstAsked asked k m) img (firstTask ms k m a b) (withWork idle b) 0
+  first_under : Under past (first_asked asked k m) img (first_task ms k m a b) (with_work idle b) 0
   unfolding needs
   first_under = record { low = eight; busy = first-busy }
 
   pub event-moving : Moving past asked img machine
   event-moving =
-      let e : eventNeeds k ≡ eventNeeds k - 0 = omega arith in
+      let e : event_needs k ≡ event_needs k - 0 = omega arith in
       record {
         moduli = ms;
         kind = k;

@@ -7,28 +7,28 @@ use native.Mathlib.Omega.{arith}
 use Rattle.bounded.specs.Rows.{refusal}
 use Rattle.state.specs.State.{State}
 use Rattle.state.specs.declared.Op.{Op}
-use Rattle.operations.specs.Operations.{needs, opRows}
-use Rattle.validity.specs.Validity.{opFits, isFresh}
+use Rattle.operations.specs.Operations.{needs, op_rows}
+use Rattle.validity.specs.Validity.{op_fits, is_fresh}
 use Rattle.refinement.proofs.StateValid.{valid}
-use Rattle.refinement.specs.Calls.{withPending, asked}
+use Rattle.refinement.specs.Calls.{with_pending, asked}
 use Rattle.refinement.proofs.CallAsked.{needs-asked, pending-valid}
-use Rattle.refinement.specs.Reference.{Reference, Task, under, withWork}
+use Rattle.refinement.specs.Reference.{Reference, Task, under, with_work}
 use Rattle.refinement.proofs.Invariant.{Doing, Quiet, Busy}
 use Rattle.refinement.proofs.Keeps.{durable-kept}
 
 -- what the reference machine has under way, with all its stores left
-pub all_left : (st : State) (op : Op) (line : List ℕ) (t : Task) → under t (needs st op) ≡ under t (needs (withPending st op line) op - 0)
-all_left st op line t = let e : needs st op ≡ needs (withPending st op line) op - 0 = omega (arith, needs-asked st line op op) in ap (under t) e
+pub all_left : (st : State) (op : Op) (line : List ℕ) (t : Task) → under t (needs st op) ≡ under t (needs (with_pending st op line) op - 0)
+all_left st op line t = let e : needs st op ≡ needs (with_pending st op line) op - 0 = omega (arith, needs-asked st line op op) in ap (under t) e
 
 pub asked-busy : {past : List ℕ} (st : State) (img : List ℕ) (b : Reference) (op : Op) (line : List ℕ) (t : Task)
-    → Quiet past st img b → opFits st.wide.writer (isFresh st) op ≡ true → 0 < needs st op → refusal (opRows st op) ≡ 0
-    → Doing (withPending st op line) img (withWork (under t (needs st op)) b) op
-    → Busy past (withPending st op line) img (withWork (under t (needs st op)) b)
+    → Quiet past st img b → op_fits st.wide.writer (is_fresh st) op ≡ true → 0 < needs st op → refusal (op_rows st op) ≡ 0
+    → Doing (with_pending st op line) img (with_work (under t (needs st op)) b) op
+    → Busy past (with_pending st op line) img (with_work (under t (needs st op)) b)
 asked-busy st img b op line t q fits l r doing =
     let ws = q.writers in
     record {
       valid = pending-valid st line op q.valid fits r l;
-      durable = durable-kept st img b (withWork (under t (needs st op)) b) st.next st.writers _ (λ p l h k. refl) q.durable;
+      durable = durable-kept st img b (with_work (under t (needs st op)) b) st.next st.writers _ (λ p l h k. refl) q.durable;
       writers =
           record {
             four = ws.four;

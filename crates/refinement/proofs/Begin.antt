@@ -9,7 +9,7 @@ use Rattle.bounded.specs.Rows.{refusal}
 use Rattle.state.specs.State.{State}
 use Rattle.refinement.specs.Stores.{World}
 use Rattle.refinement.proofs.StateValid.{valid}
-use Rattle.refinement.specs.Calls.{beginRows, beginOf, withWriters}
+use Rattle.refinement.specs.Calls.{begin_rows, begin_of, with_writers}
 use Rattle.refinement.proofs.Begun.{opening, begin-taken, begin-valid}
 use Rattle.refinement.specs.Run.{begin, exec}
 use Rattle.refinement.specs.Reference.{Reference}
@@ -18,8 +18,8 @@ use Rattle.refinement.proofs.Sound.{Sound, is-quiet}
 use Rattle.refinement.proofs.Keeps.{durable-kept}
 use Rattle.refinement.proofs.Next.{answered-still}
 
-begun : {past : List ℕ} (st : State) (img : List ℕ) (b : Reference) (w : ℕ) → refusal (beginRows st w) ≡ 0 → Quiet past st img b
-    → Quiet past (withWriters st (opening st w)) img b
+begun : {past : List ℕ} (st : State) (img : List ℕ) (b : Reference) (w : ℕ) → refusal (begin_rows st w) ≡ 0 → Quiet past st img b
+    → Quiet past (with_writers st (opening st w)) img b
 begun st img b w row q =
     let ws = q.writers in
     record {
@@ -32,11 +32,11 @@ begun st img b w row q =
     }
 
 pub begin-sound : {past : List ℕ} (w : ℕ) (v : World) (b : Reference) → Related past v b → Sound past (begin w) v b
-unfolding exec beginOf
+unfolding exec begin_of
 begin-sound w v b h =
     let st = v.st in
     let a =
-    answered-still (Related _) (begin w) v b (refusal (beginRows st w)) 0 (withWriters st (opening st w)) h
+    answered-still (Related _) (begin w) v b (refusal (begin_rows st w)) 0 (with_writers st (opening st w)) h
     (λ e.
     let q = is-quiet st v.image b h (ap not (begin-taken st w e).quiet) in
     record { sizes = refl; related = inl (begun st v.image b w e q) }) in

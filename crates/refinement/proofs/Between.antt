@@ -6,8 +6,8 @@ use mathlib.Core.Logic.{◌⊎◌, inl, inr}
 use mathlib.Core.Path.{◌≡◌, ap}
 use lib.ListN.{length}
 use Rattle.bounded.proofs.Tests.{contradicts}
-use Rattle.operations.specs.Operations.{isIdle}
-use Rattle.validity.specs.Validity.{stateOk}
+use Rattle.operations.specs.Operations.{is_idle}
+use Rattle.validity.specs.Validity.{state_ok}
 use Rattle.refinement.specs.Stores.{World}
 use Rattle.refinement.specs.Run.{Call, exec}
 use Rattle.refinement.specs.Reference.{Reference, idle, turn}
@@ -20,7 +20,7 @@ abbrev pub Between : List ℕ → World → Reference → Type 0
 Between past v b = Related past v b ⊎ Moving past v.st v.image b
 
 module _ {past : List ℕ} (v : World) (b : Reference) where
-  pub between-valid : Between past v b → stateOk v.st ≡ true
+  pub between-valid : Between past v b → state_ok v.st ≡ true
   between-valid (inl r) = related-valid v.st v.image b r
   between-valid (inr m) = m.valid
 
@@ -43,14 +43,14 @@ module _ {past : List ℕ} (v : World) (b : Reference) where
   between-opened (inr m) = m.four
 
   -- an event is an operation
-  pub moving-pending : Moving past v.st v.image b → isIdle v.st.pending.op ≡ false
-  moving-pending m = ap isIdle m.event
+  pub moving-pending : Moving past v.st v.image b → is_idle v.st.pending.op ≡ false
+  moving-pending m = ap is_idle m.event
 
-  pub between-quiet : Between past v b → not (isIdle v.st.pending.op) ≡ false → Quiet past v.st v.image b
+  pub between-quiet : Between past v b → not (is_idle v.st.pending.op) ≡ false → Quiet past v.st v.image b
   between-quiet (inl r) e = is-quiet v.st v.image b r e
   between-quiet (inr m) e = contradicts (ap not (moving-pending m)) e
 
-  pub between-pending : Between past v b → (b.work ≡ idle → ⊥) → isIdle v.st.pending.op ≡ false
+  pub between-pending : Between past v b → (b.work ≡ idle → ⊥) → is_idle v.st.pending.op ≡ false
   between-pending (inl (inl q)) n = absurd (n q.work)
   between-pending (inl (inr q)) n = busy-pending v.st v.image b q
   between-pending (inr m) n = moving-pending m

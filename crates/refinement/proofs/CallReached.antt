@@ -7,9 +7,9 @@ use Rattle.bounded.proofs.Tests.{row_keeps}
 use Rattle.words.specs.Words.{Bytes}
 use Rattle.words.proofs.WordLaws.{bytes-store}
 use Rattle.state.specs.State.{State}
-use Rattle.refinement.specs.Stores.{World, storeAt, storeValue, stepped, steppedBy, left}
-use Rattle.refinement.specs.Calls.{stepRow, worldOf, stepBytes, runBytes}
-use Rattle.refinement.specs.Run.{Call, mount, checkpoint, free, step, begin, beginWide, abort, commit, prepare, confirm, withdraw, consolidate, run, write, read, recall, exec, after, event, load}
+use Rattle.refinement.specs.Stores.{World, store_at, store_value, stepped, stepped_by, left}
+use Rattle.refinement.specs.Calls.{step_row, world_of, step_bytes, run_bytes}
+use Rattle.refinement.specs.Run.{Call, mount, checkpoint, free, step, begin, begin_wide, abort, commit, prepare, confirm, withdraw, consolidate, run, write, read, recall, exec, after, event, load}
 use Rattle.refinement.proofs.Called.{Good, call-good}
 
 step-image : (v : World) → Bytes v.image → Bytes (stepped v).image
@@ -17,21 +17,21 @@ unfolding stepped
 step-image v b =
     let op = v.st.pending.op in
     let m = v.st.pending.made in
-    bytes-store v.image (storeAt v.st op m) (storeValue v.st v.image op m) b
+    bytes-store v.image (store_at v.st op m) (store_value v.st v.image op m) b
 
-steps-image : (n : ℕ) (v : World) → Bytes v.image → Bytes (steppedBy n v).image
-unfolding steppedBy
+steps-image : (n : ℕ) (v : World) → Bytes v.image → Bytes (stepped_by n v).image
+unfolding stepped_by
 steps-image n v b = up-keeps (λ (u : World). Bytes u.image) (λ i u. stepped u) n v (λ i u l k. step-image u k) b
 
 module _ (st : State) (img : List ℕ) (b : Bytes img) where
-  step-bytes : Bytes (stepBytes st img)
-  unfolding stepBytes
-  step-bytes = row_keeps Bytes (eqb (stepRow st img) 0) (stepped (worldOf st img)).image img (step-image (worldOf st img) b) b
+  step-bytes : Bytes (step_bytes st img)
+  unfolding step_bytes
+  step-bytes = row_keeps Bytes (eqb (step_row st img) 0) (stepped (world_of st img)).image img (step-image (world_of st img) b) b
 
-  run-bytes : (k : ℕ) → Bytes (runBytes st img k)
-  unfolding runBytes
+  run-bytes : (k : ℕ) → Bytes (run_bytes st img k)
+  unfolding run_bytes
   run-bytes k =
-      row_keeps Bytes (eqb (stepRow st img) 0) (steppedBy (min k (left st)) (worldOf st img)).image img (steps-image (min k (left st)) (worldOf st img) b) b
+      row_keeps Bytes (eqb (step_row st img) 0) (stepped_by (min k (left st)) (world_of st img)).image img (steps-image (min k (left st)) (world_of st img) b) b
 
 pub call-bytes : (c : Call) (v : World) → Bytes v.image → Bytes (exec c v).world.image
 unfolding exec
@@ -40,7 +40,7 @@ call-bytes checkpoint v b = b
 call-bytes free v b = b
 call-bytes step v b = step-bytes v.st v.image b
 call-bytes (begin w) v b = b
-call-bytes (beginWide w) v b = b
+call-bytes (begin_wide w) v b = b
 call-bytes (abort w) v b = b
 call-bytes (commit w) v b = b
 call-bytes (prepare w) v b = b

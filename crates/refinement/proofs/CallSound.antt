@@ -3,7 +3,7 @@ use Prim.Native.Nat.{ℕ}
 use mathlib.Core.List.{List}
 use mathlib.Core.Logic.{inl, inr}
 use Rattle.refinement.specs.Stores.{World}
-use Rattle.refinement.specs.Run.{Call, mount, checkpoint, free, step, begin, beginWide, abort, commit, prepare, confirm, withdraw, consolidate, run, write, read, recall, event, load}
+use Rattle.refinement.specs.Run.{Call, mount, checkpoint, free, step, begin, begin_wide, abort, commit, prepare, confirm, withdraw, consolidate, run, write, read, recall, event, load}
 use Rattle.refinement.specs.Reference.{Reference}
 use Rattle.refinement.specs.Statement.{Lent}
 use Rattle.refinement.proofs.Invariant.{Related}
@@ -36,7 +36,7 @@ related-sound checkpoint lent v b h = plain v b (checkpoint-sound v b h)
 related-sound free lent v b h = plain v b (free-sound v b h)
 related-sound step lent v b h = plain v b (step-sound v b h)
 related-sound (begin w) lent v b h = plain v b (begin-sound w v b h)
-related-sound (beginWide w) lent v b h = begin-wide-sound w v b (inl h)
+related-sound (begin_wide w) lent v b h = begin-wide-sound w v b (inl h)
 related-sound (abort w) lent v b h = plain v b (abort-sound w v b h)
 related-sound (commit w) lent v b h = plain v b (commit-sound w v b h)
 related-sound (prepare w) lent v b h = plain v b (prepare-sound w v b h)

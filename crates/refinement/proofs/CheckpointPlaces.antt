@@ -7,11 +7,11 @@ use native.Mathlib.Omega.{arith}
 use lib.ListN.{length, get_or}
 use Rattle.layout.specs.declared.Sizes.{Sizes}
 use Rattle.layout.specs.Layout.{Legal}
-use Rattle.operations.specs.Operations.{recordedSlots}
+use Rattle.operations.specs.Operations.{recorded_slots}
 use Rattle.bounded.proofs.Nth.{nth-low}
 
-pub recorded-slot-low : (z : Sizes) (last : List ℕ) (j r : ℕ) → Legal z → r ≡ get_or (recordedSlots z last) j 0 → r < z.slots
-unfolding recordedSlots
+pub recorded-slot-low : (z : Sizes) (last : List ℕ) (j r : ℕ) → Legal z → r ≡ get_or (recorded_slots z last) j 0 → r < z.slots
+unfolding recorded_slots
 recorded-slot-low z last j r h e = rw e (nth-low _ z.slots j (omega arith))
 
 -- what is read past the end does not matter below it

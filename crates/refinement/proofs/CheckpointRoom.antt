@@ -13,21 +13,21 @@ use Rattle.bounded.specs.Rows.{refusal}
 use Rattle.bounded.proofs.Below.{count-le}
 use Rattle.bounded.proofs.Rows.{row-none}
 use Rattle.bounded.proofs.Those.{length-those}
-use Rattle.bounded.proofs.Tests.{caseOn, contradicts}
+use Rattle.bounded.proofs.Tests.{case_on, contradicts}
 use Rattle.layout.specs.declared.Sizes.{Sizes}
-use Rattle.layout.specs.Layout.{imageLength}
+use Rattle.layout.specs.Layout.{image_length}
 use Rattle.journal.proofs.Ring.{live-none}
 use Rattle.state.specs.State.{State}
 use Rattle.state.specs.declared.Op.TheVariants.{Checkpoint}
-use Rattle.state.specs.Held.{heldAt, heldSlots}
+use Rattle.state.specs.Held.{held_at, held_slots}
 use Rattle.state.specs.Wide.{is_wide}
-use Rattle.operations.specs.Operations.{live, isIdle, journalFull, needs, writeRows, logRows}
-use Rattle.validity.specs.Validity.{stateOk}
+use Rattle.operations.specs.Operations.{live, is_idle, journal_full, needs, write_rows, log_rows}
+use Rattle.validity.specs.Validity.{state_ok}
 use Rattle.refinement.specs.Stores.{World, completed, left}
 use Rattle.refinement.proofs.Pending.{pends}
 use Rattle.refinement.proofs.Steps.{stepped-last, run-all}
-use Rattle.refinement.specs.Calls.{quietRows, beginRows, beginOf, beginWideRows, beginWideOf, abortRows, abortOf, writeCallRows, writeOf, commitCallRows, commitOf, prepareCallRows, prepareOf, confirmCallRows, confirmOf, withdrawOf, consolidateCallRows, consolidateOf, freeCallRows, freeOf, checkpointCallRows, checkpointOf, readRows, readRow, stepRow, stepRows, step_of, run_of, eventCallRows, eventOf, loadRows, load_of}
-use Rattle.refinement.specs.Run.{Call, mount, checkpoint, free, step, begin, beginWide, abort, commit, prepare, confirm, withdraw, consolidate, run, write, read, recall, exec, event, load}
+use Rattle.refinement.specs.Calls.{quiet_rows, begin_rows, begin_of, begin_wide_rows, begin_wide_of, abort_rows, abort_of, write_call_rows, write_of, commit_call_rows, commit_of, prepare_call_rows, prepare_of, confirm_call_rows, confirm_of, withdraw_of, consolidate_call_rows, consolidate_of, free_call_rows, free_of, checkpoint_call_rows, checkpoint_of, read_rows, read_row, step_row, step_rows, step_of, run_of, event_call_rows, event_of, load_rows, load_of}
+use Rattle.refinement.specs.Run.{Call, mount, checkpoint, free, step, begin, begin_wide, abort, commit, prepare, confirm, withdraw, consolidate, run, write, read, recall, exec, event, load}
 use Rattle.refinement.specs.Beside.{HasRoom, MakesRoom, CheckpointMakesRoom}
 use Rattle.refinement.specs.Reference.{Reference, turn}
 use Rattle.refinement.specs.Statement.{Lent}
@@ -41,13 +41,13 @@ use Rattle.refinement.proofs.Valid.{legal-sizes}
 use Rattle.refinement.proofs.Viewed.{viewed-fits}
 
 -- a writer holds lines of at most S slots
-held-le : (z : Sizes) (held : List ℕ) (w : ℕ) → length (heldSlots z held w) ≤ z.slots
-unfolding heldSlots
+held-le : (z : Sizes) (held : List ℕ) (w : ℕ) → length (held_slots z held w) ≤ z.slots
+unfolding held_slots
 held-le z held w =
-    omega (arith, length-those (λ s. not (eqb (heldAt held w s) 0)) z.slots, count-le (λ s. not (eqb (heldAt held w s) 0)) z.slots)
+    omega (arith, length-those (λ s. not (eqb (held_at held w s) 0)) z.slots, count-le (λ s. not (eqb (held_at held w s) 0)) z.slots)
 
 -- with no live record there is room for a record of each slot
-room : (st : State) → stateOk st ≡ true → st.head ≡ st.tail → (n : ℕ) → n ≤ st.sizes.slots → journalFull st n ≡ false
+room : (st : State) → state_ok st ≡ true → st.head ≡ st.tail → (n : ℕ) → n ≤ st.sizes.slots → journal_full st n ≡ false
 room st valid e n few =
     let z : Sizes = st.sizes in
     let none : live st ≡ 0 = rw e (live-none z st.tail) in
@@ -65,64 +65,64 @@ module _ {past : List ℕ} (v : World) (b : Reference) (s : Standing past v b) (
   abbrev img : List ℕ
   img = v.image
 
-  one : journalFull st 1 ≡ false
+  one : journal_full st 1 ≡ false
   one = room st s.valid e 1 (omega (arith, (legal-sizes st s.valid).slots-low))
 
-  held : (w : ℕ) → journalFull st (length (heldSlots st.sizes st.writers.held w)) ≡ false
+  held : (w : ℕ) → journal_full st (length (held_slots st.sizes st.writers.held w)) ≡ false
   held w = room st s.valid e _ (held-le st.sizes st.writers.held w)
 
-  write-fits : (w p l o n : ℕ) (bytes : List ℕ) → lacking (refusal (writeCallRows st img w p l o n bytes)) ≡ false
+  write-fits : (w p l o n : ℕ) (bytes : List ℕ) → lacking (refusal (write_call_rows st img w p l o n bytes)) ≡ false
   write-fits w p l o n bytes =
-      let rows = quietRows st (length img) ++ ((ltb (length bytes) n, 11) ∷ []) in
-      caseOn (is_wide st.wide w)
-      (λ t. rw t (none-applies lacking (rows ++ logRows st p l o n) refl))
-      (λ t. rw t (none-applies lacking (rows ++ writeRows st w p l o n) refl))
+      let rows = quiet_rows st (length img) ++ ((ltb (length bytes) n, 11) ∷ []) in
+      case_on (is_wide st.wide w)
+      (λ t. rw t (none-applies lacking (rows ++ log_rows st p l o n) refl))
+      (λ t. rw t (none-applies lacking (rows ++ write_rows st w p l o n) refl))
 
   fits : (c : Call) → lacking (exec c v).number ≡ false
-  unfolding exec beginOf beginWideOf abortOf writeOf commitOf prepareOf confirmOf withdrawOf consolidateOf freeOf checkpointOf eventOf load_of readRow step_of run_of
-  fits (commit w) = none-applies lacking (commitCallRows st img w) (rw (held w))
-  fits (prepare w) = none-applies lacking (prepareCallRows st img w) (rw (held w))
-  fits (event ms k m a) = none-applies lacking (eventCallRows st img ms k m a) (rw one)
-  fits (consolidate p) = none-applies lacking (consolidateCallRows st img p) (rw one)
-  fits free = none-applies lacking (freeCallRows st img) (rw one)
+  unfolding exec begin_of begin_wide_of abort_of write_of commit_of prepare_of confirm_of withdraw_of consolidate_of free_of checkpoint_of event_of load_of read_row step_of run_of
+  fits (commit w) = none-applies lacking (commit_call_rows st img w) (rw (held w))
+  fits (prepare w) = none-applies lacking (prepare_call_rows st img w) (rw (held w))
+  fits (event ms k m a) = none-applies lacking (event_call_rows st img ms k m a) (rw one)
+  fits (consolidate p) = none-applies lacking (consolidate_call_rows st img p) (rw one)
+  fits free = none-applies lacking (free_call_rows st img) (rw one)
   fits mount = ap lacking (mount-taken v b s.viewed)
-  fits checkpoint = none-applies lacking (checkpointCallRows st img) refl
-  fits step = none-applies lacking (stepRows st img) refl
-  fits (begin w) = none-applies lacking (beginRows st w) refl
-  fits (beginWide w) = none-applies lacking (beginWideRows st w) refl
-  fits (abort w) = none-applies lacking (abortRows st w) refl
-  fits (confirm w) = none-applies lacking (confirmCallRows st img w) refl
-  fits (withdraw w) = none-applies lacking (confirmCallRows st img w) refl
-  fits (run k) = none-applies lacking (stepRows st img) refl
+  fits checkpoint = none-applies lacking (checkpoint_call_rows st img) refl
+  fits step = none-applies lacking (step_rows st img) refl
+  fits (begin w) = none-applies lacking (begin_rows st w) refl
+  fits (begin_wide w) = none-applies lacking (begin_wide_rows st w) refl
+  fits (abort w) = none-applies lacking (abort_rows st w) refl
+  fits (confirm w) = none-applies lacking (confirm_call_rows st img w) refl
+  fits (withdraw w) = none-applies lacking (confirm_call_rows st img w) refl
+  fits (run k) = none-applies lacking (step_rows st img) refl
   fits (write w p l o n bytes) = write-fits w p l o n bytes
-  fits (read w p l target) = none-applies lacking (readRows st img w p l target) refl
+  fits (read w p l target) = none-applies lacking (read_rows st img w p l target) refl
   fits (recall p l target) = ⊎_elim (λ q. ap lacking q) (λ q. ap lacking q) (recall-answer img b s.viewed p l target)
-  fits (load text) = none-applies lacking (loadRows st img text) refl
+  fits (load text) = none-applies lacking (load_rows st img text) refl
 
 -- ---- the calls that complete a checkpoint
 
-module _ (v : World) (ok : stateOk v.st ≡ true) (fits : imageLength v.st.sizes ≤ length v.image) (e : v.st.pending.op ≡ Checkpoint) where
+module _ (v : World) (ok : state_ok v.st ≡ true) (fits : image_length v.st.sizes ≤ length v.image) (e : v.st.pending.op ≡ Checkpoint) where
   -- one is under way, and a step or a run is taken
   some_left : v.st.pending.made < needs v.st v.st.pending.op
-  some_left = (pends v.st v.st.pending.op ok refl (ap isIdle e)).made-low
+  some_left = (pends v.st v.st.pending.op ok refl (ap is_idle e)).made-low
 
-  row : 0 ≡ stepRow v.st v.image
-  row = row-none (stepRows v.st v.image) (ap not ok, (le-ltb (length v.image) (imageLength v.st.sizes) fits, (ap isIdle e, tt)))
+  row : 0 ≡ step_row v.st v.image
+  row = row-none (step_rows v.st v.image) (ap not ok, (le-ltb (length v.image) (image_length v.st.sizes) fits, (ap is_idle e, tt)))
 
   run_ends : (k : ℕ) → left v.st ≤ k → (exec (run k) v).world.st ≡ completed v.st Checkpoint
   unfolding exec run_of
   run_ends k enough =
       let n : min k (left v.st) ≡ left v.st = omega arith in
-      rw (← row, n) (run-all v (ap isIdle e) (omega (arith, some_left)) ∙ ap (completed v.st) e)
+      rw (← row, n) (run-all v (ap is_idle e) (omega (arith, some_left)) ∙ ap (completed v.st) e)
 
   step-ends : left v.st ≡ 1 → (exec step v).world.st ≡ completed v.st Checkpoint
   unfolding exec step_of
   step-ends one = rw (← row) (stepped-last v (omega (arith, some_left)) ∙ ap (completed v.st) e)
 
 ask-ends : (v : World) → (exec checkpoint v).number ≡ 0 → (exec checkpoint v).stores ≡ 0 → (exec checkpoint v).world.st ≡ completed v.st Checkpoint
-unfolding exec checkpointOf
+unfolding exec checkpoint_of
 ask-ends v taken none =
-    let row : refusal (checkpointCallRows v.st v.image) ≡ 0 = taken in
+    let row : refusal (checkpoint_call_rows v.st v.image) ≡ 0 = taken in
     let n : needs v.st Checkpoint ≡ 0 = rw (row) at none in
     rw (row, n)
 

@@ -4,27 +4,27 @@ use mathlib.Core.Bool.{true}
 use mathlib.Core.Path.{◌≡◌, refl}
 use native.Mathlib.Omega.{arith}
 use lib.ListN.{length}
-use Rattle.bounded.proofs.Tab.{getD-filled}
-use Rattle.replay.specs.Table.{noPosition}
+use Rattle.bounded.proofs.Tab.{get_or-filled}
+use Rattle.replay.specs.Table.{no_position}
 use Rattle.journal.proofs.Ring.{live-none, positions-none}
 use Rattle.replay.proofs.Tables.{Sixteen}
 use Rattle.state.specs.State.{State}
 use Rattle.state.specs.declared.Op.TheVariants.{Checkpoint}
 use Rattle.state.proofs.Numbers.{held-le}
-use Rattle.validity.specs.Validity.{stateOk}
+use Rattle.validity.specs.Validity.{state_ok}
 use Rattle.refinement.specs.Stores.{completed}
-use Rattle.refinement.specs.Checkpoint.{withoutLasts}
+use Rattle.refinement.specs.Checkpoint.{without_lasts}
 use Rattle.refinement.proofs.ValidLasts.{last_at}
 use Rattle.refinement.proofs.StateValid.{valid, valid-ok}
 use Rattle.refinement.proofs.Pending.{idle-ok}
 
-pub checkpoint-valid : (st : State) → stateOk st ≡ true → Sixteen st.table → stateOk (completed st Checkpoint) ≡ true
+pub checkpoint-valid : (st : State) → state_ok st ≡ true → Sixteen st.table → state_ok (completed st Checkpoint) ≡ true
 checkpoint-valid st e full =
     let v = valid st e in
     let z = st.sizes in
     let high : z.slots ≤ length st.table.last = omega arith in
-    let none : (s : ℕ) → s < z.slots → last_at (withoutLasts z st.table) s ≡ noPosition =
-    λ s l. getD-filled z.slots (λ s. noPosition) st.table.last s 0 l high in
+    let none : (s : ℕ) → s < z.slots → last_at (without_lasts z st.table) s ≡ no_position =
+    λ s l. get_or-filled z.slots (λ s. no_position) st.table.last s 0 l high in
     valid-ok (completed st Checkpoint)
     (record {
       legal = v.legal;

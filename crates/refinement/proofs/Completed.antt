@@ -8,8 +8,8 @@ use Rattle.replay.proofs.Tables.{Sixteen}
 use Rattle.state.specs.State.{State}
 use Rattle.state.specs.declared.Op.{Op}
 use Rattle.state.specs.declared.Op.TheVariants.{Idle, Write, Commit, Consolidate, Checkpoint, Event, Prepare, Confirm, Log, Copy, Format}
-use Rattle.operations.specs.Operations.{opRows}
-use Rattle.validity.specs.Validity.{opFits, stateOk, isFresh}
+use Rattle.operations.specs.Operations.{op_rows}
+use Rattle.validity.specs.Validity.{op_fits, state_ok, is_fresh}
 use Rattle.operations.proofs.Taken.{write-taken, prepare-taken, prepare-alone, confirm-taken}
 use Rattle.refinement.specs.Stores.{completed}
 use Rattle.refinement.proofs.WideValid.{logged-valid, copied-valid}
@@ -22,7 +22,7 @@ use Rattle.refinement.proofs.StateValid.{valid, valid-ok}
 use Rattle.refinement.proofs.Pending.{idle-ok}
 
 -- with nothing pending any more
-settled-valid : (st : State) → stateOk st ≡ true → stateOk (completed st Format) ≡ true
+settled-valid : (st : State) → state_ok st ≡ true → state_ok (completed st Format) ≡ true
 settled-valid st e =
     let v = valid st e in
     valid-ok (completed st Format)
@@ -39,7 +39,7 @@ settled-valid st e =
       pending = idle-ok (completed st Format) refl;
     })
 
-pub completed-valid : (st : State) (op : Op) → stateOk st ≡ true → Sixteen st.table → length st.map ≡ 1024 → length st.writers.held ≡ 64 → length st.writers.opened ≡ 4 → length st.wide.keys ≡ 64 → opFits st.wide.writer (isFresh st) op ≡ true → refusal (opRows st op) ≡ 0 → stateOk (completed st op) ≡ true
+pub completed-valid : (st : State) (op : Op) → state_ok st ≡ true → Sixteen st.table → length st.map ≡ 1024 → length st.writers.held ≡ 64 → length st.writers.opened ≡ 4 → length st.wide.keys ≡ 64 → op_fits st.wide.writer (is_fresh st) op ≡ true → refusal (op_rows st op) ≡ 0 → state_ok (completed st op) ≡ true
 completed-valid st Idle e full long lines four keys fits r = e
 completed-valid st (Write w p l o n) e full long lines four keys fits r =
     written-valid st w p l o n e full (write-taken st w p l o n r) (not-true _ fits) lines

@@ -2,12 +2,12 @@
 use Prim.Native.Nat.{ℕ}
 use mathlib.Core.List.{List}
 use mathlib.Core.Path.{ap}
-use Rattle.operations.specs.Operations.{isIdle}
+use Rattle.operations.specs.Operations.{is_idle}
 use Rattle.refinement.specs.Stores.{World}
-use Rattle.refinement.specs.Run.{Call, mount, checkpoint, free, step, begin, beginWide, abort, commit, prepare, confirm, withdraw, consolidate, run, write, read, recall, event, load}
+use Rattle.refinement.specs.Run.{Call, mount, checkpoint, free, step, begin, begin_wide, abort, commit, prepare, confirm, withdraw, consolidate, run, write, read, recall, event, load}
 use Rattle.refinement.specs.Reference.{Reference}
 use Rattle.refinement.proofs.Copies.{durable-fits}
-use Rattle.refinement.proofs.Copying.{inPlace, Copying}
+use Rattle.refinement.proofs.Copying.{in_place, Copying}
 use Rattle.refinement.proofs.CopyingStanding.{copying-standing}
 use Rattle.refinement.specs.CutFormat.{ByState}
 use Rattle.refinement.proofs.Nine.{nine-stays, nine-keeps, nine-right}
@@ -19,8 +19,8 @@ use Rattle.refinement.proofs.Cases.{Invariant, copying, Kept}
 module _ {past : List ℕ} (v : World) (b : Reference) (C : Copying past v.st v.image b) where
   nine : (c : Call) → ByState c → Kept past c v b
   nine c a =
-      let long = durable-fits past v.st v.image (inPlace v.st v.image b) C.durable in
-      let some = ap isIdle C.op in
+      let long = durable-fits past v.st v.image (in_place v.st v.image b) C.durable in
+      let some = ap is_idle C.op in
       record {
         right = nine-right v C.valid long some b c a;
         sizes = ap (λ (u : World). u.st.sizes) (nine-stays v C.valid long some c a);
@@ -35,7 +35,7 @@ module _ {past : List ℕ} (v : World) (b : Reference) (C : Copying past v.st v.
   copying-sound checkpoint = nine checkpoint tt
   copying-sound free = nine free tt
   copying-sound (begin w) = nine (begin w) tt
-  copying-sound (beginWide w) = nine (beginWide w) tt
+  copying-sound (begin_wide w) = nine (begin_wide w) tt
   copying-sound (abort w) = nine (abort w) tt
   copying-sound (commit w) = nine (commit w) tt
   copying-sound (prepare w) = nine (prepare w) tt

@@ -8,14 +8,14 @@ use lib.Dec.{ltb}
 use lib.ListN.{length}
 use borrow.Author.Tests.{lt-ltb}
 use Rattle.bounded.proofs.Tests.{contradicts}
-use Rattle.replay.specs.Map.{pageFrames}
+use Rattle.replay.specs.Map.{page_frames}
 use Rattle.words.specs.Words.{word}
 use Rattle.entries.proofs.EntryLaws.{length-keys}
-use Rattle.state.specs.State.{State, ownFrame}
+use Rattle.state.specs.State.{State, own_frame}
 use Rattle.state.specs.declared.Op.{Op}
-use Rattle.operations.specs.Operations.{isIdle}
+use Rattle.operations.specs.Operations.{is_idle}
 use Rattle.refinement.specs.Stores.{World}
-use Rattle.refinement.specs.Wide.{isCopy, shownLine}
+use Rattle.refinement.specs.Wide.{is_copy, shown_line}
 use Rattle.refinement.specs.Beside.{counted}
 use Rattle.refinement.specs.Reference.{Reference}
 use Rattle.refinement.proofs.Copies.{own-frame, map_found}
@@ -27,7 +27,7 @@ use Rattle.refinement.proofs.Viewed.{Viewed, shown-own}
 module _ {past : List ℕ} (st : State) (img : List ℕ) (b : Reference) (C : Copying past st img b) where
   all-counted : counted st ≡ st.wide.count
   all-counted =
-      ap (λ (o : Op). cond (isCopy o && ltb 0 st.pending.made) st.wide.count 0) C.op
+      ap (λ (o : Op). cond (is_copy o && ltb 0 st.pending.made) st.wide.count 0) C.op
       ∙ ap (λ (x : Bool). cond (true && x) st.wide.count 0) (lt-ltb 0 st.pending.made (omega (arith, C.begun)))
 
   pub copying-viewed : Viewed past st img b
@@ -50,15 +50,15 @@ module _ {past : List ℕ} (st : State) (img : List ℕ) (b : Reference) (C : Co
         map = map_found st img C.valid D;
         own =
             λ p l lp ll.
-            ap (λ (n : ℕ). shownLine img (ownFrame st) st.sizes st.table n st.wide.keys p l) all-counted
-            ∙ shown-own img (ownFrame st) (pageFrames (word img)) st.sizes st.table st.wide.count st.wide.keys p l (own-frame st img C.valid D p l lp)
+            ap (λ (n : ℕ). shown_line img (own_frame st) st.sizes st.table n st.wide.keys p l) all-counted
+            ∙ shown-own img (own_frame st) (page_frames (word img)) st.sizes st.table st.wide.count st.wide.keys p l (own-frame st img C.valid D p l lp)
             ∙ copying-shows st img b C p l lp ll;
       }
 
 pub copying-standing : {past : List ℕ} (v : World) (b : Reference) → Copying past v.st v.image b → Standing past v b
 copying-standing v b C =
     let st = v.st in
-    let pending : isIdle st.pending.op ≡ false = ap isIdle C.op in
+    let pending : is_idle st.pending.op ≡ false = ap is_idle C.op in
     record {
       valid = C.valid;
       sixteen = C.durable.behind.sixteen;

@@ -3,7 +3,7 @@ use mathlib.Core.List.{List}
 use Prim.Native.Nat.{ℕ}
 use lib.ListN.{drop}
 use Rattle.layout.specs.declared.Sizes.{Sizes}
-use Rattle.layout.specs.Layout.{imageLength}
+use Rattle.layout.specs.Layout.{image_length}
 use Rattle.refinement.specs.Stores.{World}
 use Rattle.refinement.specs.Reference.{Reference}
 use Rattle.refinement.specs.Demand.{Demand, EveryDemand}
@@ -18,7 +18,7 @@ use Rattle.refinement.proofs.Refused.{refused-unchanged}
 use Rattle.refinement.proofs.Reports.{stores-reported}
 
 -- of whatever world and reference machine are reached, by a list of calls or otherwise
-pub demand-at : (z : Sizes) (buffer : List ℕ) (v : World) (b : Reference) → Reached z (drop (imageLength z) buffer) v b → Demand z buffer v b
+pub demand-at : (z : Sizes) (buffer : List ℕ) (v : World) (b : Reference) → Reached z (drop (image_length z) buffer) v b → Demand z buffer v b
 demand-at z buffer v b h =
     record {
       right = λ c lent. (call-sound c lent v b h.related).right;

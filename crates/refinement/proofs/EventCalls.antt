@@ -9,16 +9,16 @@ use native.Mathlib.Omega.{arith}
 use lib.Dec.{eqb, eqb-suc-zero}
 use Rattle.bounded.specs.Rows.{refusal}
 use Rattle.bounded.proofs.Rows.{none-apply}
-use Rattle.meters.specs.Meters.{eventNeeds}
+use Rattle.meters.specs.Meters.{event_needs}
 use Rattle.state.specs.State.{State}
 use Rattle.state.specs.declared.Op.TheVariants.{Event}
 use Rattle.operations.specs.Operations.{needs}
-use Rattle.refinement.specs.Settled.{withLines}
-use Rattle.refinement.specs.Stores.{World, stepped, steppedBy, left}
+use Rattle.refinement.specs.Settled.{with_lines}
+use Rattle.refinement.specs.Stores.{World, stepped, stepped_by, left}
 use Rattle.refinement.specs.Outcome.{answered}
-use Rattle.refinement.specs.Calls.{worldOf, eventOf, eventLine, eventSecond, eventCallRows, stepRow, step_of, stepBytes, run_of, runBytes}
-use Rattle.refinement.specs.Run.{Call, mount, checkpoint, free, step, begin, beginWide, abort, commit, prepare, confirm, withdraw, consolidate, run, write, read, recall, event, load, exec}
-use Rattle.refinement.specs.Reference.{Reference, Task, Work, under, moving, withWork, starts, continues, advances, turn}
+use Rattle.refinement.specs.Calls.{world_of, event_of, event_line, event_second, event_call_rows, step_row, step_of, step_bytes, run_of, run_bytes}
+use Rattle.refinement.specs.Run.{Call, mount, checkpoint, free, step, begin, begin_wide, abort, commit, prepare, confirm, withdraw, consolidate, run, write, read, recall, event, load, exec}
+use Rattle.refinement.specs.Reference.{Reference, Task, Work, under, moving, with_work, starts, continues, advances, turn}
 use Rattle.refinement.proofs.AskEvent.{event-moving}
 use Rattle.refinement.proofs.Between.{Between, Sounds, moving-pending}
 use Rattle.refinement.proofs.Copies.{durable-fits}
@@ -29,7 +29,7 @@ use Rattle.refinement.specs.CutFormat.{ByState}
 use Rattle.refinement.proofs.Nine.{nine-stays, nine-keeps, nine-right}
 use Rattle.refinement.proofs.Pending.{pends}
 use Rattle.refinement.proofs.Sound.{is-quiet}
-use Rattle.refinement.proofs.StepCall.{many, idle-apart, stepped-sizes, steppedBy-sizes}
+use Rattle.refinement.proofs.StepCall.{many, idle-apart, stepped-sizes, stepped_by-sizes}
 use Rattle.refinement.proofs.StepEvent.{Goes, step-event}
 use Rattle.refinement.proofs.Next.{answered-next}
 use Rattle.refinement.proofs.Standing.{between-standing}
@@ -43,7 +43,7 @@ between-goes v b (inr m) = inr m
 
 -- ---- an event asked for
 
-pub starts-some : (t : Task) (n : ℕ) (b : Reference) → 0 < n → starts t n b ≡ withWork (under t n) b
+pub starts-some : (t : Task) (n : ℕ) (b : Reference) → 0 < n → starts t n b ≡ with_work (under t n) b
 starts-some t zero b l = absurd (omega arith)
 starts-some t (suc n) b l = refl
 
@@ -52,22 +52,22 @@ same-image zero img = refl
 same-image (suc k) img = rw (eqb-suc-zero k)
 
 pub event-sound : {past : List ℕ} (ms : List ℕ) (k m a : ℕ) (v : World) (b : Reference) → Related past v b → Sounds past (event ms k m a) v b
-unfolding exec eventOf
+unfolding exec event_of
 event-sound {past = past} ms k m a v b h =
     let st = v.st in
     let img = v.image in
-    let row : ℕ = refusal (eventCallRows st img ms k m a) in
-    let asked = withLines st (Event k m a) (eventLine st img ms k m a) (eventSecond st img ms k m a) in
+    let row : ℕ = refusal (event_call_rows st img ms k m a) in
+    let asked = with_lines st (Event k m a) (event_line st img ms k m a) (event_second st img ms k m a) in
     let r =
-    answered-next (Between past) (event ms k m a) v b row (eventNeeds k) asked img (inl h)
+    answered-next (Between past) (event ms k m a) v b row (event_needs k) asked img (inl h)
     (λ e.
-    let q : Quiet past st img b = is-quiet st img b h (none-apply (eventCallRows st img ms k m a) (omega arith) e).1.1.0 in
-    record { sizes = refl; related = subst (Between past (worldOf asked img)) (sym (starts-some (moving ms k m a) (eventNeeds k) b (event-some k))) (inr (event-moving st img b ms k m a q e)) }) in
+    let q : Quiet past st img b = is-quiet st img b h (none-apply (event_call_rows st img ms k m a) (omega arith) e).1.1.0 in
+    record { sizes = refl; related = subst (Between past (world_of asked img)) (sym (starts-some (moving ms k m a) (event_needs k) b (event-some k))) (inr (event-moving st img b ms k m a q e)) }) in
     record {
       right = tt;
       sizes = r.sizes;
       between =
-          subst (λ (i : List ℕ). Between past (worldOf (answered row st (eventNeeds k) asked).state i) (turn (event ms k m a) row (answered row st (eventNeeds k) asked).stores b)) (same-image row img) r.related;
+          subst (λ (i : List ℕ). Between past (world_of (answered row st (event_needs k) asked).state i) (turn (event ms k m a) row (answered row st (event_needs k) asked).stores b)) (same-image row img) r.related;
     }
 
 -- ---- an event pending
@@ -105,24 +105,24 @@ module _ {past : List ℕ} (v : World) (b : Reference) (M : Moving past v.st v.i
   work-left =
       M.work ∙ sym (ap (λ (x : ℕ). under (moving M.moduli M.kind M.meter M.amount) (x - st.pending.made)) (ap (needs st) M.event ∙ event-needs st M.kind M.meter M.amount))
 
-  pub run-stores : (k : ℕ) → Between past (steppedBy (min k (left st)) v) (advances k b.work b)
+  pub run-stores : (k : ℕ) → Between past (stepped_by (min k (left st)) v) (advances k b.work b)
   run-stores k =
       let t : Task = moving M.moduli M.kind M.meter M.amount in
       let n : ℕ = min k (left st) in
       let g = many (Goes past) one_more b t (left st) v some_left work-left (inr M) n (omega arith) in
-      subst (λ (w : Work). Between past (steppedBy n v) (advances k w b)) (sym work-left) (between-goes (steppedBy n v) (continues t (left st - n) b) g)
+      subst (λ (w : Work). Between past (stepped_by n v) (advances k w b)) (sym work-left) (between-goes (stepped_by n v) (continues t (left st - n) b) g)
 
   step-goes : Sounds past step v b
-  unfolding exec step_of stepBytes
+  unfolding exec step_of step_bytes
   step-goes =
-      let r = answered-next (Between past) step v b (stepRow st img) _ (stepped v).st (stepped v).image (inr M) (λ e. record { sizes = stepped-sizes v; related = one-step }) in
+      let r = answered-next (Between past) step v b (step_row st img) _ (stepped v).st (stepped v).image (inr M) (λ e. record { sizes = stepped-sizes v; related = one-step }) in
       record { right = tt; sizes = r.sizes; between = r.related }
 
   run-goes : (k : ℕ) → Sounds past (run k) v b
-  unfolding exec run_of runBytes
+  unfolding exec run_of run_bytes
   run-goes k =
       let n : ℕ = min k (left st) in
-      let r = answered-next (Between past) (run k) v b (stepRow st img) _ (steppedBy n v).st (steppedBy n v).image (inr M) (λ e. record { sizes = steppedBy-sizes n v; related = run-stores k }) in
+      let r = answered-next (Between past) (run k) v b (step_row st img) _ (stepped_by n v).st (stepped_by n v).image (inr M) (λ e. record { sizes = stepped_by-sizes n v; related = run-stores k }) in
       record { right = tt; sizes = r.sizes; between = r.related }
 
   -- ---- every call
@@ -135,7 +135,7 @@ module _ {past : List ℕ} (v : World) (b : Reference) (M : Moving past v.st v.i
   moving-sound-at checkpoint = others checkpoint tt
   moving-sound-at free = others free tt
   moving-sound-at (begin w) = others (begin w) tt
-  moving-sound-at (beginWide w) = others (beginWide w) tt
+  moving-sound-at (begin_wide w) = others (begin_wide w) tt
   moving-sound-at (abort w) = others (abort w) tt
   moving-sound-at (commit w) = others (commit w) tt
   moving-sound-at (prepare w) = others (prepare w) tt

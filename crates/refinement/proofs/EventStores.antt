@@ -6,12 +6,12 @@ use mathlib.Core.Path.{◌≡◌, refl, sym, ap, ◌∙◌}
 use native.Mathlib.Omega.{arith}
 use lib.Dec.{ltb}
 use borrow.Author.Tests.{lt-ltb, le-ltb}
-use Rattle.bounded.proofs.Tests.{caseOn, row_keeps, row-yes}
-use Rattle.meters.specs.Meters.{movesCredit, firstMeter, ownMeter}
+use Rattle.bounded.proofs.Tests.{case_on, row_keeps, row-yes}
+use Rattle.meters.specs.Meters.{moves_credit, first_meter, own_meter}
 use Rattle.state.specs.State.{State}
-use Rattle.refinement.specs.Write.{writeAt, writeValue}
-use Rattle.refinement.specs.Commit.{commitAt, commitValue}
-use Rattle.refinement.specs.Event.{firstAsked, secondAsked, linesDone, lineStores, eventAt, eventValue}
+use Rattle.refinement.specs.Write.{write_at, write_value}
+use Rattle.refinement.specs.Commit.{commit_at, commit_value}
+use Rattle.refinement.specs.Event.{first_asked, second_asked, lines_done, line_stores, event_at, event_value}
 
 -- which of three
 pick_second : (p c q : Bool) (x y z : ℕ) → p ≡ false → c ≡ true → q ≡ true → cond p x (cond (c && q) y z) ≡ y
@@ -20,49 +20,49 @@ pick_second p c q x y z e f g = rw (e, f, g)
 pick-third : (p d : Bool) (x y z : ℕ) → p ≡ false → d ≡ false → cond p x (cond d y z) ≡ z
 pick-third p d x y z e f = rw (e, f)
 
-pub lines-eight : (k : ℕ) → 8 ≤ lineStores k
-lines-eight k = row_keeps (λ (x : ℕ). 8 ≤ x) (movesCredit k) 16 8 (omega arith) (omega arith)
+pub lines-eight : (k : ℕ) → 8 ≤ line_stores k
+lines-eight k = row_keeps (λ (x : ℕ). 8 ≤ x) (moves_credit k) 16 8 (omega arith) (omega arith)
 
-no_more : (k j : ℕ) → movesCredit k && ltb (lineStores k + j) 16 ≡ false
+no_more : (k j : ℕ) → moves_credit k && ltb (line_stores k + j) 16 ≡ false
 no_more k j =
-    caseOn (movesCredit k)
-    (λ t. let e : lineStores k ≡ 16 = sym (row-yes (movesCredit k) 16 8 t) in ap (λ (x : Bool). movesCredit k && x) (le-ltb (lineStores k + j) 16 (omega arith)) ∙ rw t)
-    (λ t. ap (λ (x : Bool). x && ltb (lineStores k + j) 16) t)
+    case_on (moves_credit k)
+    (λ t. let e : line_stores k ≡ 16 = sym (row-yes (moves_credit k) 16 8 t) in ap (λ (x : Bool). moves_credit k && x) (le-ltb (line_stores k + j) 16 (omega arith)) ∙ rw t)
+    (λ t. ap (λ (x : Bool). x && ltb (line_stores k + j) 16) t)
 
 module _ (st : State) (k m : ℕ) where
-  pub at_first : (j : ℕ) → j < 8 → eventAt st k m j ≡ writeAt (firstAsked st k m) 0 (firstMeter k m) j
-  unfolding eventAt
+  pub at_first : (j : ℕ) → j < 8 → event_at st k m j ≡ write_at (first_asked st k m) 0 (first_meter k m) j
+  unfolding event_at
   at_first j l = sym (row-yes (ltb j 8) _ _ (lt-ltb j 8 l))
 
-  pub value-first : (j : ℕ) → j < 8 → eventValue st k m j ≡ writeValue (firstAsked st k m) j
-  unfolding eventValue
+  pub value-first : (j : ℕ) → j < 8 → event_value st k m j ≡ write_value (first_asked st k m) j
+  unfolding event_value
   value-first j l = sym (row-yes (ltb j 8) _ _ (lt-ltb j 8 l))
 
-  module _ (t : movesCredit k ≡ true) where
-    pub at_second : (j : ℕ) → j < 8 → eventAt st k m (8 + j) ≡ writeAt (secondAsked st k m) 0 (ownMeter k m) j
-    unfolding eventAt
+  module _ (t : moves_credit k ≡ true) where
+    pub at_second : (j : ℕ) → j < 8 → event_at st k m (8 + j) ≡ write_at (second_asked st k m) 0 (own_meter k m) j
+    unfolding event_at
     at_second j l =
         let e : 8 + j - 8 ≡ j = omega arith in
-        pick_second (ltb (8 + j) 8) (movesCredit k) (ltb (8 + j) 16) _ _ _ (le-ltb (8 + j) 8 (omega arith)) t (lt-ltb (8 + j) 16 (omega arith))
-        ∙ ap (writeAt (secondAsked st k m) 0 (ownMeter k m)) e
+        pick_second (ltb (8 + j) 8) (moves_credit k) (ltb (8 + j) 16) _ _ _ (le-ltb (8 + j) 8 (omega arith)) t (lt-ltb (8 + j) 16 (omega arith))
+        ∙ ap (write_at (second_asked st k m) 0 (own_meter k m)) e
 
-    pub value-second : (j : ℕ) → j < 8 → eventValue st k m (8 + j) ≡ writeValue (secondAsked st k m) j
-    unfolding eventValue
+    pub value-second : (j : ℕ) → j < 8 → event_value st k m (8 + j) ≡ write_value (second_asked st k m) j
+    unfolding event_value
     value-second j l =
         let e : 8 + j - 8 ≡ j = omega arith in
-        pick_second (ltb (8 + j) 8) (movesCredit k) (ltb (8 + j) 16) _ _ _ (le-ltb (8 + j) 8 (omega arith)) t (lt-ltb (8 + j) 16 (omega arith))
-        ∙ ap (writeValue (secondAsked st k m)) e
+        pick_second (ltb (8 + j) 8) (moves_credit k) (ltb (8 + j) 16) _ _ _ (le-ltb (8 + j) 8 (omega arith)) t (lt-ltb (8 + j) 16 (omega arith))
+        ∙ ap (write_value (second_asked st k m)) e
 
-  pub at-commit : (j : ℕ) → eventAt st k m (lineStores k + j) ≡ commitAt (linesDone st k m) 1 j
-  unfolding eventAt
+  pub at-commit : (j : ℕ) → event_at st k m (line_stores k + j) ≡ commit_at (lines_done st k m) 1 j
+  unfolding event_at
   at-commit j =
-      let e : lineStores k + j - lineStores k ≡ j = omega arith in
-      pick-third (ltb (lineStores k + j) 8) (movesCredit k && ltb (lineStores k + j) 16) _ _ _ (le-ltb (lineStores k + j) 8 (omega (arith, lines-eight k))) (no_more k j)
-      ∙ ap (commitAt (linesDone st k m) 1) e
+      let e : line_stores k + j - line_stores k ≡ j = omega arith in
+      pick-third (ltb (line_stores k + j) 8) (moves_credit k && ltb (line_stores k + j) 16) _ _ _ (le-ltb (line_stores k + j) 8 (omega (arith, lines-eight k))) (no_more k j)
+      ∙ ap (commit_at (lines_done st k m) 1) e
 
-  pub value-commit : (j : ℕ) → eventValue st k m (lineStores k + j) ≡ commitValue (linesDone st k m) 1 j
-  unfolding eventValue
+  pub value-commit : (j : ℕ) → event_value st k m (line_stores k + j) ≡ commit_value (lines_done st k m) 1 j
+  unfolding event_value
   value-commit j =
-      let e : lineStores k + j - lineStores k ≡ j = omega arith in
-      pick-third (ltb (lineStores k + j) 8) (movesCredit k && ltb (lineStores k + j) 16) _ _ _ (le-ltb (lineStores k + j) 8 (omega (arith, lines-eight k))) (no_more k j)
-      ∙ ap (commitValue (linesDone st k m) 1) e
+      let e : line_stores k + j - line_stores k ≡ j = omega arith in
+      pick-third (ltb (line_stores k + j) 8) (moves_credit k && ltb (line_stores k + j) 16) _ _ _ (le-ltb (line_stores k + j) 8 (omega (arith, lines-eight k))) (no_more k j)
+      ∙ ap (commit_value (lines_done st k m) 1) e

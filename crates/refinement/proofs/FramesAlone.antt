@@ -8,19 +8,19 @@ use native.Mathlib.Omega.{arith}
 use lib.ListN.{take, drop, replicate}
 use lib.Seq.{drop-drop}
 use lib.Dec.{leb}
-use Rattle.bounded.specs.Below.{someBelow}
+use Rattle.bounded.specs.Below.{some_below}
 use Rattle.layout.specs.declared.Sizes.{Sizes}
-use Rattle.layout.specs.Layout.{frameWord, lineWord, entryWord}
+use Rattle.layout.specs.Layout.{frame_word, line_word, entry_word}
 use Rattle.words.specs.Words.{part, bytes_of, word_at, store}
 use Rattle.words.proofs.WordLaws.{length-store, drop-store}
-use Rattle.image.specs.Lines.{lineBytes, merged, lineWords}
-use Rattle.meters.specs.Meters.{modulusOf, movesCredit, firstMeter, ownMeter, firstNumber, rolled}
-use Rattle.moduli_text.specs.Text.{moduliIn}
-use Rattle.state.specs.State.{State, ownFrame}
-use Rattle.state.specs.Wide.{is_wide, entryFor, hasEntry}
-use Rattle.refinement.specs.Frames.{seenFrame, frame_of}
-use Rattle.refinement.specs.Wide.{entryBytes}
-use Rattle.refinement.specs.Calls.{seenLine, finishedLine, changesNothing, eventLine, eventSecond, meterStored, writeOf, eventOf, load_of, readRow, readBytes}
+use Rattle.image.specs.Lines.{line_bytes, merged, line_words}
+use Rattle.meters.specs.Meters.{modulus_of, moves_credit, first_meter, own_meter, first_number, rolled}
+use Rattle.moduli_text.specs.Text.{moduli_in}
+use Rattle.state.specs.State.{State, own_frame}
+use Rattle.state.specs.Wide.{is_wide, entry_for, has_entry}
+use Rattle.refinement.specs.Frames.{seen_frame, frame_of}
+use Rattle.refinement.specs.Wide.{entry_bytes}
+use Rattle.refinement.specs.Calls.{seen_line, finished_line, changes_nothing, event_line, event_second, meter_stored, write_of, event_of, load_of, read_row, read_bytes}
 use Rattle.refinement.specs.PageMap.{SameFrames, FramesAlone, PageTableUnread}
 
 -- bytes behind byte a of two lists that agree from a on
@@ -35,49 +35,49 @@ module _ (st : State) (img img' : List ℕ) (S : SameFrames st.sizes img img') w
   abbrev z : Sizes
   z = st.sizes
 
-  line_same : (f l : ℕ) → lineBytes img z f l ≡ lineBytes img' z f l
-  line_same f l = part-behind (8 * frameWord z) (8 * lineWord z f l) 64 img img' (omega arith) S.frames-on
+  line_same : (f l : ℕ) → line_bytes img z f l ≡ line_bytes img' z f l
+  line_same f l = part-behind (8 * frame_word z) (8 * line_word z f l) 64 img img' (omega arith) S.frames-on
 
-  entry-same : (e : ℕ) → entryBytes img z e ≡ entryBytes img' z e
-  entry-same e = part-behind (8 * frameWord z) (8 * (entryWord z e + 1)) 64 img img' (omega arith) S.frames-on
+  entry-same : (e : ℕ) → entry_bytes img z e ≡ entry_bytes img' z e
+  entry-same e = part-behind (8 * frame_word z) (8 * (entry_word z e + 1)) 64 img img' (omega arith) S.frames-on
 
-  seen_same : (w p l : ℕ) → seenLine st img w p l ≡ seenLine st img' w p l
-  seen_same w p l = ap₂ (cond (is_wide st.wide w && hasEntry st.wide p l)) (entry-same (entryFor st.wide p l)) (line_same (seenFrame st w p l) l)
+  seen_same : (w p l : ℕ) → seen_line st img w p l ≡ seen_line st img' w p l
+  seen_same w p l = ap₂ (cond (is_wide st.wide w && has_entry st.wide p l)) (entry-same (entry_for st.wide p l)) (line_same (seen_frame st w p l) l)
 
-  finished-same : (w p l o n : ℕ) (bytes : List ℕ) → finishedLine st img w p l o n bytes ≡ finishedLine st img' w p l o n bytes
-  finished-same w p l o n bytes = ap (λ (x : List ℕ). lineWords (merged x o n bytes)) (seen_same w p l)
+  finished-same : (w p l o n : ℕ) (bytes : List ℕ) → finished_line st img w p l o n bytes ≡ finished_line st img' w p l o n bytes
+  finished-same w p l o n bytes = ap (λ (x : List ℕ). line_words (merged x o n bytes)) (seen_same w p l)
 
-  first-same : (ms : List ℕ) (k m a : ℕ) → eventLine st img ms k m a ≡ eventLine st img' ms k m a
+  first-same : (ms : List ℕ) (k m a : ℕ) → event_line st img ms k m a ≡ event_line st img' ms k m a
   first-same ms k m a =
-      ap (λ (x : List ℕ). lineWords (merged x 0 8 (bytes_of 8 (firstNumber ms k m (word_at x 0) a)))) (seen_same 1 0 (firstMeter k m))
+      ap (λ (x : List ℕ). line_words (merged x 0 8 (bytes_of 8 (first_number ms k m (word_at x 0) a)))) (seen_same 1 0 (first_meter k m))
 
-  second-same : (ms : List ℕ) (k m a : ℕ) → eventSecond st img ms k m a ≡ eventSecond st img' ms k m a
+  second-same : (ms : List ℕ) (k m a : ℕ) → event_second st img ms k m a ≡ event_second st img' ms k m a
   second-same ms k m a =
-      ap (λ (x : List ℕ). cond (movesCredit k) (lineWords (merged x 0 8 (bytes_of 8 (rolled ms (ownMeter k m) (word_at x 0) a)))) (replicate 8 0)) (seen_same 1 0 (ownMeter k m))
+      ap (λ (x : List ℕ). cond (moves_credit k) (line_words (merged x 0 8 (bytes_of 8 (rolled ms (own_meter k m) (word_at x 0) a)))) (replicate 8 0)) (seen_same 1 0 (own_meter k m))
 
-  written_same : (w p l o n : ℕ) (bytes : List ℕ) → writeOf st img w p l o n bytes ≡ writeOf st img' w p l o n bytes
-  unfolding writeOf changesNothing
+  written_same : (w p l o n : ℕ) (bytes : List ℕ) → write_of st img w p l o n bytes ≡ write_of st img' w p l o n bytes
+  unfolding write_of changes_nothing
   written_same w p l o n bytes = rw (S.as_long, seen_same w p l)
 
-  event-same : (ms : List ℕ) (k m a : ℕ) → eventOf st img ms k m a ≡ eventOf st img' ms k m a
-  unfolding eventOf
-  event-same ms k m a = rw (S.as_long, first-same ms k m a, second-same ms k m a, seen_same 1 0 (firstMeter k m))
+  event-same : (ms : List ℕ) (k m a : ℕ) → event_of st img ms k m a ≡ event_of st img' ms k m a
+  unfolding event_of
+  event-same ms k m a = rw (S.as_long, first-same ms k m a, second-same ms k m a, seen_same 1 0 (first_meter k m))
 
   loaded-same : (text : List ℕ) → load_of st img text ≡ load_of st img' text
   unfolding load_of
   loaded-same text =
-      let stored : (m : ℕ) → meterStored st img m ≡ meterStored st img' m =
-      λ m. ap (λ (x : List ℕ). word_at x 0) (line_same (frame_of (ownFrame st) z st.table 0 m) m) in
-      let high : someBelow 24 (λ m. leb (modulusOf (moduliIn text) m) (meterStored st img m)) ≡ someBelow 24 (λ m. leb (modulusOf (moduliIn text) m) (meterStored st img' m)) =
-      λ i. someBelow 24 (λ m. leb (modulusOf (moduliIn text) m) (stored m i)) in
+      let stored : (m : ℕ) → meter_stored st img m ≡ meter_stored st img' m =
+      λ m. ap (λ (x : List ℕ). word_at x 0) (line_same (frame_of (own_frame st) z st.table 0 m) m) in
+      let high : some_below 24 (λ m. leb (modulus_of (moduli_in text) m) (meter_stored st img m)) ≡ some_below 24 (λ m. leb (modulus_of (moduli_in text) m) (meter_stored st img' m)) =
+      λ i. some_below 24 (λ m. leb (modulus_of (moduli_in text) m) (stored m i)) in
       rw (S.as_long, high)
 
-  row_same : (w p l : ℕ) (target : List ℕ) → readRow st img w p l target ≡ readRow st img' w p l target
-  unfolding readRow
+  row_same : (w p l : ℕ) (target : List ℕ) → read_row st img w p l target ≡ read_row st img' w p l target
+  unfolding read_row
   row_same w p l target = rw S.as_long
 
-  bytes_same : (w p l : ℕ) (target : List ℕ) → readBytes st img w p l target ≡ readBytes st img' w p l target
-  unfolding readBytes
+  bytes_same : (w p l : ℕ) (target : List ℕ) → read_bytes st img w p l target ≡ read_bytes st img' w p l target
+  unfolding read_bytes
   bytes_same w p l target = rw (row_same w p l target, seen_same w p l)
 
 pub frames-alone : FramesAlone
@@ -97,4 +97,4 @@ frames-alone st img img' S =
 pub page-table-unread : PageTableUnread
 page-table-unread st img a x low fits =
     frames-alone st img (store img a x)
-    (record { as_long = sym (length-store img a x fits); frames-on = sym (drop-store img a x (8 * frameWord st.sizes) fits (omega arith)) })
+    (record { as_long = sym (length-store img a x fits); frames-on = sym (drop-store img a x (8 * frame_word st.sizes) fits (omega arith)) })

@@ -11,47 +11,47 @@ use Rattle.bounded.proofs.Tests.{row_keeps}
 use Rattle.bounded.specs.Below.{up_to}
 use Rattle.bounded.specs.Rows.{refusal}
 use Rattle.entries.proofs.EntryLaws.{Right}
-use Rattle.replay.specs.Table.{slotsShaped}
-use Rattle.state.specs.State.{State, ownFrame}
+use Rattle.replay.specs.Table.{slots_shaped}
+use Rattle.state.specs.State.{State, own_frame}
 use Rattle.state.specs.declared.Op.{Op}
 use Rattle.state.specs.declared.Op.TheVariants.{Write, Commit, Consolidate, Checkpoint, Event, Prepare, Confirm}
-use Rattle.operations.specs.Operations.{Ranged, isIdle, opRows, needs, commitNeeds, confirmNeeds, checkpointNeeds, recordedSlots}
-use Rattle.validity.specs.Validity.{stateOk}
+use Rattle.operations.specs.Operations.{Ranged, is_idle, op_rows, needs, commit_needs, confirm_needs, checkpoint_needs, recorded_slots}
+use Rattle.validity.specs.Validity.{state_ok}
 use Rattle.validity.proofs.Ranged.{slots-good, ranged}
-use Rattle.meters.specs.Meters.{eventNeeds}
+use Rattle.meters.specs.Meters.{event_needs}
 use Rattle.operations.proofs.Taken.{prepare-taken, WriteTaken, write-taken, CommitTaken, commit-taken, ConfirmTaken, confirm-taken, ConsolidateTaken, consolidate-taken, EventTaken, event-taken}
-use Rattle.refinement.specs.Frames.{pageSlot}
-use Rattle.refinement.specs.Commit.{commitSlots}
-use Rattle.refinement.specs.Consolidate.{copyStoreCount}
-use Rattle.refinement.specs.Stores.{left, storeMade, storesMade}
+use Rattle.refinement.specs.Frames.{page_slot}
+use Rattle.refinement.specs.Commit.{commit_slots}
+use Rattle.refinement.specs.Consolidate.{copy_store_count}
+use Rattle.refinement.specs.Stores.{left, store_made, stores_made}
 use Rattle.refinement.proofs.StateValid.{parts, valid}
 use Rattle.refinement.proofs.Pending.{pends}
 
 -- its numbers are in their ranges, its slots have shapes, and its entries are right
-module _ (st : State) (e : stateOk st ≡ true) where
+module _ (st : State) (e : state_ok st ≡ true) where
   pub ranges-of : Ranged st
   ranges-of = let h = parts st e in ranged st h.slots (ltb-true st.next st.sizes.slots h.next)
 
-  pub shapes-of : slotsShaped st.sizes st.table ≡ true
-  shapes-of = (slots-good st.sizes st.head st.tail st.table (ownFrame st) (parts st e).slots).shapes
+  pub shapes-of : slots_shaped st.sizes st.table ≡ true
+  shapes-of = (slots-good st.sizes st.head st.tail st.table (own_frame st) (parts st e).slots).shapes
 
   pub entries-of : Right st.sizes st.wide.keys st.wide.count
   entries-of = (valid st e).entries
 
 pub record Going (st : State) : Type 0 where
   pub ranges : Ranged st
-  pub shapes : slotsShaped st.sizes st.table ≡ true
+  pub shapes : slots_shaped st.sizes st.table ≡ true
   pub made-low : st.pending.made < needs st st.pending.op
-  pub taken : refusal (opRows st st.pending.op) ≡ 0
+  pub taken : refusal (op_rows st st.pending.op) ≡ 0
 
-pub going : (st : State) → stateOk st ≡ true → isIdle st.pending.op ≡ false → Going st
+pub going : (st : State) → state_ok st ≡ true → is_idle st.pending.op ≡ false → Going st
 going st e i =
     let p = pends st st.pending.op e refl i in
     record { ranges = ranges-of st e; shapes = shapes-of st e; made-low = p.made-low; taken = p.taken }
 
 -- ---- what no row tells, by the operation
 
-module _ (st : State) (taken : refusal (opRows st st.pending.op) ≡ 0) where
+module _ (st : State) (taken : refusal (op_rows st st.pending.op) ≡ 0) where
   pub write-of : {w p l o n : ℕ} → st.pending.op ≡ Write w p l o n → WriteTaken st w p l o n
   write-of {w} {p} {l} {o} {n} e = write-taken st w p l o n (rw e at taken)
 
@@ -79,13 +79,13 @@ module _ (st : State) (g : Going st) (n : ℕ) (h : n ≤ left st) where
       let q : needs st st.pending.op ≡ 8 = rw e in
       omega (arith, g.made-low)
 
-  pub prepare-left : {w : ℕ} → st.pending.op ≡ Prepare w → st.pending.made + n ≤ 4 * length (commitSlots st w)
+  pub prepare-left : {w : ℕ} → st.pending.op ≡ Prepare w → st.pending.made + n ≤ 4 * length (commit_slots st w)
   unfolding needs
   prepare-left {w} e =
-      let q : needs st st.pending.op ≡ 4 * length (commitSlots st w) = rw e in
+      let q : needs st st.pending.op ≡ 4 * length (commit_slots st w) = rw e in
       omega (arith, g.made-low)
 
 -- ---- the stores of the pending operation, its arguments known
 
-pub stores-of : (st : State) {op : Op} (n : ℕ) (img m : List ℕ) → st.pending.op ≡ op → m ≡ up_to n (λ i x. storeMade st x op (st.pending.made + i)) img → m ≡ storesMade st n img
-stores-of st n img m e q = q ∙ sym (ap (λ (o : Op). up_to n (λ i x. storeMade st x o (st.pending.made + i)) img) e)
+pub stores-of : (st : State) {op : Op} (n : ℕ) (img m : List ℕ) → st.pending.op ≡ op → m ≡ up_to n (λ i x. store_made st x op (st.pending.made + i)) img → m ≡ stores_made st n img
+stores-of st n img m e q = q ∙ sym (ap (λ (o : Op). up_to n (λ i x. store_made st x o (st.pending.made + i)) img) e)

@@ -1,5 +1,5 @@
 -- What holds of the store and the reference machine between two calls.
-use Rattle.state.specs.State.{Wide, State, ownFrame}
+use Rattle.state.specs.State.{Wide, State, own_frame}
 use Prim.Native.Nat.{ℕ, ◌-◌, ◌^◌, ◌<◌, ◌≤◌}
 use mathlib.Core.Bool.{true, false}
 use mathlib.Core.List.{List}
@@ -7,50 +7,50 @@ use mathlib.Core.Logic.{◌⊎◌}
 use mathlib.Core.Path.{◌≡◌, ap, ◌∙◌}
 use lib.ListN.{length, drop}
 use Rattle.layout.specs.declared.Sizes.{Sizes}
-use Rattle.layout.specs.Layout.{imageLength}
-use Rattle.image.specs.Lines.{lineBytes, lineWords}
+use Rattle.layout.specs.Layout.{image_length}
+use Rattle.image.specs.Lines.{line_bytes, line_words}
 use Rattle.words.specs.Words.{Bytes, word}
 use Rattle.replay.specs.declared.Table.{Table}
-use Rattle.journal.specs.Slots.{freeSlot}
-use Rattle.replay.specs.Table.{slotIn, lastIn, slot_of, home_of}
-use Rattle.replay.specs.Map.{pageFrames}
+use Rattle.journal.specs.Slots.{free_slot}
+use Rattle.replay.specs.Table.{slot_in, last_in, slot_of, home_of}
+use Rattle.replay.specs.Map.{page_frames}
 use Rattle.mount.proofs.View.{View, Shows}
 use Rattle.mount.proofs.Verdict.{Taken}
 use Rattle.replay.proofs.Tables.{Sixteen}
 use Rattle.state.specs.declared.Op.{Op}
 use Rattle.state.specs.declared.Op.TheVariants.{Idle, Write, Commit, Consolidate, Checkpoint, Event, Prepare, Confirm, Log, Copy, Format}
-use Rattle.state.specs.Held.{noWriter, heldAt}
-use Rattle.state.specs.Wide.{noWide, is_wide, someWide}
-use Rattle.operations.specs.Operations.{slotFor, needs}
-use Rattle.validity.specs.Validity.{stateOk}
-use Rattle.refinement.specs.Frames.{otherFrame}
-use Rattle.refinement.specs.Settled.{noPending}
-use Rattle.refinement.specs.Stores.{World, storeAt, storeValue}
+use Rattle.state.specs.Held.{no_writer, held_at}
+use Rattle.state.specs.Wide.{no_wide, is_wide, some_wide}
+use Rattle.operations.specs.Operations.{slot_for, needs}
+use Rattle.validity.specs.Validity.{state_ok}
+use Rattle.refinement.specs.Frames.{other_frame}
+use Rattle.refinement.specs.Settled.{no_pending}
+use Rattle.refinement.specs.Stores.{World, store_at, store_value}
 use Rattle.refinement.specs.Recall.{frame_of}
 use Rattle.refinement.proofs.WriterCalls.{unwide}
 use Rattle.refinement.proofs.Records.{Stored}
-use Rattle.refinement.specs.Reference.{Reference, none, idle, under, writing, committing, nothing, written, readLine, recallLine}
+use Rattle.refinement.specs.Reference.{Reference, none, idle, under, writing, committing, nothing, written, read_line, recall_line}
 pub use Rattle.refinement.specs.Frames.{holds}
 
 -- slot s of the state's table t is what a mount finds in d; or a write took it and nothing is committed yet, so that it is still free
 -- in the image, whose page table has page p in frame r p
 pub record TakenOnly (r : ℕ → ℕ) (z : Sizes) (d t : Table) (s : ℕ) : Type 0 where
-  pub page-low : (slotIn t s).page < z.pages
-  pub original : (slotIn t s).original ≡ r (slotIn t s).page
-  pub bitmap : (slotIn t s).bitmap ≡ 0
-  pub was_free : slotIn d s ≡ freeSlot (slotIn t s).spare
-  pub unslotted : slot_of z d (slotIn t s).page ≡ z.slots
+  pub page-low : (slot_in t s).page < z.pages
+  pub original : (slot_in t s).original ≡ r (slot_in t s).page
+  pub bitmap : (slot_in t s).bitmap ≡ 0
+  pub was_free : slot_in d s ≡ free_slot (slot_in t s).spare
+  pub unslotted : slot_of z d (slot_in t s).page ≡ z.slots
 
 pub record Behind (r : ℕ → ℕ) (z : Sizes) (d t : Table) : Type 0 where
   pub sixteen : Sixteen t
-  pub last-same : (s : ℕ) → s < z.slots → lastIn t s ≡ lastIn d s
-  pub slot_same : (s : ℕ) → s < z.slots → (slotIn t s ≡ slotIn d s) ⊎ TakenOnly r z d t s
+  pub last-same : (s : ℕ) → s < z.slots → last_in t s ≡ last_in d s
+  pub slot_same : (s : ℕ) → s < z.slots → (slot_in t s ≡ slot_in d s) ⊎ TakenOnly r z d t s
 
 -- of the image: a mount is taken and finds the state's durable part, the map has each page's home by the page table, and the committed copy of every line is
 -- the reference machine's
 pub record Durable (past : List ℕ) (st : State) (img : List ℕ) (b : Reference) : Type 0 where
   pub bytes : Bytes img
-  pub past-kept : drop (imageLength st.sizes) img ≡ past
+  pub past-kept : drop (image_length st.sizes) img ≡ past
   pub view : View
   pub shows : Shows img view
   pub mounts : Taken (length img) view
@@ -58,34 +58,34 @@ pub record Durable (past : List ℕ) (st : State) (img : List ℕ) (b : Referenc
   pub head-same : view.head ≡ st.head
   pub tail-same : view.tail ≡ st.tail
   pub count_same : view.count ≡ st.wide.count
-  pub behind : Behind (pageFrames (word img)) st.sizes view.table st.table
+  pub behind : Behind (page_frames (word img)) st.sizes view.table st.table
   pub map-long : length st.map ≡ 1024
-  pub own : (p : ℕ) → p < st.sizes.pages → ownFrame st p ≡ home_of (pageFrames (word img)) st.sizes st.table p
-  pub committed : (p l : ℕ) → p < st.sizes.pages → l < 64 → lineBytes img st.sizes (frame_of (pageFrames (word img)) st.sizes st.table p l) l ≡ recallLine b p l
+  pub own : (p : ℕ) → p < st.sizes.pages → own_frame st p ≡ home_of (page_frames (word img)) st.sizes st.table p
+  pub committed : (p l : ℕ) → p < st.sizes.pages → l < 64 → line_bytes img st.sizes (frame_of (page_frames (word img)) st.sizes st.table p l) l ≡ recall_line b p l
 
 -- of the writers: held lines are masks of 64 bits; the other copy of a held line is the writer's, unless it is being written; a line
 -- that is not held has no unfinished writes; the records of a prepared writer are in the journal
 pub record Writing (st : State) (img : List ℕ) (b : Reference) (written : ℕ → ℕ → ℕ → Type 0) : Type 0 where
   pub four : length st.writers.opened ≡ 4
   pub sixty-four : length st.writers.held ≡ 64
-  pub held_low : (w s : ℕ) → w < 4 → s < st.sizes.slots → heldAt st.writers.held w s < 2 ^ 64
+  pub held_low : (w s : ℕ) → w < 4 → s < st.sizes.slots → held_at st.writers.held w s < 2 ^ 64
   pub own-copy : (w p l : ℕ) → w < 4 → p < st.sizes.pages → l < 64 → (written w p l → ⊥) → holds st w p l ≡ true
-      → lineBytes img st.sizes (otherFrame (slotIn st.table (slotFor st p)) l) l ≡ readLine b w p l
+      → line_bytes img st.sizes (other_frame (slot_in st.table (slot_for st p)) l) l ≡ read_line b w p l
   pub no_writes : (w p l i : ℕ) → w < 4 → p < st.sizes.pages → l < 64 → i < 64 → holds st w p l ≡ false → b.writes w p l i ≡ none
   pub ready : st.writers.prepared < 4 → Stored st img st.writers.prepared
 
 -- there is no wide transaction in the state, nor in the reference machine
 pub record Narrow (st : State) (b : Reference) : Type 0 where
-  pub state : st.wide ≡ noWide
-  pub book : b.wide ≡ noWriter
+  pub state : st.wide ≡ no_wide
+  pub book : b.wide ≡ no_writer
 
 -- so a mount counts no entry
 pub uncounted : {past : List ℕ} (st : State) (img : List ℕ) (b : Reference) (D : Durable past st img b) → Narrow st b → D.view.count ≡ 0
 uncounted st img b D n = D.count_same ∙ ap (λ (d : Wide). d.count) n.state
 
 -- and no writer is a wide one
-pub none-wide : (st : State) (b : Reference) → Narrow st b → someWide st.wide.writer ≡ false
-none-wide st b n = ap (λ (d : Wide). someWide d.writer) n.state
+pub none-wide : (st : State) (b : Reference) → Narrow st b → some_wide st.wide.writer ≡ false
+none-wide st b n = ap (λ (d : Wide). some_wide d.writer) n.state
 
 pub not_wide : (st : State) (b : Reference) (w : ℕ) → Narrow st b → w < 4 → is_wide st.wide w ≡ false
 not_wide st b w n l = unwide st w (none-wide st b n) l
@@ -95,8 +95,8 @@ abbrev pub Never : ℕ → ℕ → ℕ → Type 0
 Never w p l = ⊥
 
 pub record Quiet (past : List ℕ) (st : State) (img : List ℕ) (b : Reference) : Type 0 where
-  pub valid : stateOk st ≡ true
-  pub pending : st.pending ≡ noPending
+  pub valid : state_ok st ≡ true
+  pub pending : st.pending ≡ no_pending
   pub durable : Durable past st img b
   pub writers : Writing st img b Never
   pub work : b.work ≡ idle
@@ -111,8 +111,8 @@ Doing st img b (Write w p l o n) =
     × (Bytes bytes)
     × (n ≤ length bytes)
     × (b.work ≡ under (writing w p l o n bytes) (needs st (Write w p l o n) - st.pending.made))
-    × (st.pending.line ≡ lineWords (readLine (written w p l o n bytes b) w p l))
-    × Bytes (readLine b w p l)
+    × (st.pending.line ≡ line_words (read_line (written w p l o n bytes b) w p l))
+    × Bytes (read_line b w p l)
 Doing st img b (Commit w) = b.work ≡ under (committing w) (needs st (Commit w) - st.pending.made)
 Doing st img b (Consolidate p) = b.work ≡ under nothing (needs st (Consolidate p) - st.pending.made)
 Doing st img b Checkpoint = b.work ≡ under nothing (needs st Checkpoint - st.pending.made)
@@ -138,10 +138,10 @@ Changing Copy v q m = ⊥
 Changing Format v q m = ⊥
 
 pub record Busy (past : List ℕ) (st : State) (img : List ℕ) (b : Reference) : Type 0 where
-  pub valid : stateOk st ≡ true
+  pub valid : state_ok st ≡ true
   pub durable : Durable past st img b
   pub writers : Writing st img b (Changing st.pending.op)
-  pub landed : (j : ℕ) → j < st.pending.made → word img (storeAt st st.pending.op j) ≡ storeValue st img st.pending.op j
+  pub landed : (j : ℕ) → j < st.pending.made → word img (store_at st st.pending.op j) ≡ store_value st img st.pending.op j
   pub doing : Doing st img b st.pending.op
   pub narrow : Narrow st b
 

@@ -6,15 +6,15 @@ use Rattle.bounded.proofs.Tab.{tab-ext}
 use Rattle.state.specs.State.{State, Writers}
 use Rattle.state.specs.declared.Pending.{Pending}
 use Rattle.refinement.proofs.StateValid.{valid}
-use Rattle.refinement.specs.Reference.{Reference, laidOver, recallLine}
+use Rattle.refinement.specs.Reference.{Reference, laid_over, recall_line}
 use Rattle.refinement.proofs.Invariant.{Durable, Quiet}
 
 -- the state with another next slot, other writers and another pending operation
-abbrev pub sameSlots : State → ℕ → Writers → Pending → State
-sameSlots st next ws q = record { sizes = st.sizes; head = st.head; tail = st.tail; next = next; table = st.table; map = st.map; writers = ws; wide = st.wide; pending = q }
+abbrev pub same_slots : State → ℕ → Writers → Pending → State
+same_slots st next ws q = record { sizes = st.sizes; head = st.head; tail = st.tail; next = next; table = st.table; map = st.map; writers = ws; wide = st.wide; pending = q }
 
-pub durable-kept : {past : List ℕ} (st : State) (img : List ℕ) (b b' : Reference) (next : ℕ) (ws : Writers) (q : Pending) → ((p l : ℕ) → p < st.sizes.pages → l < 64 → recallLine b p l ≡ recallLine b' p l)
-    → Durable past st img b → Durable past (sameSlots st next ws q) img b'
+pub durable-kept : {past : List ℕ} (st : State) (img : List ℕ) (b b' : Reference) (next : ℕ) (ws : Writers) (q : Pending) → ((p l : ℕ) → p < st.sizes.pages → l < 64 → recall_line b p l ≡ recall_line b' p l)
+    → Durable past st img b → Durable past (same_slots st next ws q) img b'
 durable-kept st img b b' next ws q e d =
     record {
       bytes = d.bytes;
@@ -49,7 +49,7 @@ quiet-pages st img b pages e q =
             held_low = ws.held_low;
             own-copy = λ w p l h k m n t.
                 ws.own-copy w p l h k m n t
-                ∙ tab-ext 64 (λ i. laidOver (b.writes w p l i) (b.pages p l i)) (λ i. laidOver (b.writes w p l i) (pages p l i)) (λ i j. ap (laidOver (b.writes w p l i)) (e p l i k m j));
+                ∙ tab-ext 64 (λ i. laid_over (b.writes w p l i) (b.pages p l i)) (λ i. laid_over (b.writes w p l i) (pages p l i)) (λ i j. ap (laid_over (b.writes w p l i)) (e p l i k m j));
             no_writes = ws.no_writes;
             ready = ws.ready;
           };

@@ -5,17 +5,17 @@ use mathlib.Core.Path.{◌≡◌, ap, ◌∙◌}
 use native.Mathlib.Omega.{arith}
 use Rattle.bounded.proofs.Tab.{filled-ext}
 use Rattle.layout.specs.declared.Sizes.{Sizes}
-use Rattle.layout.specs.Layout.{entryWord}
+use Rattle.layout.specs.Layout.{entry_word}
 use Rattle.words.specs.Words.{word}
-use Rattle.entries.specs.Entries.{noKeys, keysFrom}
+use Rattle.entries.specs.Entries.{no_keys, keys_from}
 use Rattle.mount.proofs.View.{View, Shows, shown}
 
 -- words that agree on them
-pub keys-ext : (r r' : ℕ → ℕ) (z : Sizes) (n : ℕ) → ((e : ℕ) → e < n → e < z.entries → r (entryWord z e) ≡ r' (entryWord z e)) → keysFrom r z n ≡ keysFrom r' z n
-unfolding keysFrom
+pub keys-ext : (r r' : ℕ → ℕ) (z : Sizes) (n : ℕ) → ((e : ℕ) → e < n → e < z.entries → r (entry_word z e) ≡ r' (entry_word z e)) → keys_from r z n ≡ keys_from r' z n
+unfolding keys_from
 keys-ext r r' z n h =
-    filled-ext (min n z.entries) (λ e. r (entryWord z e)) (λ e. r' (entryWord z e)) noKeys (λ e l. h e (omega arith) (omega arith))
+    filled-ext (min n z.entries) (λ e. r (entry_word z e)) (λ e. r' (entry_word z e)) no_keys (λ e l. h e (omega arith) (omega arith))
 
 -- those that a mount finds
-pub view-keys : (img : List ℕ) (v : View) → Shows img v → (z : Sizes) (n : ℕ) → v.sizes ≡ z → v.count ≡ n → v.keys ≡ keysFrom (word img) z n
-view-keys img v shows z n e f = ap (λ (u : View). u.keys) (shown img v shows) ∙ ap (λ (y : Sizes). keysFrom (word img) y v.count) e ∙ ap (keysFrom (word img) z) f
+pub view-keys : (img : List ℕ) (v : View) → Shows img v → (z : Sizes) (n : ℕ) → v.sizes ≡ z → v.count ≡ n → v.keys ≡ keys_from (word img) z n
+view-keys img v shows z n e f = ap (λ (u : View). u.keys) (shown img v shows) ∙ ap (λ (y : Sizes). keys_from (word img) y v.count) e ∙ ap (keys_from (word img) z) f

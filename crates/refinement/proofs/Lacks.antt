@@ -4,7 +4,7 @@ use mathlib.Core.Bool.{Bool, true, false, ◌&&◌, ◌||◌}
 use mathlib.Core.List.{List, [], ◌∷◌}
 use mathlib.Core.Path.{◌≡◌, refl}
 use Rattle.bounded.specs.Rows.{Row, refusal}
-use Rattle.bounded.proofs.Tests.{caseOn, or_left, or_right}
+use Rattle.bounded.proofs.Tests.{case_on, or_left, or_right}
 
 abbrev pub Lacks : (ℕ → Bool) → List Row → Type 0
 Lacks bad [] = bad 0 ≡ false
@@ -17,7 +17,7 @@ and_yes false b t e = refl
 pub lacks : (bad : ℕ → Bool) (rs : List Row) → Lacks bad rs → bad (refusal rs) ≡ false
 lacks bad [] f = f
 lacks bad (r ∷ rs) f =
-    caseOn r.0
+    case_on r.0
     (λ t. rw t (and_yes (bad r.1) r.0 t f.0))
     (λ t. rw t (lacks bad rs (f.1 t)))
 
@@ -30,6 +30,6 @@ pub none-applies : (bad : ℕ → Bool) (rs : List Row) → applies bad rs ≡ f
 none-applies bad [] e = e
 none-applies bad (r ∷ rs) e =
     let one : Bool = bad r.1 && r.0 in
-    caseOn r.0
+    case_on r.0
     (λ t. rw t (and_yes (bad r.1) r.0 t (or_left one (applies bad rs) e)))
     (λ t. rw t (none-applies bad rs (or_right one (applies bad rs) e)))

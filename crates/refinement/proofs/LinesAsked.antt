@@ -7,14 +7,14 @@ use Rattle.bounded.specs.Rows.{refusal}
 use Rattle.state.specs.State.{State}
 use Rattle.state.specs.declared.Op.{Op}
 use Rattle.state.specs.declared.Op.TheVariants.{Idle, Write, Commit, Consolidate, Checkpoint, Event, Prepare, Confirm, Log, Copy, Format}
-use Rattle.operations.specs.Operations.{needs, opRows}
-use Rattle.validity.specs.Validity.{opFits, stateOk, isFresh}
-use Rattle.refinement.specs.Settled.{withLines}
+use Rattle.operations.specs.Operations.{needs, op_rows}
+use Rattle.validity.specs.Validity.{op_fits, state_ok, is_fresh}
+use Rattle.refinement.specs.Settled.{with_lines}
 use Rattle.refinement.proofs.StateValid.{valid, valid-ok}
 use Rattle.refinement.proofs.Pending.{pends-ok}
 
 module _ (st : State) (line second : List ℕ) where
-  pub needs-lines : (op o : Op) → needs (withLines st o line second) op ≡ needs st op
+  pub needs-lines : (op o : Op) → needs (with_lines st o line second) op ≡ needs st op
   unfolding needs
   needs-lines Idle o = refl
   needs-lines (Write w p l a n) o = refl
@@ -28,7 +28,7 @@ module _ (st : State) (line second : List ℕ) where
   needs-lines Copy o = refl
   needs-lines Format o = refl
 
-  pub rows-lines : (op o : Op) → refusal (opRows (withLines st o line second) op) ≡ refusal (opRows st op)
+  pub rows-lines : (op o : Op) → refusal (op_rows (with_lines st o line second) op) ≡ refusal (op_rows st op)
   rows-lines Idle o = refl
   rows-lines (Write w p l a n) o = refl
   rows-lines (Commit w) o = refl
@@ -41,10 +41,10 @@ module _ (st : State) (line second : List ℕ) where
   rows-lines Copy o = refl
   rows-lines Format o = refl
 
-  pub lines-valid : (op : Op) → stateOk st ≡ true → opFits st.wide.writer (isFresh st) op ≡ true → refusal (opRows st op) ≡ 0 → 0 < needs st op → stateOk (withLines st op line second) ≡ true
+  pub lines-valid : (op : Op) → state_ok st ≡ true → op_fits st.wide.writer (is_fresh st) op ≡ true → refusal (op_rows st op) ≡ 0 → 0 < needs st op → state_ok (with_lines st op line second) ≡ true
   lines-valid op e k r l =
       let v = valid st e in
-      valid-ok (withLines st op line second)
+      valid-ok (with_lines st op line second)
       (record {
         legal = v.legal;
         positions = v.positions;
@@ -55,5 +55,5 @@ module _ (st : State) (line second : List ℕ) where
         prepared = v.prepared;
         entries = v.entries;
         wide = v.wide;
-        pending = pends-ok (withLines st op line second) op refl (record { fits = k; made-low = rw (needs-lines op op) l; taken = rows-lines op op ∙ r });
+        pending = pends-ok (with_lines st op line second) op refl (record { fits = k; made-low = rw (needs-lines op op) l; taken = rows-lines op op ∙ r });
       })

@@ -11,20 +11,20 @@ use lib.Seq.{set-get_or, get_or-set_same, get_or-set_other}
 use borrow.Author.Tests.{ltb-true, ltb-false, eqb-true, eqb-false}
 use Rattle.bounded.specs.Tab.{filled}
 use Rattle.bounded.proofs.Tab.{tab-ext, length-tab, filled-turn}
-use Rattle.bounded.proofs.Tests.{caseOn}
+use Rattle.bounded.proofs.Tests.{case_on}
 use Rattle.layout.specs.declared.Sizes.{Sizes}
-use Rattle.layout.specs.Layout.{entryWord}
+use Rattle.layout.specs.Layout.{entry_word}
 use Rattle.words.specs.Words.{word, word_at, flat}
 use Rattle.words.proofs.Runs.{words-tab}
 use Rattle.image.proofs.LineLaws.{eight-words, flat_line}
-use Rattle.entries.specs.Entries.{noKeys, key_of, keyPage, keyLine, keysFrom, entry_of}
+use Rattle.entries.specs.Entries.{no_keys, key_of, key_page, key_line, keys_from, entry_of}
 use Rattle.entries.proofs.EntryLaws.{entry-le, entry_found, entry-before, entry-none, entry-own, page-of-key, line-of-key, key_back, key_apart}
 use Rattle.state.specs.State.{State}
 use Rattle.state.specs.declared.Op.TheVariants.{Log, Copy}
-use Rattle.state.specs.Wide.{hasEntry}
+use Rattle.state.specs.Wide.{has_entry}
 use Rattle.refinement.specs.Stores.{completed}
-use Rattle.refinement.specs.Wide.{entryBytes}
-use Rattle.refinement.specs.Reference.{Reference, none, idle, withWork, written, readLine}
+use Rattle.refinement.specs.Wide.{entry_bytes}
+use Rattle.refinement.specs.Reference.{Reference, none, idle, with_work, written, read_line}
 use Rattle.refinement.proofs.StateValid.{Valid, valid}
 use Rattle.refinement.proofs.Pending.{pends}
 use Rattle.refinement.proofs.WideValid.{logged-valid}
@@ -32,7 +32,7 @@ use Rattle.refinement.proofs.Copies.{durable-fits}
 use Rattle.refinement.proofs.WriteHeld.{writes_kept, line_same}
 use Rattle.refinement.proofs.Copying.{key_at}
 use Rattle.refinement.proofs.Logging.{same-pages, Logs, settled, Logging, keys-long}
-use Rattle.refinement.proofs.LogMid.{taken, own, own-low, newLine, value-is, image, durable, keys, line_kept, landed}
+use Rattle.refinement.proofs.LogMid.{taken, own, own-low, new_line, value-is, image, durable, keys, line_kept, landed}
 
 module _ {past : List ℕ} (st : State) (img : List ℕ) (b : Reference) (G : Logging past st img b) (p l o n : ℕ) (op : st.pending.op ≡ Log p l o n) (L : Logs st img b p l o n)
     (last : st.pending.made + 1 ≡ 9) where
@@ -55,7 +55,7 @@ module _ {past : List ℕ} (st : State) (img : List ℕ) (b : Reference) (G : Lo
   e = own st img b G p l o n op L
 
   abbrev c : Reference
-  c = written w p l o n L.given (withWork idle b)
+  c = written w p l o n L.given (with_work idle b)
 
   v : Valid st
   v = valid st G.valid
@@ -69,7 +69,7 @@ module _ {past : List ℕ} (st : State) (img : List ℕ) (b : Reference) (G : Lo
   -- the entry is the one that has the key, or the next
   entry-cases : {X : Type 0} → (e < count → after.wide.count ≡ count → X) → (e ≡ count → after.wide.count ≡ count + 1 → X) → X
   entry-cases f g =
-      caseOn (hasEntry st.wide p l)
+      case_on (has_entry st.wide p l)
       (λ t. f (ltb-true e count t) (ap (λ (x : Bool). cond x count (count + 1)) t))
       (λ t. g (le_antisymm (entry-le st.wide.keys count (key_of p l)) (ltb-false e count t)) (ap (λ (x : Bool). cond x count (count + 1)) t))
 
@@ -94,60 +94,60 @@ module _ {past : List ℕ} (st : State) (img : List ℕ) (b : Reference) (G : Lo
 
   -- ---- the keys
 
-  keys-now : after.wide.keys ≡ keysFrom (word img') z after.wide.count
-  unfolding keysFrom
+  keys-now : after.wide.keys ≡ keys_from (word img') z after.wide.count
+  unfolding keys_from
   keys-now =
       entry-cases
       (λ a q.
       ap (set st.wide.keys e) (sym (entry_found st.wide.keys count (key_of p l) a))
       ∙ set-get_or st.wide.keys e 0
       ∙ keys st img b G p l o n op L
-      ∙ ap (keysFrom (word img') z) (sym q))
+      ∙ ap (keys_from (word img') z) (sym q))
       (λ a q.
-      let f : ℕ → ℕ = λ d. word img' (entryWord z d) in
+      let f : ℕ → ℕ = λ d. word img' (entry_word z d) in
       let low = own-low st img b G p l o n op L in
       let m : min count z.entries ≡ count = omega arith in
       let k : min (count + 1) z.entries ≡ count + 1 = omega arith in
       let first : key_of p l ≡ f count =
-      sym (landed st img b G p l o n op L 0 (omega arith)) ∙ (let u : entryWord z e + 0 ≡ entryWord z count = omega arith in ap (word img') u) in
+      sym (landed st img b G p l o n op L 0 (omega arith)) ∙ (let u : entry_word z e + 0 ≡ entry_word z count = omega arith in ap (word img') u) in
       ap (λ (i : ℕ). set st.wide.keys i (key_of p l)) a
-      ∙ filled-turn f noKeys st.wide.keys count (key_of p l) (keys st img b G p l o n op L ∙ ap (λ (i : ℕ). filled i f noKeys) m) first
-      ∙ ap (λ (i : ℕ). filled i f noKeys) (sym k)
-      ∙ ap (keysFrom (word img') z) (sym q))
+      ∙ filled-turn f no_keys st.wide.keys count (key_of p l) (keys st img b G p l o n op L ∙ ap (λ (i : ℕ). filled i f no_keys) m) first
+      ∙ ap (λ (i : ℕ). filled i f no_keys) (sym k)
+      ∙ ap (keys_from (word img') z) (sym q))
 
   -- ---- the lines
 
-  line-here : entryBytes img' z e ≡ readLine c w p l
+  line-here : entry_bytes img' z e ≡ read_line c w p l
   line-here =
-      let line : List ℕ = newLine st img b G p l o n op L in
+      let line : List ℕ = new_line st img b G p l o n op L in
       let D = durable st img b G p l o n op L in
       let low = own-low st img b G p l o n op L in
-      eight-words img' (entryWord z e + 1) D.bytes (omega (arith, durable-fits past (completed st Copy) img' b D))
+      eight-words img' (entry_word z e + 1) D.bytes (omega (arith, durable-fits past (completed st Copy) img' b D))
       ∙ ap flat
-      (tab-ext 8 (λ k. word img' (entryWord z e + 1 + k)) (λ k. word_at line (0 + 8 * k))
+      (tab-ext 8 (λ k. word img' (entry_word z e + 1 + k)) (λ k. word_at line (0 + 8 * k))
       (λ k h.
-      let u : entryWord z e + 1 + k ≡ entryWord z e + (1 + k) = omega arith in
+      let u : entry_word z e + 1 + k ≡ entry_word z e + (1 + k) = omega arith in
       let q : 8 * k ≡ 0 + 8 * k = omega arith in
       ap (word img') u ∙ landed st img b G p l o n op L (1 + k) (omega arith) ∙ value-is st img b G p l o n op L k h ∙ ap (word_at line) q)
       ∙ sym (words-tab line 0 8))
       ∙ flat_line line L.is-bytes (length-tab 64 _)
 
-  line-now : (d : ℕ) → d < after.wide.count → entryBytes img' z d ≡ readLine c w (keyPage (key_at after d)) (keyLine (key_at after d))
+  line-now : (d : ℕ) → d < after.wide.count → entry_bytes img' z d ≡ read_line c w (key_page (key_at after d)) (key_line (key_at after d))
   line-now d ld =
-      caseOn (eqb d e)
+      case_on (eqb d e)
       (λ t.
       let q : d ≡ e = eqb-true d e t in
       let k : key_at after d ≡ key_of p l = ap (key_at after) q ∙ key_here in
-      ap (entryBytes img' z) q ∙ line-here
-      ∙ sym (ap₂ (readLine c w) (ap keyPage k ∙ page-of-key p l line_low) (ap keyLine k ∙ line-of-key p l line_low)))
+      ap (entry_bytes img' z) q ∙ line-here
+      ∙ sym (ap₂ (read_line c w) (ap key_page k ∙ page-of-key p l line_low) (ap key_line k ∙ line-of-key p l line_low)))
       (λ t.
       let out : d ≡ e → ⊥ = eqb-false d e t in
       let ld' : d < count = used-before d ld out in
       let k : key_at after d ≡ key_at st d = key-there d out in
       line_kept st img b G p l o n op L d ld' out
-      ∙ line_same (withWork idle b) w p l o n L.given w (keyPage (key_at st d)) (keyLine (key_at st d))
+      ∙ line_same (with_work idle b) w p l o n L.given w (key_page (key_at st d)) (key_line (key_at st d))
       (λ s. out (key-own d ld' (sym (key_back (key_at st d)) ∙ ap₂ key_of s.1 s.2)))
-      ∙ sym (ap₂ (readLine c w) (ap keyPage k) (ap keyLine k)))
+      ∙ sym (ap₂ (read_line c w) (ap key_page k) (ap key_line k)))
 
   -- ---- lines without an entry
 
@@ -155,7 +155,7 @@ module _ {past : List ℕ} (st : State) (img : List ℕ) (b : Reference) (G : Lo
   bare-before q i li bare out =
       entry-none st.wide.keys count (key_of q i)
       (λ d ld k.
-      caseOn (eqb d e)
+      case_on (eqb d e)
       (λ t.
       let s : d ≡ e = eqb-true d e t in
       let f : key_of p l ≡ key_of q i = sym (entry_found st.wide.keys count (key_of p l) (omega arith)) ∙ ap (key_at st) (sym s) ∙ k in
@@ -172,7 +172,7 @@ module _ {past : List ℕ} (st : State) (img : List ℕ) (b : Reference) (G : Lo
       λ s.
       let k : key_at after e ≡ key_of q i = key_here ∙ sym (ap₂ key_of s.0 s.1) in
       entry-before after.wide.keys after.wide.count (key_of q i) e (omega (arith, own-used)) k in
-      writes_kept (withWork idle b) w p l o n L.given w q i j (λ s. out (s.1, s.2))
+      writes_kept (with_work idle b) w p l o n L.given w q i j (λ s. out (s.1, s.2))
       ∙ G.entries.no_writes q i j lq li lj (bare-before q i li bare out)
 
   pub logged-all : Logging past after img' c
@@ -184,7 +184,7 @@ module _ {past : List ℕ} (st : State) (img : List ℕ) (b : Reference) (G : Lo
         four = G.four;
         sixty-four = G.sixty-four;
         durable = same-pages (completed st Copy) img' b c (λ q i h k. refl) (durable st img b G p l o n op L);
-        alone = λ u q i j lu out lq li lj. writes_kept (withWork idle b) w p l o n L.given u q i j (λ s. out s.0) ∙ G.alone u q i j lu out lq li lj;
+        alone = λ u q i j lu out lq li lj. writes_kept (with_work idle b) w p l o n L.given u q i j (λ s. out s.0) ∙ G.alone u q i j lu out lq li lj;
         entries = record { keys = keys-now; line = λ d ld out. line-now d ld; no_writes = bare-now };
         stage = settled refl refl;
       }

@@ -5,20 +5,20 @@ use mathlib.Core.Logic.{◌⊎◌, inl, inr, ⊎_elim}
 use mathlib.Core.Path.{◌≡◌, refl, sym, ap, ◌∙◌, subst}
 use lib.Dec.{eqb}
 use borrow.Author.Tests.{eqb-true}
-use Rattle.bounded.proofs.Tests.{caseOn, row_keeps}
+use Rattle.bounded.proofs.Tests.{case_on, row_keeps}
 use Rattle.layout.specs.declared.Sizes.{Sizes}
-use Rattle.entries.specs.Entries.{noKeys}
-use Rattle.replay.specs.Table.{slotIn, lastIn}
-use Rattle.replay.specs.Map.{pageFrames}
-use Rattle.mount.proofs.Verdict.{foundIn, mapIn, entry-shown}
+use Rattle.entries.specs.Entries.{no_keys}
+use Rattle.replay.specs.Table.{slot_in, last_in}
+use Rattle.replay.specs.Map.{page_frames}
+use Rattle.mount.proofs.Verdict.{found_in, map_in, entry-shown}
 use Rattle.mount.proofs.View.{View}
-use Rattle.state.specs.State.{State, ownFrame}
-use Rattle.refinement.specs.Mount.{mountedState, copyingState}
+use Rattle.state.specs.State.{State, own_frame}
+use Rattle.refinement.specs.Mount.{mounted_state, copying_state}
 use Rattle.refinement.specs.Stores.{World}
-use Rattle.refinement.specs.Wide.{shownLine}
+use Rattle.refinement.specs.Wide.{shown_line}
 use Rattle.refinement.specs.Run.{Result, mount, exec}
 use Rattle.refinement.specs.Beside.{line_of, Finds, Uncommitted, ReadsBack, MountReadsBack}
-use Rattle.refinement.specs.Reference.{Reference, recallLine}
+use Rattle.refinement.specs.Reference.{Reference, recall_line}
 use Rattle.refinement.proofs.Cases.{standing-of}
 use Rattle.refinement.proofs.MountCall.{mount-viewed}
 use Rattle.refinement.proofs.Mounted.{state_of}
@@ -26,7 +26,7 @@ use Rattle.refinement.proofs.Reached.{Reached, always}
 use Rattle.refinement.proofs.Viewed.{Viewed, shown-copy, shown-own}
 use Rattle.refinement.proofs.OwnFrames.{frame_is}
 use Rattle.words.specs.Words.{word}
-use Rattle.image.specs.Lines.{lineBytes}
+use Rattle.image.specs.Lines.{line_bytes}
 use lib.ListN.{get_or}
 
 module _ {past : List ℕ} (v : World) (b : Reference) (seen : Viewed past v.st v.image b) where
@@ -38,7 +38,7 @@ module _ {past : List ℕ} (v : World) (b : Reference) (seen : Viewed past v.st 
 
   -- what it finds: a quiet state, or one with a copying pending
   abbrev mounted : State
-  mounted = mountedState (foundIn view)
+  mounted = mounted_state (found_in view)
 
   -- it is taken
   pub mount-taken : (exec mount v).number ≡ 0
@@ -49,22 +49,22 @@ module _ {past : List ℕ} (v : World) (b : Reference) (seen : Viewed past v.st 
   mount-state = ap (λ (d : Result). d.world.st) (mount-viewed v view seen.shows seen.mounts)
 
   -- the lines that the mounted state says are those that the image shows
-  mounted-line : (p l : ℕ) → p < view.sizes.pages → line_of v.image mounted p l ≡ shownLine v.image (pageFrames (word v.image)) view.sizes view.table view.count view.keys p l
+  mounted-line : (p l : ℕ) → p < view.sizes.pages → line_of v.image mounted p l ≡ shown_line v.image (page_frames (word v.image)) view.sizes view.table view.count view.keys p l
   mounted-line p l low =
       let img = v.image in
       let z = view.sizes in
       let t = view.table in
-      let h : ℕ → ℕ = λ q. get_or (mapIn view) q 0 in
-      let own = frame_is h (pageFrames (word img)) z t (entry-shown img view seen.shows) p l low in
-      caseOn (eqb view.count 0)
+      let h : ℕ → ℕ = λ q. get_or (map_in view) q 0 in
+      let own = frame_is h (page_frames (word img)) z t (entry-shown img view seen.shows) p l low in
+      case_on (eqb view.count 0)
       (λ e.
       rw e
-      (shown-copy img h z t 0 noKeys p l refl
-      ∙ ap (λ (f : ℕ). lineBytes img z f l) own
-      ∙ sym (shown-copy img (pageFrames (word img)) z t view.count view.keys p l (eqb-true view.count 0 e))))
-      (λ e. rw e (shown-own img h (pageFrames (word img)) z t view.count view.keys p l own))
+      (shown-copy img h z t 0 no_keys p l refl
+      ∙ ap (λ (f : ℕ). line_bytes img z f l) own
+      ∙ sym (shown-copy img (page_frames (word img)) z t view.count view.keys p l (eqb-true view.count 0 e))))
+      (λ e. rw e (shown-own img h (page_frames (word img)) z t view.count view.keys p l own))
 
-  finds-page : (p l : ℕ) → p < st.sizes.pages → l < 64 → line_of v.image (exec mount v).world.st p l ≡ recallLine b p l
+  finds-page : (p l : ℕ) → p < st.sizes.pages → l < 64 → line_of v.image (exec mount v).world.st p l ≡ recall_line b p l
   finds-page p l lp ll =
       let low : p < view.sizes.pages = subst (λ (z : Sizes). p < z.pages) (sym seen.sizes-same) lp in
       ap (λ (m : State). line_of v.image m p l) mount-state
@@ -72,10 +72,10 @@ module _ {past : List ℕ} (v : World) (b : Reference) (seen : Viewed past v.st 
       ∙ seen.shown p l low ll
 
   -- either state has the view's durable part
-  either : (P : State → Type 0) → P (state_of view) → P (copyingState view.sizes view.head view.tail view.table (mapIn view) view.count view.keys) → P mounted
+  either : (P : State → Type 0) → P (state_of view) → P (copying_state view.sizes view.head view.tail view.table (map_in view) view.count view.keys) → P mounted
   either P quiet copying = row_keeps P (eqb view.count 0) _ _ quiet copying
 
-  slot-back : (s : ℕ) → s < st.sizes.slots → (slotIn view.table s ≡ slotIn st.table s) ⊎ Uncommitted v.image st (state_of view) s
+  slot-back : (s : ℕ) → s < st.sizes.slots → (slot_in view.table s ≡ slot_in st.table s) ⊎ Uncommitted v.image st (state_of view) s
   slot-back s l =
       ⊎_elim
       (λ e. inl (sym e))
@@ -89,24 +89,24 @@ module _ {past : List ℕ} (v : World) (b : Reference) (seen : Viewed past v.st 
         sizes = either (λ m. m.sizes ≡ st.sizes) seen.sizes-same seen.sizes-same;
         head = either (λ m. m.head ≡ st.head) seen.head-same seen.head-same;
         tail = either (λ m. m.tail ≡ st.tail) seen.tail-same seen.tail-same;
-        last = λ s l. let e = sym (seen.behind.last-same s l) in either (λ m. lastIn m.table s ≡ lastIn st.table s) e e;
-        slot = λ s l. either (λ m. (slotIn m.table s ≡ slotIn st.table s) ⊎ Uncommitted v.image st m s) (slot-back s l) (other-state s (slot-back s l));
-        map = λ p l. let e = seen.map p l in either (λ m. ownFrame m p ≡ ownFrame st p) e e;
+        last = λ s l. let e = sym (seen.behind.last-same s l) in either (λ m. last_in m.table s ≡ last_in st.table s) e e;
+        slot = λ s l. either (λ m. (slot_in m.table s ≡ slot_in st.table s) ⊎ Uncommitted v.image st m s) (slot-back s l) (other-state s (slot-back s l));
+        map = λ p l. let e = seen.map p l in either (λ m. own_frame m p ≡ own_frame st p) e e;
         line = λ p l lp ll. sym (ap (λ (m : State). line_of v.image m p l) mount-state) ∙ finds-page p l lp ll ∙ sym (seen.own p l lp ll);
       })
     where
-      other-state : (s : ℕ) → (slotIn view.table s ≡ slotIn st.table s) ⊎ Uncommitted v.image st (state_of view) s
-          → (slotIn view.table s ≡ slotIn st.table s) ⊎ Uncommitted v.image st (copyingState view.sizes view.head view.tail view.table (mapIn view) view.count view.keys) s
+      other-state : (s : ℕ) → (slot_in view.table s ≡ slot_in st.table s) ⊎ Uncommitted v.image st (state_of view) s
+          → (slot_in view.table s ≡ slot_in st.table s) ⊎ Uncommitted v.image st (copying_state view.sizes view.head view.tail view.table (map_in view) view.count view.keys) s
       other-state s (inl e) = inl e
       other-state s (inr u) = inr (record { page-low = u.page-low; original = u.original; bitmap = u.bitmap; free = u.free })
 
 -- at any time a mount finds the reference machine's pages
-pub reached-finds : {past : List ℕ} (z : Sizes) (v : World) (b : Reference) → Reached z past v b → Finds z v (recallLine b)
+pub reached-finds : {past : List ℕ} (z : Sizes) (v : World) (b : Reference) → Reached z past v b → Finds z v (recall_line b)
 reached-finds z v b h =
     let seen = (standing-of v b h.related).viewed in
     record { taken = mount-taken v b seen; found = λ p l lp. finds-page v b seen p l (subst (λ (y : Sizes). p < y.pages) (sym h.sizes) lp) }
 
-both : {past : List ℕ} (z : Sizes) (v : World) (b : Reference) → Reached z past v b → Finds z v (recallLine b) × ReadsBack v.image v.st (exec mount v).world.st
+both : {past : List ℕ} (z : Sizes) (v : World) (b : Reference) → Reached z past v b → Finds z v (recall_line b) × ReadsBack v.image v.st (exec mount v).world.st
 both z v b h = (reached-finds z v b h, reads-back v b (standing-of v b h.related).viewed)
 
 pub mount-reads-back : MountReadsBack

@@ -8,23 +8,23 @@ use native.Mathlib.Omega.{arith}
 use lib.Dec.{ltb}
 use borrow.Author.Tests.{ltb-true, lt-ltb}
 use Rattle.bounded.specs.Count.{Once}
-use Rattle.bounded.proofs.Tests.{caseOn}
+use Rattle.bounded.proofs.Tests.{case_on}
 use Rattle.layout.specs.declared.Sizes.{Sizes}
 use Rattle.layout.specs.Layout.{Legal, frames}
 use Rattle.replay.specs.declared.Table.{Table}
-use Rattle.journal.specs.Slots.{noPage}
-use Rattle.replay.specs.Table.{slotIn, slot_of, home_of, frameNames}
-use Rattle.masks.specs.Lines.{inMask}
-use Rattle.refinement.specs.Frames.{otherFrame}
+use Rattle.journal.specs.Slots.{no_page}
+use Rattle.replay.specs.Table.{slot_in, slot_of, home_of, frame_names}
+use Rattle.masks.specs.Lines.{in_mask}
+use Rattle.refinement.specs.Frames.{other_frame}
 use Rattle.refinement.specs.Recall.{frame_of}
 use Rattle.refinement.proofs.NamesOnce.{spare_low, home-low, spares-apart, homes-apart, spare-home}
 use Rattle.refinement.proofs.PageSlots.{slot-page}
 
 -- the frames that page p owns: its home, and its slot's spare
 abbrev pub Owned : (ℕ → ℕ) → Sizes → Table → ℕ → ℕ → Type 0
-Owned r z t p x = (x ≡ home_of r z t p) ⊎ ((slot_of z t p < z.slots) × (x ≡ (slotIn t (slot_of z t p)).spare))
+Owned r z t p x = (x ≡ home_of r z t p) ⊎ ((slot_of z t p < z.slots) × (x ≡ (slot_in t (slot_of z t p)).spare))
 
-module _ (r : ℕ → ℕ) (z : Sizes) (t : Table) (legal : Legal z) (once : Once (frames z) (frameNames r z t)) where
+module _ (r : ℕ → ℕ) (z : Sizes) (t : Table) (legal : Legal z) (once : Once (frames z) (frame_names r z t)) where
   pub owned-low : (p x : ℕ) → p < z.pages → Owned r z t p x → x < frames z
   owned-low p x l o =
       ⊎_elim (λ e. omega (arith, home-low r z t once p l)) (λ e. omega (arith, e.1, spare_low r z t once (slot_of z t p) e.0)) o
@@ -39,48 +39,48 @@ module _ (r : ℕ → ℕ) (z : Sizes) (t : Table) (legal : Legal z) (once : Onc
       (λ v. absurd (spare-home r z t once (slot_of z t p) q u.0 m (sym u.1 ∙ e ∙ v)))
       (λ v.
       let k : slot_of z t p ≡ slot_of z t q = spares-apart r z t once (slot_of z t p) (slot_of z t q) u.0 v.0 (sym u.1 ∙ e ∙ v.1) in
-      sym (slot-page z t p u.0) ∙ ap (λ (s : ℕ). (slotIn t s).page) k ∙ slot-page z t q v.0)
+      sym (slot-page z t p u.0) ∙ ap (λ (s : ℕ). (slot_in t s).page) k ∙ slot-page z t q v.0)
       b)
       a
 
   -- no page owns a free slot's spare
-  pub spare-unowned : (s p x : ℕ) → s < z.slots → p < z.pages → (slotIn t s).page ≡ noPage → Owned r z t p x → (slotIn t s).spare ≡ x → ⊥
+  pub spare-unowned : (s p x : ℕ) → s < z.slots → p < z.pages → (slot_in t s).page ≡ no_page → Owned r z t p x → (slot_in t s).spare ≡ x → ⊥
   spare-unowned s p x l m f o e =
       ⊎_elim
       (λ u. spare-home r z t once s p l m (e ∙ u))
       (λ u.
       let k : s ≡ slot_of z t p = spares-apart r z t once s (slot_of z t p) l u.0 (e ∙ u.1) in
-      let n : noPage ≡ p = sym f ∙ ap (λ (i : ℕ). (slotIn t i).page) k ∙ slot-page z t p u.0 in
+      let n : no_page ≡ p = sym f ∙ ap (λ (i : ℕ). (slot_in t i).page) k ∙ slot-page z t p u.0 in
       omega (arith, legal.pages-high))
       o
 
   -- the home of a slotted page is its slot's original
-  pub home-slotted : (p : ℕ) → slot_of z t p < z.slots → home_of r z t p ≡ (slotIn t (slot_of z t p)).original
+  pub home-slotted : (p : ℕ) → slot_of z t p < z.slots → home_of r z t p ≡ (slot_in t (slot_of z t p)).original
   home-slotted p l = rw (lt-ltb (slot_of z t p) z.slots l)
 
   -- both copies of a line of a page lie in frames that it owns
   pub committed-owned : (p l : ℕ) → Owned r z t p (frame_of r z t p l)
   committed-owned p l =
-      caseOn (ltb (slot_of z t p) z.slots)
+      case_on (ltb (slot_of z t p) z.slots)
       (λ b.
       let m : slot_of z t p < z.slots = ltb-true (slot_of z t p) z.slots b in
-      caseOn (inMask (slotIn t (slot_of z t p)).bitmap l)
+      case_on (in_mask (slot_in t (slot_of z t p)).bitmap l)
       (λ c. inr (m, rw (b, c)))
       (λ c. inl (rw (b, c))))
       (λ b. inl (rw b))
 
-  pub other-owned : (p l : ℕ) → slot_of z t p < z.slots → Owned r z t p (otherFrame (slotIn t (slot_of z t p)) l)
+  pub other-owned : (p l : ℕ) → slot_of z t p < z.slots → Owned r z t p (other_frame (slot_in t (slot_of z t p)) l)
   other-owned p l m =
-      caseOn (inMask (slotIn t (slot_of z t p)).bitmap l)
+      case_on (in_mask (slot_in t (slot_of z t p)).bitmap l)
       (λ c. inl (rw c (sym (home-slotted p m))))
       (λ c. inr (m, rw c))
 
   -- and they differ
-  pub copies_apart : (p l : ℕ) → p < z.pages → slot_of z t p < z.slots → otherFrame (slotIn t (slot_of z t p)) l ≡ frame_of r z t p l → ⊥
+  pub copies_apart : (p l : ℕ) → p < z.pages → slot_of z t p < z.slots → other_frame (slot_in t (slot_of z t p)) l ≡ frame_of r z t p l → ⊥
   copies_apart p l h m e =
       let b : ltb (slot_of z t p) z.slots ≡ true = lt-ltb (slot_of z t p) z.slots m in
-      let d : (slotIn t (slot_of z t p)).spare ≡ (slotIn t (slot_of z t p)).original → ⊥ =
+      let d : (slot_in t (slot_of z t p)).spare ≡ (slot_in t (slot_of z t p)).original → ⊥ =
       λ q. spare-home r z t once (slot_of z t p) p m h (q ∙ sym (home-slotted p m)) in
-      caseOn (inMask (slotIn t (slot_of z t p)).bitmap l)
+      case_on (in_mask (slot_in t (slot_of z t p)).bitmap l)
       (λ c. d (sym (rw (b, c) at e)))
       (λ c. d (rw (b, c) at e))

@@ -5,19 +5,19 @@ use mathlib.Core.Path.{◌≡◌, ap}
 use lib.Dec.{eqb}
 use borrow.Author.Tests.{eqb-false, ne_eqb}
 use Rattle.bounded.proofs.Below.{all_made}
-use Rattle.bounded.proofs.Tests.{caseOn}
+use Rattle.bounded.proofs.Tests.{case_on}
 use Rattle.layout.specs.declared.Sizes.{Sizes}
 use Rattle.replay.specs.declared.Table.{Table}
-use Rattle.journal.specs.Slots.{noPage}
-use Rattle.replay.specs.Table.{slotIn, pagesApart, pageApart}
+use Rattle.journal.specs.Slots.{no_page}
+use Rattle.replay.specs.Table.{slot_in, pages_apart, page_apart}
 
-pub apart-made : (z : Sizes) (t : Table) → ((s k : ℕ) → s < z.slots → k < s → ((slotIn t s).page ≡ noPage → ⊥) → (slotIn t s).page ≡ (slotIn t k).page → ⊥) → pagesApart z t.page ≡ true
+pub apart-made : (z : Sizes) (t : Table) → ((s k : ℕ) → s < z.slots → k < s → ((slot_in t s).page ≡ no_page → ⊥) → (slot_in t s).page ≡ (slot_in t k).page → ⊥) → pages_apart z t.page ≡ true
 apart-made z t h =
-    all_made (pageApart t.page) z.slots
+    all_made (page_apart t.page) z.slots
     (λ s l.
-    caseOn (eqb (slotIn t s).page noPage)
+    case_on (eqb (slot_in t s).page no_page)
     (λ e. rw e)
     (λ e.
     rw e
-    (all_made (λ k. not (eqb (slotIn t s).page (slotIn t k).page)) s
-    (λ k m. ap not (ne_eqb (slotIn t s).page (slotIn t k).page (h s k l m (eqb-false (slotIn t s).page noPage e)))))))
+    (all_made (λ k. not (eqb (slot_in t s).page (slot_in t k).page)) s
+    (λ k m. ap not (ne_eqb (slot_in t s).page (slot_in t k).page (h s k l m (eqb-false (slot_in t s).page no_page e)))))))

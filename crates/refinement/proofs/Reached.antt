@@ -6,10 +6,10 @@ use mathlib.Core.Logic.{inl}
 use mathlib.Core.Path.{◌≡◌, refl, sym, ◌∙◌, subst}
 use lib.ListN.{length, drop}
 use Rattle.layout.specs.declared.Sizes.{Sizes}
-use Rattle.layout.specs.Layout.{sizesOk, imageLength}
+use Rattle.layout.specs.Layout.{sizes_ok, image_length}
 use Rattle.words.specs.Words.{Bytes}
 use Rattle.refinement.specs.Stores.{World}
-use Rattle.refinement.specs.Run.{Call, Result, exec, formattedWorld, after}
+use Rattle.refinement.specs.Run.{Call, Result, exec, formatted_world, after}
 use Rattle.refinement.specs.Beside.{follows, Always}
 use Rattle.refinement.specs.Reference.{Reference, blank, turn}
 use Rattle.refinement.specs.Statement.{Lent, AllLent}
@@ -22,15 +22,15 @@ pub record Reached (z : Sizes) (past : List ℕ) (v : World) (b : Reference) : T
   pub related : Invariant past v b
 
 -- the bytes past the image are as they were
-pub past_same : {z : Sizes} {past : List ℕ} (v : World) (b : Reference) → Reached z past v b → drop (imageLength z) v.image ≡ past
+pub past_same : {z : Sizes} {past : List ℕ} (v : World) (b : Reference) → Reached z past v b → drop (image_length z) v.image ≡ past
 past_same {past = past} v b h =
-    subst (λ (y : Sizes). drop (imageLength y) v.image ≡ past) h.sizes (standing-of v b h.related).viewed.past-kept
+    subst (λ (y : Sizes). drop (image_length y) v.image ≡ past) h.sizes (standing-of v b h.related).viewed.past-kept
 
 -- where a format ended
-pub reached-first : (z : Sizes) → sizesOk z ≡ true → (buffer : List ℕ) → Bytes buffer → imageLength z ≤ length buffer
-    → Reached z (drop (imageLength z) buffer) (formattedWorld z buffer) blank
+pub reached-first : (z : Sizes) → sizes_ok z ≡ true → (buffer : List ℕ) → Bytes buffer → image_length z ≤ length buffer
+    → Reached z (drop (image_length z) buffer) (formatted_world z buffer) blank
 reached-first z ok buffer bytes fits =
-    subst (λ (v : World). Reached z (drop (imageLength z) buffer) v blank) (sym (format-world z ok buffer bytes fits))
+    subst (λ (v : World). Reached z (drop (image_length z) buffer) v blank) (sym (format-world z ok buffer bytes fits))
     (record { sizes = refl; related = narrow (inl (inl (fresh-quiet z ok buffer bytes fits))) })
 
 module _ {z : Sizes} {past : List ℕ} where
@@ -51,7 +51,7 @@ module _ {z : Sizes} {past : List ℕ} where
 
 -- a sentence on whatever is reached holds always
 pub always : (P : Sizes → List ℕ → World → Reference → Type 0)
-    → ((z : Sizes) (buffer : List ℕ) (v : World) (b : Reference) → Reached z (drop (imageLength z) buffer) v b → P z buffer v b) → Always P
+    → ((z : Sizes) (buffer : List ℕ) (v : World) (b : Reference) → Reached z (drop (image_length z) buffer) v b → P z buffer v b) → Always P
 always P f z ok buffer bytes fits calls lent =
-    f z buffer (after calls (formattedWorld z buffer)) (follows calls (formattedWorld z buffer) blank)
-    (reached calls lent (formattedWorld z buffer) blank (reached-first z ok buffer bytes fits))
+    f z buffer (after calls (formatted_world z buffer)) (follows calls (formatted_world z buffer) blank)
+    (reached calls lent (formatted_world z buffer) blank (reached-first z ok buffer bytes fits))

@@ -12,9 +12,9 @@ use Rattle.bounded.proofs.Tests.{or_left, or_right}
 use Rattle.words.specs.Words.{over}
 use Rattle.state.specs.State.{State}
 use Rattle.refinement.specs.Stores.{World}
-use Rattle.refinement.specs.Calls.{readRows, readRow, readBytes}
+use Rattle.refinement.specs.Calls.{read_rows, read_row, read_bytes}
 use Rattle.refinement.specs.Run.{Call, read, exec}
-use Rattle.refinement.specs.Reference.{Reference, taken, turn, readLine}
+use Rattle.refinement.specs.Reference.{Reference, taken, turn, read_line}
 use Rattle.refinement.proofs.Invariant.{Never, Related, not_wide}
 use Rattle.refinement.proofs.Sound.{Sound, is-quiet}
 use Rattle.refinement.proofs.Seen.{seen-line}
@@ -37,10 +37,10 @@ read-args st w p l target e =
     )
 
 read_right : {past : List ℕ} (st : State) (img : List ℕ) (b : Reference) (w p l : ℕ) (target : List ℕ) → Related past (record { st = st; image = img }) b
-    → readRow st img w p l target ≡ 0 → readBytes st img w p l target ≡ over target 0 (readLine b w p l)
-unfolding readRow readBytes
+    → read_row st img w p l target ≡ 0 → read_bytes st img w p l target ≡ over target 0 (read_line b w p l)
+unfolding read_row read_bytes
 read_right st img b w p l target h e =
-    let rows = none-apply (readRows st img w p l target) (omega arith) e in
+    let rows = none-apply (read_rows st img w p l target) (omega arith) e in
     let q = is-quiet st img b h rows.1.1.0 in
     let a = read-args st w p l target rows.1.1.1.0 in
     rw e (ap (over target 0) (seen-narrow st img w (not_wide st b w q.narrow a.0) p l ∙ seen-line st img b Never q.durable q.writers w p l a.0 a.1 a.2 (λ n. n)))
@@ -51,5 +51,5 @@ read-sound {past = past} w p l target v b h =
     record {
       right = read_right v.st v.image b w p l target h;
       sizes = refl;
-      related = subst (Related past v) (sym (turn-kept (read w p l target) (readRow v.st v.image w p l target) 0 b refl)) h;
+      related = subst (Related past v) (sym (turn-kept (read w p l target) (read_row v.st v.image w p l target) 0 b refl)) h;
     }

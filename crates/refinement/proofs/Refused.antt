@@ -8,10 +8,10 @@ use borrow.Author.Tests.{ne_eqb}
 use Rattle.state.specs.State.{State}
 use Rattle.refinement.specs.Stores.{World}
 use Rattle.refinement.specs.Outcome.{answered}
-use Rattle.refinement.specs.Calls.{beginOf, beginWideOf, abortOf, writeOf, commitOf, prepareOf, confirmOf, withdrawOf, consolidateOf, freeOf, checkpointOf, eventOf, load_of, readBytes, step_of, stepBytes, run_of, runBytes}
-use Rattle.refinement.specs.Mount.{mountCall}
-use Rattle.refinement.specs.Recall.{recallBytes}
-use Rattle.refinement.specs.Run.{Call, result, mount, checkpoint, free, step, begin, beginWide, abort, commit, prepare, confirm, withdraw, consolidate, run, write, read, recall, event, load, exec}
+use Rattle.refinement.specs.Calls.{begin_of, begin_wide_of, abort_of, write_of, commit_of, prepare_of, confirm_of, withdraw_of, consolidate_of, free_of, checkpoint_of, event_of, load_of, read_bytes, step_of, step_bytes, run_of, run_bytes}
+use Rattle.refinement.specs.Mount.{mount_call}
+use Rattle.refinement.specs.Recall.{recall_bytes}
+use Rattle.refinement.specs.Run.{Call, result, mount, checkpoint, free, step, begin, begin_wide, abort, commit, prepare, confirm, withdraw, consolidate, run, write, read, recall, event, load, exec}
 use Rattle.refinement.specs.Refused.{Unchanged, RefusedUnchanged}
 
 -- either of two, by a number that is not 0
@@ -27,9 +27,9 @@ plain : (row n : ℕ) (after : State) (img : List ℕ) (v : World) → (row ≡ 
 plain row n after img v h e = record { world = world v _ _ (kept row after v.st h) e; stores = kept row n 0 h; target-kept = refl }
 
 pub refused-unchanged : RefusedUnchanged
-unfolding exec beginOf beginWideOf abortOf writeOf commitOf prepareOf confirmOf withdrawOf consolidateOf freeOf checkpointOf eventOf load_of readBytes step_of stepBytes run_of runBytes mountCall recallBytes
+unfolding exec begin_of begin_wide_of abort_of write_of commit_of prepare_of confirm_of withdraw_of consolidate_of free_of checkpoint_of event_of load_of read_bytes step_of step_bytes run_of run_bytes mount_call recall_bytes
 refused-unchanged (begin w) v h = plain _ _ _ _ v h refl
-refused-unchanged (beginWide w) v h = plain _ _ _ _ v h refl
+refused-unchanged (begin_wide w) v h = plain _ _ _ _ v h refl
 refused-unchanged (abort w) v h = plain _ _ _ _ v h refl
 refused-unchanged (commit w) v h = plain _ _ _ _ v h refl
 refused-unchanged (prepare w) v h = plain _ _ _ _ v h refl

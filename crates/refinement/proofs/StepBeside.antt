@@ -8,23 +8,23 @@ use native.Mathlib.Omega.{arith}
 use lib.Dec.{ltb}
 use lib.ListN.{length}
 use borrow.Author.Tests.{ltb-true, ltb-false}
-use Rattle.bounded.proofs.Tests.{caseOn}
-use Rattle.layout.specs.Layout.{entryWord}
+use Rattle.bounded.proofs.Tests.{case_on}
+use Rattle.layout.specs.Layout.{entry_word}
 use Rattle.words.specs.Words.{word, store}
 use Rattle.words.proofs.WordLaws.{word-store-other}
 use Rattle.replay.proofs.Tables.{Sixteen}
 use Rattle.state.specs.State.{State}
 use Rattle.state.specs.declared.Op.{Op}
 use Rattle.state.specs.declared.Op.TheVariants.{Consolidate, Checkpoint, Copy}
-use Rattle.operations.specs.Operations.{isIdle, needs}
-use Rattle.validity.specs.Validity.{stateOk}
-use Rattle.refinement.specs.Commit.{closedWriter}
-use Rattle.refinement.specs.Settled.{noPending}
-use Rattle.refinement.specs.Consolidate.{consolidateAt, consolidateValue, freeingRecord}
-use Rattle.refinement.specs.Checkpoint.{checkpointAtOf, checkpointValueOf}
-use Rattle.refinement.specs.Stores.{World, completed, withMade, stepped, storeAt, storeMade}
-use Rattle.refinement.specs.Calls.{worldOf}
-use Rattle.refinement.specs.Reference.{Reference, Work, none, idle, under, nothing, withWork, emptied, continues, advances}
+use Rattle.operations.specs.Operations.{is_idle, needs}
+use Rattle.validity.specs.Validity.{state_ok}
+use Rattle.refinement.specs.Commit.{closed_writer}
+use Rattle.refinement.specs.Settled.{no_pending}
+use Rattle.refinement.specs.Consolidate.{consolidate_at, consolidate_value, freeing_record}
+use Rattle.refinement.specs.Checkpoint.{checkpoint_at_of, checkpoint_value_of}
+use Rattle.refinement.specs.Stores.{World, completed, with_made, stepped, store_at, store_made}
+use Rattle.refinement.specs.Calls.{world_of}
+use Rattle.refinement.specs.Reference.{Reference, Work, none, idle, under, nothing, with_work, emptied, continues, advances}
 use Rattle.refinement.proofs.Pending.{pends, made-valid}
 use Rattle.refinement.proofs.ConsolidateValid.{consolidate-valid}
 use Rattle.refinement.proofs.CheckpointValid.{checkpoint-valid}
@@ -40,13 +40,13 @@ use Rattle.refinement.proofs.Keys.{keys-ext}
 use Rattle.refinement.proofs.Logging.{Entries, Logged, Beside, settled, beside, shut, Logging, beside-some}
 
 -- a store before the entries keeps them
-pub entries-kept : (st : State) (img : List ℕ) (b : Reference) (being : ℕ → Type 0) (a x : ℕ) → 8 * a + 8 ≤ length img → a < entryWord st.sizes 0 → Entries st img b being
+pub entries-kept : (st : State) (img : List ℕ) (b : Reference) (being : ℕ → Type 0) (a x : ℕ) → 8 * a + 8 ≤ length img → a < entry_word st.sizes 0 → Entries st img b being
     → Entries st (store img a x) b being
 entries-kept st img b being a x fits low E =
     let z = st.sizes in
     record {
-      keys = E.keys ∙ keys-ext (word img) (word (store img a x)) z st.wide.count (λ e _ _. sym (word-store-other img a x (entryWord z e) fits (λ q. omega arith)));
-      line = λ e le out. eight-kept img a x (entryWord z e + 1) fits (λ k h q. omega arith) ∙ E.line e le out;
+      keys = E.keys ∙ keys-ext (word img) (word (store img a x)) z st.wide.count (λ e _ _. sym (word-store-other img a x (entry_word z e) fits (λ q. omega arith)));
+      line = λ e le out. eight-kept img a x (entry_word z e + 1) fits (λ k h q. omega arith) ∙ E.line e le out;
       no_writes = E.no_writes;
     }
 
@@ -58,13 +58,13 @@ module _ (st : State) where
   same-needs (Consolidate p) s = refl
   same-needs Checkpoint s = refl
 
-  pub same_store : (op : Op) → Beside op → (img : List ℕ) (i : ℕ) → storeMade (shut st) img op i ≡ storeMade st img op i
-  unfolding consolidateAt consolidateValue freeingRecord checkpointAtOf checkpointValueOf
+  pub same_store : (op : Op) → Beside op → (img : List ℕ) (i : ℕ) → store_made (shut st) img op i ≡ store_made st img op i
+  unfolding consolidate_at consolidate_value freeing_record checkpoint_at_of checkpoint_value_of
   same_store (Consolidate p) s img i = refl
   same_store Checkpoint s img i = refl
 
   same-done : (op : Op) → Beside op → completed (shut st) op ≡ shut (completed st op)
-  unfolding freeingRecord
+  unfolding freeing_record
   same-done (Consolidate p) s = refl
   same-done Checkpoint s = refl
 
@@ -74,7 +74,7 @@ module _ (st : State) where
   unlogged Checkpoint s e x = x
 
   -- its stores go before the entries
-  below : (op : Op) → Beside op → st.pending.op ≡ op → stateOk st ≡ true → Sixteen st.table → (img : List ℕ) (i : ℕ) → storeAt st op i < entryWord st.sizes 0
+  below : (op : Op) → Beside op → st.pending.op ≡ op → state_ok st ≡ true → Sixteen st.table → (img : List ℕ) (i : ℕ) → store_at st op i < entry_word st.sizes 0
   below (Consolidate p) s e ok full img i = consolidate-in st ok p i (pends st (Consolidate p) ok e refl).taken
   below Checkpoint s e ok full img i = checkpoint-in st ok i
 
@@ -94,18 +94,18 @@ left-work : ℕ → Work
 left-work zero = idle
 left-work (suc k) = under nothing (suc k)
 
-continues-nothing : (j : ℕ) (b : Reference) → continues nothing j b ≡ withWork (left-work j) b
+continues-nothing : (j : ℕ) (b : Reference) → continues nothing j b ≡ with_work (left-work j) b
 unfolding left-work
 continues-nothing zero b = refl
 continues-nothing (suc k) b = refl
 
 -- ---- what holds of the state without it, and the entries, make up what holds
 
-pub regain : {past : List ℕ} (s : State) (img : List ℕ) (c : Reference) → stateOk s ≡ true → s.wide.writer < 4 → c.wide ≡ s.wide.writer
+pub regain : {past : List ℕ} (s : State) (img : List ℕ) (c : Reference) → state_ok s ≡ true → s.wide.writer < 4 → c.wide ≡ s.wide.writer
     → length s.writers.opened ≡ 4 → length s.writers.held ≡ 64
     → ((v p l i : ℕ) → v < 4 → (v ≡ s.wide.writer → ⊥) → p < s.sizes.pages → l < 64 → i < 64 → c.writes v p l i ≡ none)
     → Entries s img c (Logged s.wide s.pending.op)
-    → (Busy past (shut s) img (emptied s.wide.writer c) → Beside s.pending.op) → Related past (worldOf (shut s) img) (emptied s.wide.writer c) → Logging past s img c
+    → (Busy past (shut s) img (emptied s.wide.writer c) → Beside s.pending.op) → Related past (world_of (shut s) img) (emptied s.wide.writer c) → Logging past s img c
 regain {past = past} s img c ok low book four lines alone E busy r =
     let w : ℕ = s.wide.writer in
     record {
@@ -114,7 +114,7 @@ regain {past = past} s img c ok low book four lines alone E busy r =
       book = book;
       four = four;
       sixty-four = lines;
-      durable = durable-kept (shut s) img (emptied w c) c s.next (closedWriter s.sizes s.writers w) noPending (λ p l h k. refl) (related-durable (shut s) img (emptied w c) r);
+      durable = durable-kept (shut s) img (emptied w c) c s.next (closed_writer s.sizes s.writers w) no_pending (λ p l h k. refl) (related-durable (shut s) img (emptied w c) r);
       alone = alone;
       entries = E;
       stage = ⊎_elim (λ (q : Quiet past (shut s) img (emptied w c)). settled q.pending q.work) (λ (B : Busy past (shut s) img (emptied w c)). beside (busy B) B) r;
@@ -132,51 +132,51 @@ module _ {past : List ℕ} (st : State) (img : List ℕ) (b : Reference) (G : Lo
   full = G.durable.behind.sixteen
 
   abbrev image : List ℕ
-  image = storeMade st img op m
+  image = store_made st img op m
 
-  low : storeAt st op m < entryWord st.sizes 0
+  low : store_at st op m < entry_word st.sizes 0
   low = below st op s is G.valid full img m
 
-  fits : 8 * storeAt st op m + 8 ≤ length img
+  fits : 8 * store_at st op m + 8 ≤ length img
   fits = omega (arith, low, durable-fits past (completed st Copy) img b G.durable)
 
   entries : Entries st image b (Logged st.wide st.pending.op)
-  entries = entries-kept st img b (Logged st.wide st.pending.op) (storeAt st op m) _ fits low G.entries
+  entries = entries-kept st img b (Logged st.wide st.pending.op) (store_at st op m) _ fits low G.entries
 
   -- the reference machine after the store
   abbrev left : ℕ
   left = needs st op - m - min 1 (needs st op - m)
 
   abbrev c : Reference
-  c = withWork (left-work left) b
+  c = with_work (left-work left) b
 
-  book : (x : Reference) → advances 1 b.work x ≡ withWork (left-work left) x
+  book : (x : Reference) → advances 1 b.work x ≡ with_work (left-work left) x
   book x = ap (λ (k : Work). advances 1 k x) (beside-work st img b op is s B) ∙ continues-nothing left x
 
   -- one store without the wide transaction
-  next : Related past (stepped (worldOf (shut st) img)) (emptied w c)
-  next = subst (Related past (stepped (worldOf (shut st) img))) (book (emptied w b)) (one_store past (shut st) img (emptied w b) B)
+  next : Related past (stepped (world_of (shut st) img)) (emptied w c)
+  next = subst (Related past (stepped (world_of (shut st) img))) (book (emptied w b)) (one_store past (shut st) img (emptied w b) B)
 
-  goes : m + 1 < needs st op → Logging past (withMade st (m + 1)) image c
+  goes : m + 1 < needs st op → Logging past (with_made st (m + 1)) image c
   goes more =
       let there : m + 1 < needs (shut st) st.pending.op = subst (λ (q : Op). m + 1 < needs (shut st) q) (sym is) (subst (λ (n : ℕ). m + 1 < n) (sym (same-needs st op s)) more) in
-      let world = step-on (shut st) img there ∙ ap (λ (q : Op). worldOf (shut (withMade st (m + 1))) (storeMade (shut st) img q m)) is ∙ ap (worldOf (shut (withMade st (m + 1)))) (same_store st op s img m) in
-      regain (withMade st (m + 1)) image c
-      (made-valid st (m + 1) G.valid (ap isIdle is ∙ (beside-some op s).0) (subst (λ (q : Op). m + 1 < needs st q) (sym is) more))
+      let world = step-on (shut st) img there ∙ ap (λ (q : Op). world_of (shut (with_made st (m + 1))) (store_made (shut st) img q m)) is ∙ ap (world_of (shut (with_made st (m + 1)))) (same_store st op s img m) in
+      regain (with_made st (m + 1)) image c
+      (made-valid st (m + 1) G.valid (ap is_idle is ∙ (beside-some op s).0) (subst (λ (q : Op). m + 1 < needs st q) (sym is) more))
       G.low G.book G.four G.sixty-four G.alone
       (record { keys = entries.keys; line = entries.line; no_writes = entries.no_writes })
       (λ _. subst Beside (sym is) s)
       (subst (λ (v : World). Related past v (emptied w c)) world next)
 
   -- the last
-  last-next : m + 1 ≡ needs st op → Related past (worldOf (shut (completed st op)) image) (emptied w c)
+  last-next : m + 1 ≡ needs st op → Related past (world_of (shut (completed st op)) image) (emptied w c)
   last-next last =
       let there : m + 1 ≡ needs (shut st) st.pending.op = last ∙ sym (same-needs st op s) ∙ ap (needs (shut st)) (sym is) in
       let world =
       step-ends (shut st) img there
-      ∙ ap (λ (q : Op). worldOf (completed (shut st) q) (storeMade (shut st) img q m)) is
-      ∙ ap (worldOf (completed (shut st) op)) (same_store st op s img m)
-      ∙ ap (λ (x : State). worldOf x image) (same-done st op s) in
+      ∙ ap (λ (q : Op). world_of (completed (shut st) q) (store_made (shut st) img q m)) is
+      ∙ ap (world_of (completed (shut st) op)) (same_store st op s img m)
+      ∙ ap (λ (x : State). world_of x image) (same-done st op s) in
       subst (λ (v : World). Related past v (emptied w c)) world next
 
   last-entries : Entries st image b (λ e. ⊥)
@@ -200,17 +200,17 @@ ends st img b G Checkpoint is s B last =
 
 -- one store
 pub step-beside : {past : List ℕ} (st : State) (img : List ℕ) (b : Reference) → Logging past st img b → (op : Op) → st.pending.op ≡ op → Beside op → Busy past (shut st) img (emptied st.wide.writer b)
-    → Logging past (stepped (worldOf st img)).st (stepped (worldOf st img)).image (advances 1 b.work b)
+    → Logging past (stepped (world_of st img)).st (stepped (world_of st img)).image (advances 1 b.work b)
 step-beside {past = past} st img b G op is s B =
     let m : ℕ = st.pending.made in
     let low = (pends st op G.valid is (beside-some op s).0).made-low in
     let there : World → Type 0 = λ v. Logging past v.st v.image (advances 1 b.work b) in
-    caseOn (ltb (m + 1) (needs st op))
+    case_on (ltb (m + 1) (needs st op))
     (λ t.
     let more : m + 1 < needs st op = ltb-true (m + 1) (needs st op) t in
-    let world = step-on st img (subst (λ (q : Op). m + 1 < needs st q) (sym is) more) ∙ ap (λ (q : Op). worldOf (withMade st (m + 1)) (storeMade st img q m)) is in
-    subst there (sym world) (subst (Logging past (withMade st (m + 1)) (storeMade st img op m)) (sym (book st img b G op is s B b)) (goes st img b G op is s B more)))
+    let world = step-on st img (subst (λ (q : Op). m + 1 < needs st q) (sym is) more) ∙ ap (λ (q : Op). world_of (with_made st (m + 1)) (store_made st img q m)) is in
+    subst there (sym world) (subst (Logging past (with_made st (m + 1)) (store_made st img op m)) (sym (book st img b G op is s B b)) (goes st img b G op is s B more)))
     (λ t.
     let last : m + 1 ≡ needs st op = omega (arith, low, ltb-false (m + 1) (needs st op) t) in
-    let world = step-ends st img (subst (λ (q : Op). m + 1 ≡ needs st q) (sym is) last) ∙ ap (λ (q : Op). worldOf (completed st q) (storeMade st img q m)) is in
-    subst there (sym world) (subst (Logging past (completed st op) (storeMade st img op m)) (sym (book st img b G op is s B b)) (ends st img b G op is s B last)))
+    let world = step-ends st img (subst (λ (q : Op). m + 1 ≡ needs st q) (sym is) last) ∙ ap (λ (q : Op). world_of (completed st q) (store_made st img q m)) is in
+    subst there (sym world) (subst (Logging past (completed st op) (store_made st img op m)) (sym (book st img b G op is s B b)) (ends st img b G op is s B last)))

@@ -8,16 +8,16 @@ use native.Mathlib.Omega.{arith}
 use lib.Dec.{eqb}
 use Rattle.bounded.specs.Below.{up_to}
 use Rattle.bounded.proofs.Rows.{none-apply}
-use Rattle.bounded.proofs.Tests.{caseOn, contradicts}
+use Rattle.bounded.proofs.Tests.{case_on, contradicts}
 use Rattle.state.specs.State.{State}
 use Rattle.state.specs.declared.Op.{Op}
 use Rattle.state.specs.declared.Op.TheVariants.{Idle, Write, Commit, Consolidate, Checkpoint, Event, Prepare, Confirm, Log, Copy, Format}
 use Rattle.operations.specs.Operations.{needs}
-use Rattle.refinement.specs.Stores.{World, completed, stepped, steppedBy, left}
+use Rattle.refinement.specs.Stores.{World, completed, stepped, stepped_by, left}
 use Rattle.refinement.proofs.Pending.{pends}
-use Rattle.refinement.specs.Calls.{stepRows, stepRow, step_of, stepBytes, run_of, runBytes, worldOf}
+use Rattle.refinement.specs.Calls.{step_rows, step_row, step_of, step_bytes, run_of, run_bytes, world_of}
 use Rattle.refinement.specs.Run.{step, run, exec}
-use Rattle.refinement.specs.Reference.{Reference, Task, Work, idle, under, copying, writing, committing, nothing, withWork, continues, advances}
+use Rattle.refinement.specs.Reference.{Reference, Task, Work, idle, under, copying, writing, committing, nothing, with_work, continues, advances}
 use Rattle.refinement.proofs.EventRows.{done-sizes}
 use Rattle.refinement.proofs.Invariant.{Doing, Busy, Related}
 use Rattle.refinement.proofs.Sound.{Sound, is-busy, busy-pending}
@@ -31,7 +31,7 @@ use Rattle.refinement.proofs.Next.{answered-next}
 -- ---- one store of the pending operation
 
 module _ (past : List ℕ) (st : State) (img : List ℕ) (b : Reference) (B : Busy past st img b) where
-  step-of : (op : Op) → st.pending.op ≡ op → Related past (stepped (worldOf st img)) (advances 1 b.work b)
+  step-of : (op : Op) → st.pending.op ≡ op → Related past (stepped (world_of st img)) (advances 1 b.work b)
   step-of Idle e = absurd (subst (Doing st img b) e B.doing)
   step-of (Write w p l o n) e = step-write past st img b B w p l o n e
   step-of (Commit w) e = step-commit past st img b B w e
@@ -44,7 +44,7 @@ module _ (past : List ℕ) (st : State) (img : List ℕ) (b : Reference) (B : Bu
   step-of Copy e = absurd (subst (Doing st img b) e B.doing)
   step-of Format e = absurd (subst (Doing st img b) e B.doing)
 
-  pub one_store : Related past (stepped (worldOf st img)) (advances 1 b.work b)
+  pub one_store : Related past (stepped (world_of st img)) (advances 1 b.work b)
   one_store = step-of st.pending.op refl
 
 -- it keeps the sizes
@@ -66,12 +66,12 @@ unfolding stepped
 stepped-sizes v =
     let op : Op = v.st.pending.op in
     let m : ℕ = v.st.pending.made in
-    caseOn (eqb (m + 1) (needs v.st op)) (λ t. rw t (completed-sizes v.st op)) (λ t. rw t)
+    case_on (eqb (m + 1) (needs v.st op)) (λ t. rw t (completed-sizes v.st op)) (λ t. rw t)
 
-pub steppedBy-sizes : (n : ℕ) (v : World) → (steppedBy n v).st.sizes ≡ v.st.sizes
-unfolding steppedBy up_to
-steppedBy-sizes zero v = refl
-steppedBy-sizes (suc n) v = stepped-sizes (steppedBy n v) ∙ steppedBy-sizes n v
+pub stepped_by-sizes : (n : ℕ) (v : World) → (stepped_by n v).st.sizes ≡ v.st.sizes
+unfolding stepped_by up_to
+stepped_by-sizes zero v = refl
+stepped_by-sizes (suc n) v = stepped-sizes (stepped_by n v) ∙ stepped_by-sizes n v
 
 -- ---- what the reference machine has under way has the same stores left
 
@@ -100,37 +100,37 @@ idle-apart t k w e i = contradicts (ap no-work i) (ap no-work e)
 -- ---- n stores
 
 -- the reference machine with m stores left, told from any work
-pub continues-work : (t : Task) (m : ℕ) (k : Work) (b : Reference) → continues t m (withWork k b) ≡ continues t m b
+pub continues-work : (t : Task) (m : ℕ) (k : Work) (b : Reference) → continues t m (with_work k b) ≡ continues t m b
 continues-work t zero k b = refl
 continues-work t (suc m) k b = refl
 
 -- while some are left it has them under way
-continues-on : (t : Task) (m : ℕ) (b : Reference) → 0 < m → continues t m b ≡ withWork (under t m) b
+continues-on : (t : Task) (m : ℕ) (b : Reference) → 0 < m → continues t m b ≡ with_work (under t m) b
 continues-on t zero b l = absurd (omega arith)
 continues-on t (suc m) b l = refl
 
-pub work-same : (b : Reference) (k : Work) → b.work ≡ k → withWork k b ≡ b
+pub work-same : (b : Reference) (k : Work) → b.work ≡ k → with_work k b ≡ b
 work-same b k e = λ i. record { pages = b.pages; writes = b.writes; work = sym e i; wide = b.wide }
 
-one-advance : (t : Task) (m : ℕ) (b : Reference) → 0 < m → advances 1 (under t m) (withWork (under t m) b) ≡ continues t (m - 1) b
+one-advance : (t : Task) (m : ℕ) (b : Reference) → 0 < m → advances 1 (under t m) (with_work (under t m) b) ≡ continues t (m - 1) b
 one-advance t m b l =
     let e : m - min 1 m ≡ m - 1 = omega arith in
-    ap (λ (k : ℕ). continues t k (withWork (under t m) b)) e ∙ continues-work t (m - 1) (under t m) b
+    ap (λ (k : ℕ). continues t k (with_work (under t m) b)) e ∙ continues-work t (m - 1) (under t m) b
 
 -- what holds after one store of an operation that is under way holds after many
 module _ (R : World → Reference → Type 0) (one : (v : World) (b : Reference) (t : Task) (m : ℕ) → b.work ≡ under t m → R v b → R (stepped v) (advances 1 b.work b))
     (b : Reference) (t : Task) (m : ℕ) (v : World) (some : 0 < m) (work : b.work ≡ under t m) (h : R v b) where
   -- after n of the m stores that are left
-  pub many : (n : ℕ) → n ≤ m → R (steppedBy n v) (continues t (m - n) b)
-  unfolding steppedBy up_to
+  pub many : (n : ℕ) → n ≤ m → R (stepped_by n v) (continues t (m - n) b)
+  unfolding stepped_by up_to
   many zero l =
       let e : m - 0 ≡ m = omega arith in
       subst (R v) (sym (ap (λ (k : ℕ). continues t k b) e ∙ continues-on t m b some ∙ work-same b (under t m) work)) h
   many (suc n) l =
-      let u : World = steppedBy n v in
+      let u : World = stepped_by n v in
       let left : 0 < m - n = omega arith in
       let e : m - n - 1 ≡ m - suc n = omega arith in
-      let now : Reference = withWork (under t (m - n)) b in
+      let now : Reference = with_work (under t (m - n)) b in
       let r : R u now = subst (R u) (continues-on t (m - n) b left) (many n (omega arith)) in
       subst (R (stepped u)) (one-advance t (m - n) b left ∙ ap (λ (k : ℕ). continues t k b) e) (one u now t (m - n) refl r)
 
@@ -141,18 +141,18 @@ one_more past v b t m work r = one_store past v.st v.image b (⊎_elim (λ q. ab
 -- ---- the calls
 
 pub step-sound : {past : List ℕ} (v : World) (b : Reference) → Related past v b → Sound past step v b
-unfolding exec step_of stepBytes
+unfolding exec step_of step_bytes
 step-sound {past = past} v b h =
     let st = v.st in
     let img = v.image in
     let a =
-    answered-next (Related _) step v b (stepRow st img) _ (stepped (worldOf st img)).st (stepped (worldOf st img)).image h
+    answered-next (Related _) step v b (step_row st img) _ (stepped (world_of st img)).st (stepped (world_of st img)).image h
     (λ e.
-    let rows = none-apply (stepRows st img) (omega arith) e in
-    record { sizes = stepped-sizes (worldOf st img); related = one_store past st img b (is-busy st img b h rows.1.1.0) }) in
+    let rows = none-apply (step_rows st img) (omega arith) e in
+    record { sizes = stepped-sizes (world_of st img); related = one_store past st img b (is-busy st img b h rows.1.1.0) }) in
     record { right = tt; sizes = a.sizes; related = a.related }
 
-pub run-related : {past : List ℕ} (k : ℕ) (v : World) (b : Reference) → Busy past v.st v.image b → Related past (steppedBy (min k (left v.st)) v) (advances k b.work b)
+pub run-related : {past : List ℕ} (k : ℕ) (v : World) (b : Reference) → Busy past v.st v.image b → Related past (stepped_by (min k (left v.st)) v) (advances k b.work b)
 run-related {past = past} k v b B =
     let st = v.st in
     let x = doing-work st v.image b st.pending.op B.doing in
@@ -160,18 +160,18 @@ run-related {past = past} k v b B =
     let m : ℕ = left st in
     let work : b.work ≡ under t m = x.1 in
     let low = (pends st st.pending.op B.valid refl (busy-pending st v.image b B)).made-low in
-    let r : Related past (steppedBy (min k m) v) (continues t (m - min k m) b) = many (Related past) (one_more past) b t m v (omega (arith, low)) work (inr B) (min k m) (omega arith) in
-    subst (λ (w : Work). Related past (steppedBy (min k m) v) (advances k w b)) (sym work) r
+    let r : Related past (stepped_by (min k m) v) (continues t (m - min k m) b) = many (Related past) (one_more past) b t m v (omega (arith, low)) work (inr B) (min k m) (omega arith) in
+    subst (λ (w : Work). Related past (stepped_by (min k m) v) (advances k w b)) (sym work) r
 
 pub run_sound : {past : List ℕ} (k : ℕ) (v : World) (b : Reference) → Related past v b → Sound past (run k) v b
-unfolding exec run_of runBytes
+unfolding exec run_of run_bytes
 run_sound {past = past} k v b h =
     let st = v.st in
     let img = v.image in
     let n : ℕ = min k (left st) in
     let a =
-    answered-next (Related _) (run k) v b (stepRow st img) _ (steppedBy n (worldOf st img)).st (steppedBy n (worldOf st img)).image h
+    answered-next (Related _) (run k) v b (step_row st img) _ (stepped_by n (world_of st img)).st (stepped_by n (world_of st img)).image h
     (λ e.
-    let rows = none-apply (stepRows st img) (omega arith) e in
-    record { sizes = steppedBy-sizes n (worldOf st img); related = run-related k v b (is-busy st img b h rows.1.1.0) }) in
+    let rows = none-apply (step_rows st img) (omega arith) e in
+    record { sizes = stepped_by-sizes n (world_of st img); related = run-related k v b (is-busy st img b h rows.1.1.0) }) in
     record { right = tt; sizes = a.sizes; related = a.related }

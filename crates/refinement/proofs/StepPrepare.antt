@@ -7,18 +7,18 @@ use native.Mathlib.Omega.{arith}
 use lib.Dec.{ltb, eqb}
 use lib.ListN.{length}
 use borrow.Author.Tests.{ltb-true, ltb-false}
-use Rattle.bounded.proofs.Tests.{caseOn, row_keeps}
-use Rattle.layout.specs.Layout.{headWord}
+use Rattle.bounded.proofs.Tests.{case_on, row_keeps}
+use Rattle.layout.specs.Layout.{head_word}
 use Rattle.words.specs.Words.{word, store}
 use Rattle.state.specs.State.{State}
 use Rattle.state.specs.declared.Op.{Op}
 use Rattle.state.specs.declared.Op.TheVariants.{Prepare, Confirm}
 use Rattle.operations.specs.Operations.{needs}
 use Rattle.operations.proofs.Taken.{prepare-taken, CommitTaken, commit-taken, confirm-taken}
-use Rattle.refinement.specs.Commit.{commitHead}
-use Rattle.refinement.specs.Stores.{stepped, completed, storeAt, storeValue, storeMade}
-use Rattle.refinement.specs.Calls.{worldOf}
-use Rattle.refinement.specs.Reference.{Reference, idle, under, nothing, committing, withWork, advances}
+use Rattle.refinement.specs.Commit.{commit_head}
+use Rattle.refinement.specs.Stores.{stepped, completed, store_at, store_value, store_made}
+use Rattle.refinement.specs.Calls.{world_of}
+use Rattle.refinement.specs.Reference.{Reference, idle, under, nothing, committing, with_work, advances}
 use Rattle.refinement.proofs.AskPrepare.{now-prepared}
 use Rattle.refinement.proofs.CommitMid.{prepare-mid}
 use Rattle.refinement.proofs.CommitValid.{confirm-can}
@@ -41,7 +41,7 @@ module _ (past : List ℕ) (st : State) (img : List ℕ) (b : Reference) (B : Bu
   m = st.pending.made
 
   abbrev after : List ℕ
-  after = storeMade st img (Prepare w) m
+  after = store_made st img (Prepare w) m
 
   pub prepare-left : m < 4 * count st w
   prepare-left = subst (λ (n : ℕ). m < n) (prepare-needs st w) (pends st (Prepare w) B.valid e refl).made-low
@@ -49,28 +49,28 @@ module _ (past : List ℕ) (st : State) (img : List ℕ) (b : Reference) (B : Bu
   doing : b.work ≡ under nothing (needs st (Prepare w) - m)
   doing = subst (Doing st img b) e B.doing
 
-  goes_on : m + 1 < needs st (Prepare w) → Related past (stepped (worldOf st img)) (advances 1 b.work b)
+  goes_on : m + 1 < needs st (Prepare w) → Related past (stepped (world_of st img)) (advances 1 b.work b)
   goes_on h =
       step-mid past st img b B nothing (Prepare w) e refl doing h (prepare-mid past st img b B w e m prepare-left)
       (ap (λ (n : ℕ). under nothing (n - (m + 1))) (sym (needs-made st (m + 1) (Prepare w))))
 
   -- with the last store all records are there
-  complete : m + 1 ≡ needs st (Prepare w) → Quiet past (completed st (Prepare w)) after (withWork idle b)
+  complete : m + 1 ≡ needs st (Prepare w) → Quiet past (completed st (Prepare w)) after (with_work idle b)
   complete q =
       let M = prepare-mid past st img b B w e m prepare-left in
       let D = mid-durable past st img b B.durable (Prepare w) m M in
       let W : Writing st after b Never = mid-writing past st img b B.durable (Prepare w) m M (subst (λ (o : Op). Writing st img b (Changing o)) e B.writers) in
-      let landed = subst (λ (o : Op). (j : ℕ) → j < m → word img (storeAt st o j) ≡ storeValue st img o j) e B.landed in
-      now-prepared st after (withWork idle b) w B.valid (prepare-taken st w (pends st (Prepare w) B.valid e refl).taken)
-      (durable-kept st after b (withWork idle b) st.next st.writers st.pending (λ p l h k. refl) D)
+      let landed = subst (λ (o : Op). (j : ℕ) → j < m → word img (store_at st o j) ≡ store_value st img o j) e B.landed in
+      now-prepared st after (with_work idle b) w B.valid (prepare-taken st w (pends st (Prepare w) B.valid e refl).taken)
+      (durable-kept st after b (with_work idle b) st.next st.writers st.pending (λ p l h k. refl) D)
       (record { four = W.four; sixty-four = W.sixty-four; held_low = W.held_low; own-copy = W.own-copy; no_writes = W.no_writes; ready = W.ready })
       (λ j l. mid-landed past st img b B.durable (Prepare w) m M landed j (omega (arith, l, q, prepare-needs st w))) refl
       (record { state = B.narrow.state; book = B.narrow.book })
 
-  pub step-prepare : Related past (stepped (worldOf st img)) (advances 1 b.work b)
+  pub step-prepare : Related past (stepped (world_of st img)) (advances 1 b.work b)
   step-prepare =
       let k : ℕ = needs st (Prepare w) in
-      caseOn (ltb (m + 1) k)
+      case_on (ltb (m + 1) k)
       (λ t. goes_on (ltb-true (m + 1) k t))
       (λ t.
       let q : m + 1 ≡ k = omega (arith, prepare-left, prepare-needs st w, ltb-false (m + 1) k t) in
@@ -92,8 +92,8 @@ module _ (past : List ℕ) (st : State) (img : List ℕ) (b : Reference) (B : Bu
       let T = confirm-taken st w (pends st (Confirm w) B.valid e refl).taken in
       subst (Stored st img) T.prepared (B.writers.ready (omega (arith, T.prepared, T.writer-low)))
 
-  pub step-confirm : Related past (stepped (worldOf st img)) (advances 1 b.work b)
+  pub step-confirm : Related past (stepped (world_of st img)) (advances 1 b.work b)
   step-confirm =
       let low = (pends st (Confirm w) B.valid e refl).made-low in
-      step-last past st img b (Confirm w) (committing w) (store img headWord (commitHead st w)) e (subst (Doing st img b) e B.doing) (omega (arith, low, confirm-most st w)) refl
+      step-last past st img b (Confirm w) (committing w) (store img head_word (commit_head st w)) e (subst (Doing st img b) e B.doing) (omega (arith, low, confirm-most st w)) refl
       (commit-quiet past st img b B.valid B.durable (subst (λ (o : Op). Writing st img b (Changing o)) e B.writers) w confirm-pending records-ready B.narrow)

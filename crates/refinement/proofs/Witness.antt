@@ -6,7 +6,7 @@ use native.Mathlib.Omega.{arith}
 use lib.ListN.{length, length-replicate}
 use Rattle.replay.proofs.Tables.{one_value}
 use Rattle.words.specs.Words.{Bytes}
-use Rattle.layout.specs.Layout.{imageLength}
+use Rattle.layout.specs.Layout.{image_length}
 use Rattle.refinement.specs.Stores.{World}
 use Rattle.refinement.specs.Totals.{AllSpare, AllLend, NoLoad}
 use Rattle.refinement.specs.Before.{AllBytes}
@@ -20,7 +20,7 @@ pub bytes : Bytes buffer
 unfolding buffer
 bytes i = omega (arith, one_value 8448 i 0)
 
-pub fits : imageLength sizes ≤ length buffer
+pub fits : image_length sizes ≤ length buffer
 unfolding buffer
 fits = omega (arith, length-replicate {A = ℕ} 8448 0)
 

@@ -10,41 +10,41 @@ use lib.ListN.{length}
 use lib.Dec.{ltb}
 use Rattle.bounded.specs.Rows.{Row, refusal, Numbered, Past}
 use Rattle.bounded.proofs.Rows.{none-apply}
-use Rattle.bounded.proofs.Tests.{caseOn}
-use Rattle.image.specs.Lines.{lineBytes, merged, mergeChanges, lineWords}
+use Rattle.bounded.proofs.Tests.{case_on}
+use Rattle.image.specs.Lines.{line_bytes, merged, merge_changes, line_words}
 use Rattle.state.specs.State.{State}
 use Rattle.state.specs.declared.Op.{Op}
 use Rattle.state.specs.declared.Op.TheVariants.{Write, Commit, Log, Copy}
-use Rattle.state.specs.Wide.{is_wide, someWide}
-use Rattle.operations.specs.Operations.{writeRows, logRows, commitRows, opRows}
+use Rattle.state.specs.Wide.{is_wide, some_wide}
+use Rattle.operations.specs.Operations.{write_rows, log_rows, commit_rows, op_rows}
 use Rattle.operations.proofs.Taken.{ArgsGood, write-taken, log-taken, commit-alone}
-use Rattle.validity.specs.Validity.{opFits, isFresh}
-use Rattle.refinement.specs.Frames.{seenFrame, holds}
-use Rattle.refinement.specs.Calls.{rowState, rowShort, rowPending, quietRows, seenLine, finishedLine, changesNothing, writeOp, commitOp, writeCallRows}
+use Rattle.validity.specs.Validity.{op_fits, is_fresh}
+use Rattle.refinement.specs.Frames.{seen_frame, holds}
+use Rattle.refinement.specs.Calls.{row_state, row_short, row_pending, quiet_rows, seen_line, finished_line, changes_nothing, write_op, commit_op, write_call_rows}
 
 -- where there is no wide transaction, no writer is a wide one
-pub unwide : (st : State) (w : ℕ) → someWide st.wide.writer ≡ false → w < 4 → is_wide st.wide w ≡ false
+pub unwide : (st : State) (w : ℕ) → some_wide st.wide.writer ≡ false → w < 4 → is_wide st.wide w ≡ false
 unwide st w e l = ne_eqb st.wide.writer w (λ q. omega (arith, q, ltb-false st.wide.writer 4 e))
 
 -- the line in the frame that the writer sees, and the rows of a narrow write
-abbrev pub frameLine : State → List ℕ → ℕ → ℕ → ℕ → List ℕ
-frameLine st img w p l = lineBytes img st.sizes (seenFrame st w p l) l
+abbrev pub frame_line : State → List ℕ → ℕ → ℕ → ℕ → List ℕ
+frame_line st img w p l = line_bytes img st.sizes (seen_frame st w p l) l
 
 module _ (st : State) (img : List ℕ) (w : ℕ) (other : is_wide st.wide w ≡ false) where
-  pub seen-narrow : (p l : ℕ) → seenLine st img w p l ≡ frameLine st img w p l
+  pub seen-narrow : (p l : ℕ) → seen_line st img w p l ≡ frame_line st img w p l
   seen-narrow p l = rw other
 
-  pub finished-narrow : (p l o n : ℕ) (bytes : List ℕ) → finishedLine st img w p l o n bytes ≡ lineWords (merged (frameLine st img w p l) o n bytes)
-  finished-narrow p l o n bytes = ap (λ (x : List ℕ). lineWords (merged x o n bytes)) (seen-narrow p l)
+  pub finished-narrow : (p l o n : ℕ) (bytes : List ℕ) → finished_line st img w p l o n bytes ≡ line_words (merged (frame_line st img w p l) o n bytes)
+  finished-narrow p l o n bytes = ap (λ (x : List ℕ). line_words (merged x o n bytes)) (seen-narrow p l)
 
-  pub changes-narrow : (p l o n : ℕ) (bytes : List ℕ) → changesNothing st img w p l o n bytes ≡ holds st w p l && not (mergeChanges (frameLine st img w p l) o n bytes)
-  unfolding changesNothing
+  pub changes-narrow : (p l o n : ℕ) (bytes : List ℕ) → changes_nothing st img w p l o n bytes ≡ holds st w p l && not (merge_changes (frame_line st img w p l) o n bytes)
+  unfolding changes_nothing
   changes-narrow p l o n bytes = rw other
 
-  pub write-narrow : (p l o n : ℕ) → writeOp st w p l o n ≡ Write w p l o n
+  pub write-narrow : (p l o n : ℕ) → write_op st w p l o n ≡ Write w p l o n
   write-narrow p l o n = ap (λ (x : Bool). cond x (Log p l o n) (Write w p l o n)) other
 
-  pub commit-narrow : commitOp st w ≡ Commit w
+  pub commit-narrow : commit_op st w ≡ Commit w
   commit-narrow = ap (λ (x : Bool). cond x Copy (Commit w)) other
 
 -- no row applies, so none of those past the first ones does
@@ -68,27 +68,27 @@ first_rows (r ∷ rs) qs n e = keep_row r.0 r.1 (refusal (rs ++ qs)) (refusal rs
 -- ---- of any writer: what it asks for fits, and no row of it applies where none of the call's does
 
 module _ (st : State) (w : ℕ) where
-  pub write-fits : (p l o n : ℕ) → opFits st.wide.writer (isFresh st) (writeOp st w p l o n) ≡ true
-  write-fits p l o n = caseOn (is_wide st.wide w) (λ t. rw t) (λ t. rw t (ap not t))
+  pub write-fits : (p l o n : ℕ) → op_fits st.wide.writer (is_fresh st) (write_op st w p l o n) ≡ true
+  write-fits p l o n = case_on (is_wide st.wide w) (λ t. rw t) (λ t. rw t (ap not t))
 
-  pub commit-fits : opFits st.wide.writer (isFresh st) (commitOp st w) ≡ true
-  commit-fits = caseOn (is_wide st.wide w) (λ t. rw t) (λ t. rw t (ap not t))
+  pub commit-fits : op_fits st.wide.writer (is_fresh st) (commit_op st w) ≡ true
+  commit-fits = case_on (is_wide st.wide w) (λ t. rw t) (λ t. rw t (ap not t))
 
-  pub commit-op-row : refusal (commitRows st w) ≡ 0 → refusal (opRows st (commitOp st w)) ≡ 0
-  commit-op-row r = caseOn (is_wide st.wide w) (λ t. rw (t, commit-alone st w r)) (λ t. rw t r)
+  pub commit-op-row : refusal (commit_rows st w) ≡ 0 → refusal (op_rows st (commit_op st w)) ≡ 0
+  commit-op-row r = case_on (is_wide st.wide w) (λ t. rw (t, commit-alone st w r)) (λ t. rw t r)
 
 -- of a write the rows after the first four; what these say; and its arguments
-module _ (st : State) (img : List ℕ) (w p l o n : ℕ) (bytes : List ℕ) (r : refusal (writeCallRows st img w p l o n bytes) ≡ 0) where
+module _ (st : State) (img : List ℕ) (w p l o n : ℕ) (bytes : List ℕ) (r : refusal (write_call_rows st img w p l o n bytes) ≡ 0) where
   abbrev first : List Row
-  first = quietRows st (length img) ++ ((ltb (length bytes) n, 11) ∷ [])
+  first = quiet_rows st (length img) ++ ((ltb (length bytes) n, 11) ∷ [])
 
   abbrev rest : List Row
-  rest = cond (is_wide st.wide w) (logRows st p l o n) (writeRows st w p l o n)
+  rest = cond (is_wide st.wide w) (log_rows st p l o n) (write_rows st w p l o n)
 
-  pub write-op-row : refusal (opRows st (writeOp st w p l o n)) ≡ 0
+  pub write-op-row : refusal (op_rows st (write_op st w p l o n)) ≡ 0
   write-op-row =
       let e : refusal rest ≡ 0 = past-rows first rest (omega arith) r in
-      caseOn (is_wide st.wide w) (λ t. rw t (rw t at e)) (λ t. rw t (rw t at e))
+      case_on (is_wide st.wide w) (λ t. rw t (rw t at e)) (λ t. rw t (rw t at e))
 
   pub write-first : Past first 4
   write-first = none-apply first (omega arith) (first_rows first rest (omega arith) r)
@@ -96,6 +96,6 @@ module _ (st : State) (img : List ℕ) (w p l o n : ℕ) (bytes : List ℕ) (r :
   pub write-args : ArgsGood st.sizes w p l o n
   write-args =
       let e : refusal rest ≡ 0 = past-rows first rest (omega arith) r in
-      caseOn (is_wide st.wide w)
+      case_on (is_wide st.wide w)
       (λ t. subst (λ (x : ℕ). ArgsGood st.sizes x p l o n) (eqb-true st.wide.writer w t) (log-taken st p l o n (rw t at e)).args)
       (λ t. (write-taken st w p l o n (rw t at e)).args)

@@ -4,40 +4,40 @@ use Rattle.std.specs.Prelude.{ℕ, ◌≤◌, true, List, [], ◌∷◌, ◌≡�
 use Rattle.bounded.specs.Rows.{refusal}
 use Rattle.words.specs.Words.{Bytes}
 use Rattle.layout.specs.declared.Sizes.{Sizes}
-use Rattle.layout.specs.Layout.{sizesOk, imageLength}
+use Rattle.layout.specs.Layout.{sizes_ok, image_length}
 use Rattle.state.specs.State.{State}
 use Rattle.refinement.specs.Outcome.{Outcome}
 use Rattle.refinement.specs.Stores.{World}
-use Rattle.refinement.specs.Calls.{asked, finishedLine, writeOp, writeCallRows}
-use Rattle.refinement.specs.Run.{Call, Result, mount, checkpoint, free, step, begin, beginWide, abort, commit, prepare, confirm, withdraw}
-use Rattle.refinement.specs.Run.{consolidate, run, write, read, recall, event, load, result, exec, formattedWorld}
+use Rattle.refinement.specs.Calls.{asked, finished_line, write_op, write_call_rows}
+use Rattle.refinement.specs.Run.{Call, Result, mount, checkpoint, free, step, begin, begin_wide, abort, commit, prepare, confirm, withdraw}
+use Rattle.refinement.specs.Run.{consolidate, run, write, read, recall, event, load, result, exec, formatted_world}
 use Rattle.refinement.specs.Statement.{Lent}
 
 -- the write before this change: every taken one needs its stores
-unfoldable pub writeBefore : State → List ℕ → ℕ → ℕ → ℕ → ℕ → ℕ → List ℕ → Outcome
-writeBefore st img w p l o n bytes =
-    asked (refusal (writeCallRows st img w p l o n bytes)) st (writeOp st w p l o n) (finishedLine st img w p l o n bytes)
+unfoldable pub write_before : State → List ℕ → ℕ → ℕ → ℕ → ℕ → ℕ → List ℕ → Outcome
+write_before st img w p l o n bytes =
+    asked (refusal (write_call_rows st img w p l o n bytes)) st (write_op st w p l o n) (finished_line st img w p l o n bytes)
 
 -- the calls before this change
-unfoldable pub execBefore : Call → World → Result
-execBefore (write w p l o n bytes) v = result (writeBefore v.st v.image w p l o n bytes) v.image
-execBefore mount v = exec mount v
-execBefore checkpoint v = exec checkpoint v
-execBefore free v = exec free v
-execBefore step v = exec step v
-execBefore (begin w) v = exec (begin w) v
-execBefore (beginWide w) v = exec (beginWide w) v
-execBefore (abort w) v = exec (abort w) v
-execBefore (commit w) v = exec (commit w) v
-execBefore (prepare w) v = exec (prepare w) v
-execBefore (confirm w) v = exec (confirm w) v
-execBefore (withdraw w) v = exec (withdraw w) v
-execBefore (consolidate p) v = exec (consolidate p) v
-execBefore (run k) v = exec (run k) v
-execBefore (read w p l target) v = exec (read w p l target) v
-execBefore (recall p l target) v = exec (recall p l target) v
-execBefore (event ms k m a) v = exec (event ms k m a) v
-execBefore (load text) v = exec (load text) v
+unfoldable pub exec_before : Call → World → Result
+exec_before (write w p l o n bytes) v = result (write_before v.st v.image w p l o n bytes) v.image
+exec_before mount v = exec mount v
+exec_before checkpoint v = exec checkpoint v
+exec_before free v = exec free v
+exec_before step v = exec step v
+exec_before (begin w) v = exec (begin w) v
+exec_before (begin_wide w) v = exec (begin_wide w) v
+exec_before (abort w) v = exec (abort w) v
+exec_before (commit w) v = exec (commit w) v
+exec_before (prepare w) v = exec (prepare w) v
+exec_before (confirm w) v = exec (confirm w) v
+exec_before (withdraw w) v = exec (withdraw w) v
+exec_before (consolidate p) v = exec (consolidate p) v
+exec_before (run k) v = exec (run k) v
+exec_before (read w p l target) v = exec (read w p l target) v
+exec_before (recall p l target) v = exec (recall p l target) v
+exec_before (event ms k m a) v = exec (event ms k m a) v
+exec_before (load text) v = exec (load text) v
 
 -- a call with a run to its end behind it; or cut after k stores, or after all that it needs if they are fewer: a mount stands for the cut. A call that
 -- needs no stores leaves nothing to run: the run is turned back and changes nothing
@@ -65,11 +65,11 @@ AllBytes (x ∷ xs) = Lent (call_of x) × AllBytes xs
 
 -- state and image are those of the calls before this change, and so is what any recall then answers and shows
 pub record SameAsBefore (xs : List Whole) (v : World) : Type 0 where
-  pub world : played exec xs v ≡ played execBefore xs v
-  pub screen : (p l : ℕ) (target : List ℕ) → exec (recall p l target) (played exec xs v) ≡ execBefore (recall p l target) (played execBefore xs v)
+  pub world : played exec xs v ≡ played exec_before xs v
+  pub screen : (p l : ℕ) (target : List ℕ) → exec (recall p l target) (played exec xs v) ≡ exec_before (recall p l target) (played exec_before xs v)
 
 -- of every list on a freshly formatted buffer
 abbrev pub AsBefore : Type 0
 AsBefore =
-    (z : Sizes) → sizesOk z ≡ true → (buffer : List ℕ) → Bytes buffer → imageLength z ≤ length buffer
-    → (xs : List Whole) → AllBytes xs → SameAsBefore xs (formattedWorld z buffer)
+    (z : Sizes) → sizes_ok z ≡ true → (buffer : List ℕ) → Bytes buffer → image_length z ≤ length buffer
+    → (xs : List Whole) → AllBytes xs → SameAsBefore xs (formatted_world z buffer)

@@ -3,17 +3,17 @@
 use Rattle.std.specs.Prelude.{ℕ, ◌+◌, ◌*◌, ◌<◌, ◌≤◌, min, Bool, true, false, ◌&&◌, cond, List, [], ◌∷◌, ◌⊎◌, ◌≡◌, ltb, leb, length, drop}
 use Rattle.words.specs.Words.{Bytes, word}
 use Rattle.layout.specs.declared.Sizes.{Sizes}
-use Rattle.layout.specs.Layout.{sizesOk, imageLength, pageWord}
-use Rattle.journal.specs.Slots.{freeSlot}
-use Rattle.replay.specs.Table.{slotIn, lastIn}
-use Rattle.state.specs.State.{State, ownFrame}
+use Rattle.layout.specs.Layout.{sizes_ok, image_length, page_word}
+use Rattle.journal.specs.Slots.{free_slot}
+use Rattle.replay.specs.Table.{slot_in, last_in}
+use Rattle.state.specs.State.{State, own_frame}
 use Rattle.state.specs.declared.Op.TheVariants.{Checkpoint}
 use Rattle.operations.specs.Operations.{needs}
-use Rattle.refinement.specs.Stores.{World, storeAt, left}
+use Rattle.refinement.specs.Stores.{World, store_at, left}
 use Rattle.state.specs.Wide.{is_wide}
-use Rattle.refinement.specs.Wide.{isCopy, shownLine}
-use Rattle.refinement.specs.Run.{Call, mount, checkpoint, step, commit, confirm, run, exec, formattedWorld, after}
-use Rattle.refinement.specs.Reference.{Reference, blank, turn, readLine, recallLine}
+use Rattle.refinement.specs.Wide.{is_copy, shown_line}
+use Rattle.refinement.specs.Run.{Call, mount, checkpoint, step, commit, confirm, run, exec, formatted_world, after}
+use Rattle.refinement.specs.Reference.{Reference, blank, turn, read_line, recall_line}
 use Rattle.refinement.specs.Statement.{AllLent}
 
 -- the reference machine after a list of calls, fed as in demand 3
@@ -24,19 +24,19 @@ follows (c ∷ cs) v b = let d = exec c v in follows cs d.world (turn c d.number
 -- after every list of calls, the sentence P holds of the sizes and the buffer formatted, the world reached and the reference machine
 abbrev pub Always : (Sizes → List ℕ → World → Reference → Type 0) → Type 0
 Always P =
-    (z : Sizes) → sizesOk z ≡ true → (buffer : List ℕ) → Bytes buffer → imageLength z ≤ length buffer
+    (z : Sizes) → sizes_ok z ≡ true → (buffer : List ℕ) → Bytes buffer → image_length z ≤ length buffer
     → (calls : List Call) → AllLent calls
-    → P z buffer (after calls (formattedWorld z buffer)) (follows calls (formattedWorld z buffer) blank)
+    → P z buffer (after calls (formatted_world z buffer)) (follows calls (formatted_world z buffer) blank)
 
 -- ---- demand 2: a mount reads back what is committed
 
 -- the entries of a wide transaction that are committed and not yet copied: those that word 6 counts
 abbrev pub counted : State → ℕ
-counted st = cond (isCopy st.pending.op && ltb 0 st.pending.made) st.wide.count 0
+counted st = cond (is_copy st.pending.op && ltb 0 st.pending.made) st.wide.count 0
 
 -- line l of page p in the image, where a state says that its committed line lies
 abbrev pub line_of : List ℕ → State → ℕ → ℕ → List ℕ
-line_of img st p l = shownLine img (ownFrame st) st.sizes st.table (counted st) st.wide.keys p l
+line_of img st p l = shown_line img (own_frame st) st.sizes st.table (counted st) st.wide.keys p l
 
 -- a mount (which stands for a power cut) is taken and finds these lines, by page and line
 pub record Finds (z : Sizes) (v : World) (lines : ℕ → ℕ → List ℕ) : Type 0 where
@@ -46,24 +46,24 @@ pub record Finds (z : Sizes) (v : World) (lines : ℕ → ℕ → List ℕ) : Ty
 -- a write took slot s for a page and nothing of it is committed: the page's frame is still the one in the page table, no line is in the
 -- spare, and the mounted state m has the slot free with the same spare
 pub record Uncommitted (img : List ℕ) (st m : State) (s : ℕ) : Type 0 where
-  pub page-low : (slotIn st.table s).page < st.sizes.pages
-  pub original : (slotIn st.table s).original ≡ word img (pageWord (slotIn st.table s).page)
-  pub bitmap : (slotIn st.table s).bitmap ≡ 0
-  pub free : slotIn m.table s ≡ freeSlot (slotIn st.table s).spare
+  pub page-low : (slot_in st.table s).page < st.sizes.pages
+  pub original : (slot_in st.table s).original ≡ word img (page_word (slot_in st.table s).page)
+  pub bitmap : (slot_in st.table s).bitmap ≡ 0
+  pub free : slot_in m.table s ≡ free_slot (slot_in st.table s).spare
 
 -- the mounted state m has the sizes, head, tail, last positions, committed slots and map of the state st, and finds its committed lines
 pub record ReadsBack (img : List ℕ) (st m : State) : Type 0 where
   pub sizes : m.sizes ≡ st.sizes
   pub head : m.head ≡ st.head
   pub tail : m.tail ≡ st.tail
-  pub last : (s : ℕ) → s < st.sizes.slots → lastIn m.table s ≡ lastIn st.table s
-  pub slot : (s : ℕ) → s < st.sizes.slots → (slotIn m.table s ≡ slotIn st.table s) ⊎ Uncommitted img st m s
-  pub map : (p : ℕ) → p < st.sizes.pages → ownFrame m p ≡ ownFrame st p
+  pub last : (s : ℕ) → s < st.sizes.slots → last_in m.table s ≡ last_in st.table s
+  pub slot : (s : ℕ) → s < st.sizes.slots → (slot_in m.table s ≡ slot_in st.table s) ⊎ Uncommitted img st m s
+  pub map : (p : ℕ) → p < st.sizes.pages → own_frame m p ≡ own_frame st p
   pub line : (p l : ℕ) → p < st.sizes.pages → l < 64 → line_of img m p l ≡ line_of img st p l
 
 -- after any list a mount is taken, finds the reference machine's pages, and reads the state back
 abbrev pub MountReadsBack : Type 0
-MountReadsBack = Always (λ z buffer v b. Finds z v (recallLine b) × ReadsBack v.image v.st (exec mount v).world.st)
+MountReadsBack = Always (λ z buffer v b. Finds z v (recall_line b) × ReadsBack v.image v.st (exec mount v).world.st)
 
 -- ---- no call is turned back for a broken image, buffer or state
 
@@ -80,11 +80,11 @@ NeverRefused = Always (λ z buffer v b. (c : Call) → broken (exec c v).number 
 -- the eight bytes of each store of the operation that is pending lie inside the image
 abbrev pub StoresInside : Type 0
 StoresInside =
-    Always (λ z buffer v b. (i : ℕ) → i < needs v.st v.st.pending.op → 8 * storeAt v.st v.st.pending.op i + 8 ≤ imageLength z)
+    Always (λ z buffer v b. (i : ℕ) → i < needs v.st v.st.pending.op → 8 * store_at v.st v.st.pending.op i + 8 ≤ image_length z)
 
 -- the bytes past the image are those of the buffer
 abbrev pub PastKept : Type 0
-PastKept = Always (λ z buffer v b. drop (imageLength z) v.image ≡ drop (imageLength z) buffer)
+PastKept = Always (λ z buffer v b. drop (image_length z) v.image ≡ drop (image_length z) buffer)
 
 -- ---- a commit is whole or absent, and so is a confirm
 
@@ -95,8 +95,8 @@ deciding v c w = cond (is_wide v.st.wide w) (min 1 (exec c v).stores) (exec c v)
 -- c, a commit or a confirm by writer w, is asked for, a run of k follows, and power goes: with fewer stores made a mount finds every page as it was before
 -- the call; with so many, as the writer read it
 pub record Whole (z : Sizes) (v : World) (b : Reference) (c : Call) (w k : ℕ) : Type 0 where
-  pub absent : k < deciding v c w → Finds z (exec (run k) (exec c v).world).world (recallLine b)
-  pub landed : deciding v c w ≤ k → Finds z (exec (run k) (exec c v).world).world (readLine b w)
+  pub absent : k < deciding v c w → Finds z (exec (run k) (exec c v).world).world (recall_line b)
+  pub landed : deciding v c w ≤ k → Finds z (exec (run k) (exec c v).world).world (read_line b w)
 
 -- every one of the two that is taken
 pub record WholeOrAbsent (z : Sizes) (v : World) (b : Reference) : Type 0 where

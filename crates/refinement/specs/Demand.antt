@@ -2,10 +2,10 @@
 -- the reference machine fed the same calls. A list may end anywhere, so each sentence holds before and after every call of every list.
 use Rattle.std.specs.Prelude.{ℕ, false, List, ◌≡◌, drop}
 use Rattle.layout.specs.declared.Sizes.{Sizes}
-use Rattle.layout.specs.Layout.{imageLength}
+use Rattle.layout.specs.Layout.{image_length}
 use Rattle.refinement.specs.Stores.{World}
 use Rattle.refinement.specs.Run.{Call, mount, exec}
-use Rattle.refinement.specs.Reference.{Reference, recallLine}
+use Rattle.refinement.specs.Reference.{Reference, recall_line}
 use Rattle.refinement.specs.Statement.{Right, Lent}
 use Rattle.refinement.specs.Beside.{Always, Finds, ReadsBack, WholeOrAbsent, MakesRoom, broken}
 use Rattle.refinement.specs.Refused.{Unchanged, target_of}
@@ -25,10 +25,10 @@ pub record Demand (z : Sizes) (buffer : List ℕ) (v : World) (b : Reference) : 
   -- right after a checkpoint no call lacks journal space
   pub room : MakesRoom v
   -- a mount finds the reference machine's pages, and reads back the state's committed pages, committed slots and journal
-  pub finds : Finds z v (recallLine b)
+  pub finds : Finds z v (recall_line b)
   pub reads-back : ReadsBack v.image v.st (exec mount v).world.st
   -- the bytes past the image are the buffer's
-  pub past : drop (imageLength z) v.image ≡ drop (imageLength z) buffer
+  pub past : drop (image_length z) v.image ≡ drop (image_length z) buffer
 
 abbrev pub EveryDemand : Type 0
 EveryDemand = Always Demand

@@ -2,9 +2,9 @@
 use Rattle.std.specs.Prelude.{ℕ, false, List, ◌∷◌, ◌⊎◌, ◌↔◌, ◌≡◌, length, get_or}
 use Rattle.bounded.specs.Rows.{refusal}
 use Rattle.state.specs.State.{State}
-use Rattle.state.specs.Held.{somePrepared}
+use Rattle.state.specs.Held.{some_prepared}
 use Rattle.refinement.specs.Freeing.{Freeable, Chosen}
-use Rattle.refinement.specs.Calls.{quietRows, worldOf, consolidateOf, freeOf}
+use Rattle.refinement.specs.Calls.{quiet_rows, world_of, consolidate_of, free_of}
 use Rattle.refinement.specs.Run.{Call, consolidate, free, after}
 
 -- there is a slot to choose, or none may be freed;
@@ -13,10 +13,10 @@ use Rattle.refinement.specs.Run.{Call, consolidate, free, after}
 -- it is turned back with 22 exactly if rows 8, 4 and 9 do not apply, no writer is prepared and no slot may be freed
 pub record Frees (st : State) (img : List ℕ) : Type 0 where
   pub choice : ((s : ℕ) × Chosen st s) ⊎ ((s : ℕ) → Freeable st s → ⊥)
-  pub as-consolidate : (s : ℕ) → Chosen st s → freeOf st img ≡ consolidateOf st img (get_or st.table.page s 0)
-  pub later : (s : ℕ) → Chosen st s → (calls : List Call) → after (free ∷ calls) (worldOf st img)
-      ≡ after (consolidate (get_or st.table.page s 0) ∷ calls) (worldOf st img)
-  pub none : ((freeOf st img).number ≡ 22) ↔ ((refusal (quietRows st (length img)) ≡ 0) × (somePrepared st.writers.prepared ≡ false)
+  pub as-consolidate : (s : ℕ) → Chosen st s → free_of st img ≡ consolidate_of st img (get_or st.table.page s 0)
+  pub later : (s : ℕ) → Chosen st s → (calls : List Call) → after (free ∷ calls) (world_of st img)
+      ≡ after (consolidate (get_or st.table.page s 0) ∷ calls) (world_of st img)
+  pub none : ((free_of st img).number ≡ 22) ↔ ((refusal (quiet_rows st (length img)) ≡ 0) × (some_prepared st.writers.prepared ≡ false)
       × ((s : ℕ) → Freeable st s → ⊥))
 
 abbrev pub FreesSlot : Type 0

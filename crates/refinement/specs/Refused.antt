@@ -1,10 +1,10 @@
 -- On any state and any bytes: a refused call changes no state and no byte, whatever the number (demand 1), and no call touches a byte past the image.
 use Rattle.std.specs.Prelude.{ℕ, List, [], ◌≡◌, length, drop, replicate}
 use Rattle.layout.specs.declared.Sizes.{Sizes}
-use Rattle.layout.specs.Layout.{imageLength}
-use Rattle.fresh.specs.Fresh.{formatBytes}
+use Rattle.layout.specs.Layout.{image_length}
+use Rattle.fresh.specs.Fresh.{format_bytes}
 use Rattle.refinement.specs.Stores.{World}
-use Rattle.refinement.specs.Run.{Call, Result, mount, checkpoint, free, step, begin, beginWide, abort, commit, prepare, confirm, withdraw}
+use Rattle.refinement.specs.Run.{Call, Result, mount, checkpoint, free, step, begin, begin_wide, abort, commit, prepare, confirm, withdraw}
 use Rattle.refinement.specs.Run.{consolidate, run, write, read, recall, event, load, exec}
 
 -- the target that a read or a recall is lent, and of a load the moduli that a refused one gives; no other call has one
@@ -16,7 +16,7 @@ target_of checkpoint = []
 target_of free = []
 target_of step = []
 target_of (begin w) = []
-target_of (beginWide w) = []
+target_of (begin_wide w) = []
 target_of (abort w) = []
 target_of (commit w) = []
 target_of (prepare w) = []
@@ -45,5 +45,5 @@ pub record SamePast (n : ℕ) (img after : List ℕ) : Type 0 where
   pub as_long : length after ≡ length img
 
 pub record PastUntouched : Type 0 where
-  pub format : (z : Sizes) (buffer : List ℕ) → SamePast (imageLength z) buffer (formatBytes z buffer)
-  pub call : (c : Call) (v : World) → SamePast (imageLength v.st.sizes) v.image (exec c v).world.image
+  pub format : (z : Sizes) (buffer : List ℕ) → SamePast (image_length z) buffer (format_bytes z buffer)
+  pub call : (c : Call) (v : World) → SamePast (image_length v.st.sizes) v.image (exec c v).world.image

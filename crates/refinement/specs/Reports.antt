@@ -1,12 +1,12 @@
 -- What a taken call reports as its stores (document 01, "Calls"), on any state and any bytes.
 use Rattle.std.specs.Prelude.{ℕ, ◌+◌, min, ◌≡◌}
-use Rattle.refinement.specs.Stores.{World, storesMade, left}
-use Rattle.refinement.specs.Run.{Call, Result, mount, checkpoint, free, step, begin, beginWide, abort, commit, prepare, confirm, withdraw}
+use Rattle.refinement.specs.Stores.{World, stores_made, left}
+use Rattle.refinement.specs.Run.{Call, Result, mount, checkpoint, free, step, begin, begin_wide, abort, commit, prepare, confirm, withdraw}
 use Rattle.refinement.specs.Run.{consolidate, run, write, read, recall, event, load, exec}
 
 -- n stores lead from world v to world u: they are the next n of the operation that is pending, and n fewer are left of it
 pub record Made (n : ℕ) (v u : World) : Type 0 where
-  pub image : u.image ≡ storesMade v.st n v.image
+  pub image : u.image ≡ stores_made v.st n v.image
   pub fewer : left u.st + n ≡ left v.st
 
 -- an operation that needs n stores is asked for in world v: none is made, and all are left; with n = 0 it is complete
@@ -28,7 +28,7 @@ Reports checkpoint d v = Needs d.stores v d.world
 Reports (event ms k m a) d v = Needs d.stores v d.world
 Reports mount d v = d.stores ≡ 0
 Reports (begin w) d v = d.stores ≡ 0
-Reports (beginWide w) d v = d.stores ≡ 0
+Reports (begin_wide w) d v = d.stores ≡ 0
 Reports (abort w) d v = d.stores ≡ 0
 Reports (withdraw w) d v = d.stores ≡ 0
 Reports (read w p l target) d v = d.stores ≡ 0

@@ -1,19 +1,19 @@
 -- Calls as data: one call of document 01 with its arguments, what it does to a state and an image, and lists of calls.
 use Rattle.std.specs.Prelude.{ℕ, Bool, cond, List, [], ◌∷◌, eqb}
 use Rattle.layout.specs.declared.Sizes.{Sizes}
-use Rattle.fresh.specs.Fresh.{formatBytes}
+use Rattle.fresh.specs.Fresh.{format_bytes}
 use Rattle.state.specs.State.{State}
 use Rattle.refinement.specs.Stores.{World}
 use Rattle.refinement.specs.Outcome.{Outcome}
-use Rattle.refinement.specs.Calls.{beginOf, beginWideOf, abortOf, writeOf, commitOf, prepareOf, confirmOf, withdrawOf, consolidateOf, freeOf}
-use Rattle.refinement.specs.Calls.{checkpointOf, readRow, readBytes, step_of, stepBytes, run_of, runBytes, eventOf, load_of}
-use Rattle.refinement.specs.Mount.{mountCall, formatCall}
-use Rattle.refinement.specs.Recall.{recallRow, recallBytes}
+use Rattle.refinement.specs.Calls.{begin_of, begin_wide_of, abort_of, write_of, commit_of, prepare_of, confirm_of, withdraw_of, consolidate_of, free_of}
+use Rattle.refinement.specs.Calls.{checkpoint_of, read_row, read_bytes, step_of, step_bytes, run_of, run_bytes, event_of, load_of}
+use Rattle.refinement.specs.Mount.{mount_call, format_call}
+use Rattle.refinement.specs.Recall.{recall_row, recall_bytes}
 
 -- the calls that may follow a taken format
 pub data Call : Type 0 where
   mount checkpoint free step : Call
-  begin beginWide abort commit prepare confirm withdraw consolidate run : ℕ → Call
+  begin begin_wide abort commit prepare confirm withdraw consolidate run : ℕ → Call
   -- writer, page, line, offset, length, data
   write : ℕ → ℕ → ℕ → ℕ → ℕ → List ℕ → Call
   -- writer, page, line, the target's bytes
@@ -41,30 +41,30 @@ replaces o v =
     record { number = o.number; stores = o.stores; world = record { st = cond (eqb o.number 0) o.state v.st; image = v.image }; target = [] }
 
 unfoldable pub exec : Call → World → Result
-exec mount v = replaces (mountCall v.image) v
-exec checkpoint v = result (checkpointOf v.st v.image) v.image
-exec free v = result (freeOf v.st v.image) v.image
-exec step v = result (step_of v.st v.image) (stepBytes v.st v.image)
-exec (begin w) v = result (beginOf v.st w) v.image
-exec (beginWide w) v = result (beginWideOf v.st w) v.image
-exec (abort w) v = result (abortOf v.st w) v.image
-exec (commit w) v = result (commitOf v.st v.image w) v.image
-exec (prepare w) v = result (prepareOf v.st v.image w) v.image
-exec (confirm w) v = result (confirmOf v.st v.image w) v.image
-exec (withdraw w) v = result (withdrawOf v.st v.image w) v.image
-exec (consolidate p) v = result (consolidateOf v.st v.image p) v.image
-exec (run k) v = result (run_of v.st v.image k) (runBytes v.st v.image k)
-exec (write w p l o n bytes) v = result (writeOf v.st v.image w p l o n bytes) v.image
+exec mount v = replaces (mount_call v.image) v
+exec checkpoint v = result (checkpoint_of v.st v.image) v.image
+exec free v = result (free_of v.st v.image) v.image
+exec step v = result (step_of v.st v.image) (step_bytes v.st v.image)
+exec (begin w) v = result (begin_of v.st w) v.image
+exec (begin_wide w) v = result (begin_wide_of v.st w) v.image
+exec (abort w) v = result (abort_of v.st w) v.image
+exec (commit w) v = result (commit_of v.st v.image w) v.image
+exec (prepare w) v = result (prepare_of v.st v.image w) v.image
+exec (confirm w) v = result (confirm_of v.st v.image w) v.image
+exec (withdraw w) v = result (withdraw_of v.st v.image w) v.image
+exec (consolidate p) v = result (consolidate_of v.st v.image p) v.image
+exec (run k) v = result (run_of v.st v.image k) (run_bytes v.st v.image k)
+exec (write w p l o n bytes) v = result (write_of v.st v.image w p l o n bytes) v.image
 exec (read w p l target) v =
-    record { number = readRow v.st v.image w p l target; stores = 0; world = v; target = readBytes v.st v.image w p l target }
+    record { number = read_row v.st v.image w p l target; stores = 0; world = v; target = read_bytes v.st v.image w p l target }
 exec (recall p l target) v =
-    record { number = recallRow v.image p l target; stores = 0; world = v; target = recallBytes v.image p l target }
-exec (event ms k m a) v = result (eventOf v.st v.image ms k m a) v.image
+    record { number = recall_row v.image p l target; stores = 0; world = v; target = recall_bytes v.image p l target }
+exec (event ms k m a) v = result (event_of v.st v.image ms k m a) v.image
 exec (load text) v = let o = load_of v.st v.image text in record { number = o.number; stores = 0; world = v; target = o.moduli }
 
 -- where a format leaves the bytes lent and the state
-abbrev pub formattedWorld : Sizes → List ℕ → World
-formattedWorld z buffer = record { st = (formatCall z buffer).state; image = formatBytes z buffer }
+abbrev pub formatted_world : Sizes → List ℕ → World
+formatted_world z buffer = record { st = (format_call z buffer).state; image = format_bytes z buffer }
 
 -- the world after a list of calls
 unfoldable pub after : List Call → World → World

@@ -7,17 +7,17 @@ use Rattle.state.specs.declared.Op.{Op}
 use Rattle.state.specs.declared.Op.TheVariants.{Idle}
 
 -- no operation pending
-abbrev pub noPending : Pending
-noPending = record { op = Idle; made = 0; line = replicate 8 0; second = replicate 8 0 }
+abbrev pub no_pending : Pending
+no_pending = record { op = Idle; made = 0; line = replicate 8 0; second = replicate 8 0 }
 
 -- the state with other head, tail, next slot, slots and writers, and no operation pending; the map and the wide transaction stay
 abbrev pub settled : State → ℕ → ℕ → ℕ → Table → Writers → State
 settled st head tail next t ws =
-    record { sizes = st.sizes; head = head; tail = tail; next = next; table = t; map = st.map; writers = ws; wide = st.wide; pending = noPending }
+    record { sizes = st.sizes; head = head; tail = tail; next = next; table = t; map = st.map; writers = ws; wide = st.wide; pending = no_pending }
 
 -- the state with writers ws
-abbrev pub withWriters : State → Writers → State
-withWriters st ws =
+abbrev pub with_writers : State → Writers → State
+with_writers st ws =
     record {
       sizes = st.sizes;
       head = st.head;
@@ -31,8 +31,8 @@ withWriters st ws =
     }
 
 -- the state with the wide transaction d
-abbrev pub withWide : State → Wide → State
-withWide st d =
+abbrev pub with_wide : State → Wide → State
+with_wide st d =
     record {
       sizes = st.sizes;
       head = st.head;
@@ -46,8 +46,8 @@ withWide st d =
     }
 
 -- the state with the map m
-abbrev pub withMap : State → List ℕ → State
-withMap st m =
+abbrev pub with_map : State → List ℕ → State
+with_map st m =
     record {
       sizes = st.sizes;
       head = st.head;
@@ -61,12 +61,12 @@ withMap st m =
     }
 
 -- the writers with writer w prepared
-abbrev pub withPrepared : Writers → ℕ → Writers
-withPrepared ws w = record { opened = ws.opened; held = ws.held; prepared = w }
+abbrev pub with_prepared : Writers → ℕ → Writers
+with_prepared ws w = record { opened = ws.opened; held = ws.held; prepared = w }
 
 -- the state with writer w open and no operation pending
-abbrev pub withOpen : State → ℕ → State
-withOpen st w =
+abbrev pub with_open : State → ℕ → State
+with_open st w =
     settled st st.head st.tail st.next st.table (record {
       opened = set st.writers.opened w true;
       held = st.writers.held;
@@ -74,8 +74,8 @@ withOpen st w =
     })
 
 -- the state with an operation pending, none of its stores made; with two finished lines, and with one
-abbrev pub withLines : State → Op → List ℕ → List ℕ → State
-withLines st op line second =
+abbrev pub with_lines : State → Op → List ℕ → List ℕ → State
+with_lines st op line second =
     record {
       sizes = st.sizes;
       head = st.head;
@@ -88,5 +88,5 @@ withLines st op line second =
       pending = record { op = op; made = 0; line = line; second = second };
     }
 
-abbrev pub withPending : State → Op → List ℕ → State
-withPending st op line = withLines st op line (replicate 8 0)
+abbrev pub with_pending : State → Op → List ℕ → State
+with_pending st op line = with_lines st op line (replicate 8 0)

@@ -2,13 +2,13 @@
 -- a power cut) after any call, the store and the reference machine agree at every call.
 use Rattle.std.specs.Prelude.{ℕ, ◌<◌, ◌≤◌, true, List, [], ◌∷◌, ◌⊎◌, ◌≡◌, length, drop}
 use Rattle.layout.specs.declared.Sizes.{Sizes}
-use Rattle.layout.specs.Layout.{sizesOk, imageLength}
+use Rattle.layout.specs.Layout.{sizes_ok, image_length}
 use Rattle.words.specs.Words.{Bytes, over}
-use Rattle.meters.specs.Meters.{modulusOf}
+use Rattle.meters.specs.Meters.{modulus_of}
 use Rattle.refinement.specs.Stores.{World}
-use Rattle.refinement.specs.Run.{Call, Result, mount, checkpoint, free, step, begin, beginWide, abort, commit, prepare, confirm, withdraw}
-use Rattle.refinement.specs.Run.{consolidate, run, write, read, recall, exec, formattedWorld, event, load}
-use Rattle.refinement.specs.Reference.{Reference, blank, turn, readLine, recallLine, meterOn}
+use Rattle.refinement.specs.Run.{Call, Result, mount, checkpoint, free, step, begin, begin_wide, abort, commit, prepare, confirm, withdraw}
+use Rattle.refinement.specs.Run.{consolidate, run, write, read, recall, exec, formatted_world, event, load}
+use Rattle.refinement.specs.Reference.{Reference, blank, turn, read_line, recall_line, meter_on}
 
 -- what one call must answer, b being the reference machine before it:
 -- a taken read's target starts with the reference machine's 64 bytes, and the rest of it is unchanged;
@@ -17,14 +17,14 @@ use Rattle.refinement.specs.Reference.{Reference, blank, turn, readLine, recallL
 -- of a taken load each meter of the pages is below its modulus
 abbrev pub Right : Call → Result → Reference → Type 0
 Right mount d b = d.number ≡ 0
-Right (read w p l target) d b = d.number ≡ 0 → d.target ≡ over target 0 (readLine b w p l)
+Right (read w p l target) d b = d.number ≡ 0 → d.target ≡ over target 0 (read_line b w p l)
 Right (recall p l target) d b =
-    ((d.number ≡ 0) ⊎ (d.number ≡ 11)) × (d.number ≡ 0 → d.target ≡ over target 0 (recallLine b p l))
+    ((d.number ≡ 0) ⊎ (d.number ≡ 11)) × (d.number ≡ 0 → d.target ≡ over target 0 (recall_line b p l))
 Right checkpoint d b = Unit
 Right free d b = Unit
 Right step d b = Unit
 Right (begin w) d b = Unit
-Right (beginWide w) d b = Unit
+Right (begin_wide w) d b = Unit
 Right (abort w) d b = Unit
 Right (commit w) d b = Unit
 Right (prepare w) d b = Unit
@@ -34,7 +34,7 @@ Right (consolidate p) d b = Unit
 Right (run k) d b = Unit
 Right (write w p l o n bytes) d b = Unit
 Right (event ms k m a) d b = Unit
-Right (load text) d b = d.number ≡ 0 → (m : ℕ) → m < 24 → meterOn b m < modulusOf d.target m
+Right (load text) d b = d.number ≡ 0 → (m : ℕ) → m < 24 → meter_on b m < modulus_of d.target m
 
 -- the data of a write are bytes, as those of a lent buffer are
 abbrev pub Lent : Call → Type 0
@@ -44,7 +44,7 @@ Lent checkpoint = Unit
 Lent free = Unit
 Lent step = Unit
 Lent (begin w) = Unit
-Lent (beginWide w) = Unit
+Lent (begin_wide w) = Unit
 Lent (abort w) = Unit
 Lent (commit w) = Unit
 Lent (prepare w) = Unit
@@ -72,5 +72,5 @@ Agrees n past (c ∷ cs) v b =
 -- the theorem: sizes are legal, the buffer is bytes and long enough, and written data are bytes
 abbrev pub Demand3 : Type 0
 Demand3 =
-    (z : Sizes) → sizesOk z ≡ true → (buffer : List ℕ) → Bytes buffer → imageLength z ≤ length buffer
-    → (calls : List Call) → AllLent calls → Agrees (imageLength z) (drop (imageLength z) buffer) calls (formattedWorld z buffer) blank
+    (z : Sizes) → sizes_ok z ≡ true → (buffer : List ℕ) → Bytes buffer → image_length z ≤ length buffer
+    → (calls : List Call) → AllLent calls → Agrees (image_length z) (drop (image_length z) buffer) calls (formatted_world z buffer) blank

@@ -4,11 +4,11 @@
 use Rattle.std.specs.Prelude.{ℕ, zero, suc, ◌+◌, ◌%◌, ◌<◌, ◌≤◌, Bool, true, false, cond, List, [], ◌∷◌, ◌++◌, ◌≡◌, leb, eqb, length}
 use Rattle.words.specs.Words.{Bytes, word_at}
 use Rattle.layout.specs.declared.Sizes.{Sizes}
-use Rattle.layout.specs.Layout.{sizesOk, imageLength}
-use Rattle.meters.specs.Meters.{modulusOf, fixedModulus, fixedModuli, ownMeter}
+use Rattle.layout.specs.Layout.{sizes_ok, image_length}
+use Rattle.meters.specs.Meters.{modulus_of, fixed_modulus, fixed_moduli, own_meter}
 use Rattle.refinement.specs.Stores.{World}
-use Rattle.refinement.specs.Run.{Call, Result, mount, checkpoint, free, step, begin, beginWide, abort, commit, prepare, confirm, withdraw}
-use Rattle.refinement.specs.Run.{consolidate, run, write, read, recall, event, load, exec, formattedWorld, after}
+use Rattle.refinement.specs.Run.{Call, Result, mount, checkpoint, free, step, begin, begin_wide, abort, commit, prepare, confirm, withdraw}
+use Rattle.refinement.specs.Run.{consolidate, run, write, read, recall, event, load, exec, formatted_world, after}
 use Rattle.refinement.specs.Reference.{Reference, Work, idle, under, copying, writing, committing, moving, nothing, blank, turn}
 use Rattle.refinement.specs.Statement.{AllLent}
 use Rattle.refinement.specs.Beside.{line_of}
@@ -38,7 +38,7 @@ completes mount n b = []
 completes checkpoint n b = []
 completes free n b = []
 completes (begin w) n b = []
-completes (beginWide w) n b = []
+completes (begin_wide w) n b = []
 completes (abort w) n b = []
 completes (commit w) n b = []
 completes (prepare w) n b = []
@@ -59,7 +59,7 @@ history (c ∷ cs) v b = let d = exec c v in completes c d.number b ++ history c
 -- what meter m gained over them
 unfoldable pub total : ℕ → List Move → ℕ
 total m [] = 0
-total m (e ∷ es) = cond (eqb (ownMeter e.kind e.meter) m) e.amount 0 + total m es
+total m (e ∷ es) = cond (eqb (own_meter e.kind e.meter) m) e.amount 0 + total m es
 
 -- nothing but events writes to page 0: no write to it is taken
 abbrev pub Spares : Call → ℕ → Type 0
@@ -69,7 +69,7 @@ Spares checkpoint n = Unit
 Spares free n = Unit
 Spares step n = Unit
 Spares (begin w) n = Unit
-Spares (beginWide w) n = Unit
+Spares (begin_wide w) n = Unit
 Spares (abort w) n = Unit
 Spares (commit w) n = Unit
 Spares (prepare w) n = Unit
@@ -96,7 +96,7 @@ loads checkpoint n = false
 loads free n = false
 loads step n = false
 loads (begin w) n = false
-loads (beginWide w) n = false
+loads (begin_wide w) n = false
 loads (abort w) n = false
 loads (commit w) n = false
 loads (prepare w) n = false
@@ -122,7 +122,7 @@ pub record Account : Type 0 where
 
 -- after a format: the fixed moduli, each meter at 0, and no event
 abbrev pub opened : Account
-opened = record { moduli = fixedModuli; start = λ m. 0; since = []; all = [] }
+opened = record { moduli = fixed_moduli; start = λ m. 0; since = []; all = [] }
 
 abbrev pub gained : Account → List Move → Account
 gained h es = record { moduli = h.moduli; start = h.start; since = h.since ++ es; all = h.all ++ es }
@@ -148,7 +148,7 @@ Lends checkpoint n ms = Unit
 Lends free n ms = Unit
 Lends step n ms = Unit
 Lends (begin w) n ms = Unit
-Lends (beginWide w) n ms = Unit
+Lends (begin_wide w) n ms = Unit
 Lends (abort w) n ms = Unit
 Lends (commit w) n ms = Unit
 Lends (prepare w) n ms = Unit
@@ -171,15 +171,15 @@ AllLend (c ∷ cs) v ms =
 -- credit and the meters that roll, by meter
 pub record AddUp (meter : ℕ → ℕ) (h : Account) : Type 0 where
   pub credit : meter 0 + total 2 h.all + total 3 h.all ≡ total 1 h.all + total 4 h.all
-  pub in-range : meter 0 < modulusOf h.moduli 0
-  pub rolls : (m : ℕ) → 1 ≤ m → m ≤ 23 → meter m ≡ (h.start m + total m h.since) % modulusOf h.moduli m
+  pub in-range : meter 0 < modulus_of h.moduli 0
+  pub rolls : (m : ℕ) → 1 ≤ m → m ≤ 23 → meter m ≡ (h.start m + total m h.since) % modulus_of h.moduli m
 
 -- after any such list, of the meters that a mount finds
 abbrev pub MetersAddUp : Type 0
 MetersAddUp =
-    (z : Sizes) → sizesOk z ≡ true → (buffer : List ℕ) → Bytes buffer → imageLength z ≤ length buffer
-    → (calls : List Call) → AllLent calls → AllSpare calls (formattedWorld z buffer) → AllLend calls (formattedWorld z buffer) fixedModuli
-    → AddUp (found (after calls (formattedWorld z buffer))) (account calls (formattedWorld z buffer) blank opened)
+    (z : Sizes) → sizes_ok z ≡ true → (buffer : List ℕ) → Bytes buffer → image_length z ≤ length buffer
+    → (calls : List Call) → AllLent calls → AllSpare calls (formatted_world z buffer) → AllLend calls (formatted_world z buffer) fixed_moduli
+    → AddUp (found (after calls (formatted_world z buffer))) (account calls (formatted_world z buffer) blank opened)
 
 -- ---- where no load is taken: the sentence of L2, over the fixed moduli
 
@@ -190,11 +190,11 @@ NoLoad (c ∷ cs) v = (loads c (exec c v).number ≡ false) × NoLoad cs (exec c
 pub record FixedAddUp (meter : ℕ → ℕ) (h : List Move) : Type 0 where
   pub credit : meter 0 + total 2 h + total 3 h ≡ total 1 h + total 4 h
   pub in-range : meter 0 < 100000000
-  pub rolls : (m : ℕ) → 1 ≤ m → m ≤ 23 → meter m ≡ total m h % fixedModulus m
+  pub rolls : (m : ℕ) → 1 ≤ m → m ≤ 23 → meter m ≡ total m h % fixed_modulus m
 
 abbrev pub FixedMetersAddUp : Type 0
 FixedMetersAddUp =
-    (z : Sizes) → sizesOk z ≡ true → (buffer : List ℕ) → Bytes buffer → imageLength z ≤ length buffer
-    → (calls : List Call) → AllLent calls → AllSpare calls (formattedWorld z buffer) → AllLend calls (formattedWorld z buffer) fixedModuli
-    → NoLoad calls (formattedWorld z buffer)
-    → FixedAddUp (found (after calls (formattedWorld z buffer))) (history calls (formattedWorld z buffer) blank)
+    (z : Sizes) → sizes_ok z ≡ true → (buffer : List ℕ) → Bytes buffer → image_length z ≤ length buffer
+    → (calls : List Call) → AllLent calls → AllSpare calls (formatted_world z buffer) → AllLend calls (formatted_world z buffer) fixed_moduli
+    → NoLoad calls (formatted_world z buffer)
+    → FixedAddUp (found (after calls (formatted_world z buffer))) (history calls (formatted_world z buffer) blank)

@@ -7,7 +7,7 @@ use lib.Dec.{eqb}
 use lib.ListN.{get_or}
 use borrow.Author.Tests.{eq-eqb, not-true}
 use Rattle.bounded.specs.Rows.{Row, refusal, Past}
-use Rattle.bounded.proofs.Tests.{caseOn, contradicts, and_left, and_right}
+use Rattle.bounded.proofs.Tests.{case_on, contradicts, and_left, and_right}
 
 -- no row, and row k alone, has the number n
 abbrev pub nowhere : ℕ → List Row → Bool
@@ -25,7 +25,7 @@ differs {m = m} {n} t e = contradicts (eq-eqb m n e) (not-true (eqb m n) t)
 pub never : {X : Type 0} (rs : List Row) (n : ℕ) → nowhere n rs ≡ true → refusal rs ≡ n → X
 never [] n t e = differs t e
 never (r ∷ rs) n t e =
-    caseOn r.0
+    case_on r.0
     (λ q. differs (and_left (not (eqb r.1 n)) (nowhere n rs) t) (rw q at e))
     (λ q. never rs n (and_right (not (eqb r.1 n)) (nowhere n rs) t) (rw q at e))
 
@@ -35,9 +35,9 @@ pub record Stopped (rs : List Row) (k : ℕ) : Type 0 where
 
 pub stopped : (rs : List Row) (k n : ℕ) → only k n rs ≡ true → refusal rs ≡ n → Stopped rs k
 stopped [] k n t e = contradicts t refl
-stopped (r ∷ rs) zero n t e = caseOn r.0 (λ q. record { past = tt; applies = q }) (λ q. never rs n t (rw q at e))
+stopped (r ∷ rs) zero n t e = case_on r.0 (λ q. record { past = tt; applies = q }) (λ q. never rs n t (rw q at e))
 stopped (r ∷ rs) (suc k) n t e =
-    caseOn r.0
+    case_on r.0
     (λ q. differs (and_left (not (eqb r.1 n)) (only k n rs) t) (rw q at e))
     (λ q.
     let s = stopped rs k n (and_right (not (eqb r.1 n)) (only k n rs) t) (rw q at e) in

@@ -4,44 +4,44 @@ use mathlib.Core.Bool.{true, false}
 use mathlib.Core.List.{List}
 use Prim.Native.Nat.{ℕ, ◌<◌, ◌≤◌}
 use borrow.Author.Tests.{lt-ltb, le-ltb, le-leb, lt-leb}
-use Rattle.bounded.specs.Below.{firstBelow}
+use Rattle.bounded.specs.Below.{first_below}
 use Rattle.layout.specs.declared.Sizes.{Sizes}
-use Rattle.layout.specs.Layout.{sizesOk}
+use Rattle.layout.specs.Layout.{sizes_ok}
 use Rattle.state.specs.State.{State}
-use Rattle.state.specs.Slots.{slotOfPage}
-use Rattle.refusals.specs.Met.{holdsLine, holdsSlot, slotMet, lineHolder, pageHolder}
+use Rattle.state.specs.Slots.{slot_of_page}
+use Rattle.refusals.specs.Met.{holds_line, holds_slot, slot_met, line_holder, page_holder}
 
 module _ (z : Sizes) (page : List ℕ) (p : ℕ) where
-  pub sizes-bad : sizesOk z ≡ false → 16 ≡ slotMet z page p
-  unfolding slotMet
+  pub sizes-bad : sizes_ok z ≡ false → 16 ≡ slot_met z page p
+  unfolding slot_met
   sizes-bad e = rw e
 
-  module _ (s : ℕ) (o : sizesOk z ≡ true) (e : s ≡ slotOfPage z page p) where
-    pub no_slot : z.slots ≤ s → 16 ≡ slotMet z page p
-    unfolding slotMet
+  module _ (s : ℕ) (o : sizes_ok z ≡ true) (e : s ≡ slot_of_page z page p) where
+    pub no_slot : z.slots ≤ s → 16 ≡ slot_met z page p
+    unfolding slot_met
     no_slot h = rw (o, ← e, le-ltb s z.slots h)
 
-    pub has-slot : s < z.slots → s ≡ slotMet z page p
-    unfolding slotMet
+    pub has-slot : s < z.slots → s ≡ slot_met z page p
+    unfolding slot_met
     has-slot h = rw (o, ← e, lt-ltb s z.slots h)
 
-module _ (st : State) (p s : ℕ) (e : s ≡ slotMet st.sizes st.table.page p) where
-  pub line-no-slot : (w l : ℕ) → 16 ≤ s → 4 ≡ lineHolder st w p l
-  unfolding lineHolder
+module _ (st : State) (p s : ℕ) (e : s ≡ slot_met st.sizes st.table.page p) where
+  pub line-no-slot : (w l : ℕ) → 16 ≤ s → 4 ≡ line_holder st w p l
+  unfolding line_holder
   line-no-slot w l h = rw (← e, le-ltb s 16 h)
 
-  pub line-high : (w l : ℕ) → s < 16 → 63 < l → 4 ≡ lineHolder st w p l
-  unfolding lineHolder
+  pub line-high : (w l : ℕ) → s < 16 → 63 < l → 4 ≡ line_holder st w p l
+  unfolding line_holder
   line-high w l h g = rw (← e, lt-ltb s 16 h, lt-leb l 63 g)
 
-  pub line_first : (w l : ℕ) → s < 16 → l ≤ 63 → firstBelow 4 (holdsLine st.writers.held w s l) ≡ lineHolder st w p l
-  unfolding lineHolder
+  pub line_first : (w l : ℕ) → s < 16 → l ≤ 63 → first_below 4 (holds_line st.writers.held w s l) ≡ line_holder st w p l
+  unfolding line_holder
   line_first w l h g = rw (← e, lt-ltb s 16 h, le-leb l 63 g)
 
-  pub page-no-slot : 16 ≤ s → 4 ≡ pageHolder st p
-  unfolding pageHolder
+  pub page-no-slot : 16 ≤ s → 4 ≡ page_holder st p
+  unfolding page_holder
   page-no-slot h = rw (← e, le-ltb s 16 h)
 
-  pub page-first : s < 16 → firstBelow 4 (holdsSlot st.writers.held s) ≡ pageHolder st p
-  unfolding pageHolder
+  pub page-first : s < 16 → first_below 4 (holds_slot st.writers.held s) ≡ page_holder st p
+  unfolding page_holder
   page-first h = rw (← e, lt-ltb s 16 h)

@@ -2,40 +2,40 @@
 -- in the target reads back as that reason.
 use Rattle.std.specs.Prelude.{ℕ, ◌^◌, ◌<◌, ◌≤◌, Bool, true, false, ◌||◌, List, ◌≡◌, length, take}
 use Rattle.layout.specs.declared.Sizes.{Sizes}
-use Rattle.meters.specs.Meters.{firstMeter, ownMeter}
+use Rattle.meters.specs.Meters.{first_meter, own_meter}
 use Rattle.state.specs.State.{State}
-use Rattle.operations.specs.Operations.{slotFor}
+use Rattle.operations.specs.Operations.{slot_for}
 use Rattle.refinement.specs.Stores.{World}
-use Rattle.refinement.specs.Mount.{formatCall}
-use Rattle.refinement.specs.Run.{Call, mount, checkpoint, free, step, begin, beginWide, abort, commit, prepare, confirm, withdraw, consolidate, run, write}
+use Rattle.refinement.specs.Mount.{format_call}
+use Rattle.refinement.specs.Run.{Call, mount, checkpoint, free, step, begin, begin_wide, abort, commit, prepare, confirm, withdraw, consolidate, run, write}
 use Rattle.refinement.specs.Run.{read, recall, event, load, exec}
 use Rattle.wording.specs.Calls as named
 use Rattle.reasons.specs.declared.Reason.{Reason}
-use Rattle.reasons.specs.Sentence.{composed, composedIn}
+use Rattle.reasons.specs.Sentence.{composed, composed_in}
 use Rattle.reason_reading.specs.declared.ReadBack.TheVariants.{These}
-use Rattle.reason_reading.specs.Reading.{readBack}
-use Rattle.refusals.specs.Met.{holdsLine, holdsSlot, reasonMet, Lowest}
+use Rattle.reason_reading.specs.Reading.{read_back}
+use Rattle.refusals.specs.Met.{holds_line, holds_slot, reason_met, Lowest}
 
 -- the calls as the service screen numbers them
-abbrev pub callNumber : Call → ℕ
-callNumber mount = named.mount
-callNumber checkpoint = named.checkpoint
-callNumber free = named.freeSlot
-callNumber step = named.step
-callNumber (begin w) = named.begin
-callNumber (beginWide w) = named.beginWide
-callNumber (abort w) = named.abort
-callNumber (commit w) = named.commit
-callNumber (prepare w) = named.prepare
-callNumber (confirm w) = named.confirm
-callNumber (withdraw w) = named.withdraw
-callNumber (consolidate p) = named.consolidate
-callNumber (run k) = named.run
-callNumber (write w p l o n bytes) = named.write
-callNumber (read w p l target) = named.read
-callNumber (recall p l target) = named.recall
-callNumber (event ms k m a) = named.event
-callNumber (load text) = named.load
+abbrev pub call_number : Call → ℕ
+call_number mount = named.mount
+call_number checkpoint = named.checkpoint
+call_number free = named.free_slot
+call_number step = named.step
+call_number (begin w) = named.begin
+call_number (begin_wide w) = named.begin_wide
+call_number (abort w) = named.abort
+call_number (commit w) = named.commit
+call_number (prepare w) = named.prepare
+call_number (confirm w) = named.confirm
+call_number (withdraw w) = named.withdraw
+call_number (consolidate p) = named.consolidate
+call_number (run k) = named.run
+call_number (write w p l o n bytes) = named.write
+call_number (read w p l target) = named.read
+call_number (recall p l target) = named.recall
+call_number (event ms k m a) = named.event
+call_number (load text) = named.load
 
 -- what a host passes on of a call: its writer, page and line, of an event its kind and meter; the others may be anything
 pub record Passed : Type 0 where
@@ -51,7 +51,7 @@ PassedOf checkpoint a = Unit
 PassedOf free a = Unit
 PassedOf step a = Unit
 PassedOf (begin w) a = a.writer ≡ w
-PassedOf (beginWide w) a = a.writer ≡ w
+PassedOf (begin_wide w) a = a.writer ≡ w
 PassedOf (abort w) a = a.writer ≡ w
 PassedOf (commit w) a = a.writer ≡ w
 PassedOf (prepare w) a = a.writer ≡ w
@@ -72,46 +72,46 @@ pub record Words (a : Passed) : Type 0 where
   pub line : a.line < 2 ^ 64
 
 -- the reason that a host gets (`reason_met`) of call c turned back with n
-abbrev pub reasonOf : State → ℕ → ℕ → Passed → Reason
-reasonOf st c n a = reasonMet st c n a.writer a.page a.line a.kind a.meter
+abbrev pub reason_of : State → ℕ → ℕ → Passed → Reason
+reason_of st c n a = reason_met st c n a.writer a.page a.line a.kind a.meter
 
 -- whether writer u stands in the way of a call that 14 or 18 turns back
-abbrev pub inTheWay : State → Call → ℕ → Bool
-inTheWay st (write w p l o n bytes) u = holdsLine st.writers.held w (slotFor st p) l u
-inTheWay st (consolidate p) u = holdsSlot st.writers.held (slotFor st p) u
-inTheWay st (event ms k m a) u =
-    holdsLine st.writers.held 1 (slotFor st 0) (firstMeter k m) u || holdsLine st.writers.held 1 (slotFor st 0) (ownMeter k m) u
-inTheWay st mount u = false
-inTheWay st checkpoint u = false
-inTheWay st free u = false
-inTheWay st step u = false
-inTheWay st (begin w) u = false
-inTheWay st (beginWide w) u = false
-inTheWay st (abort w) u = false
-inTheWay st (commit w) u = false
-inTheWay st (prepare w) u = false
-inTheWay st (confirm w) u = false
-inTheWay st (withdraw w) u = false
-inTheWay st (run k) u = false
-inTheWay st (read w p l target) u = false
-inTheWay st (recall p l target) u = false
-inTheWay st (load text) u = false
+abbrev pub in_the_way : State → Call → ℕ → Bool
+in_the_way st (write w p l o n bytes) u = holds_line st.writers.held w (slot_for st p) l u
+in_the_way st (consolidate p) u = holds_slot st.writers.held (slot_for st p) u
+in_the_way st (event ms k m a) u =
+    holds_line st.writers.held 1 (slot_for st 0) (first_meter k m) u || holds_line st.writers.held 1 (slot_for st 0) (own_meter k m) u
+in_the_way st mount u = false
+in_the_way st checkpoint u = false
+in_the_way st free u = false
+in_the_way st step u = false
+in_the_way st (begin w) u = false
+in_the_way st (begin_wide w) u = false
+in_the_way st (abort w) u = false
+in_the_way st (commit w) u = false
+in_the_way st (prepare w) u = false
+in_the_way st (confirm w) u = false
+in_the_way st (withdraw w) u = false
+in_the_way st (run k) u = false
+in_the_way st (read w p l target) u = false
+in_the_way st (recall p l target) u = false
+in_the_way st (load text) u = false
 
 -- a reason is composed into a target, and what is put there reads back as the reason
 pub record Told (r : Reason) (target : List ℕ) : Type 0 where
   pub taken : (composed r (length target)).number ≡ 0
-  pub back : readBack (take (composed r (length target)).length (composedIn r target)) ≡ These r
+  pub back : read_back (take (composed r (length target)).length (composed_in r target)) ≡ These r
 
 -- whatever call is refused, on any state and any bytes: its reason is told in any target of 200 bytes, and where it says a writer, that is the lowest
 -- that stands in the way
 abbrev pub RefusalsTold : Type 0
 RefusalsTold =
     (c : Call) (v : World) → ((exec c v).number ≡ 0 → ⊥) → (a : Passed) → PassedOf c a → Words a
-    → (let r = reasonOf v.st (callNumber c) (exec c v).number a in
-    ((target : List ℕ) → 200 ≤ length target → Told r target) × (named.meetsWriter r.number ≡ true → Lowest (inTheWay v.st c) r.holder))
+    → (let r = reason_of v.st (call_number c) (exec c v).number a in
+    ((target : List ℕ) → 200 ≤ length target → Told r target) × (named.meets_writer r.number ≡ true → Lowest (in_the_way v.st c) r.holder))
 
 -- and a format, which has no state
 abbrev pub FormatsTold : Type 0
 FormatsTold =
-    (z : Sizes) (buffer : List ℕ) → ((formatCall z buffer).number ≡ 0 → ⊥) → (st : State) (a : Passed) → Words a
-    → (target : List ℕ) → 200 ≤ length target → Told (reasonOf st named.format (formatCall z buffer).number a) target
+    (z : Sizes) (buffer : List ℕ) → ((format_call z buffer).number ≡ 0 → ⊥) → (st : State) (a : Passed) → Words a
+    → (target : List ℕ) → 200 ≤ length target → Told (reason_of st named.format (format_call z buffer).number a) target

@@ -1,9 +1,9 @@
 // What a refused call met: what it was given and, for 14 and 18, the lowest writer in its way. A refused call leaves the
 // state as it was, so this is read from the state that the call was given.
 ghost use Rattle.std.specs.Prelude.{◌≡◌, cond, ◌<◌};
-ghost use Rattle.bounded.specs.Below.{firstBelow};
+ghost use Rattle.bounded.specs.Below.{first_below};
 ghost use Rattle.state_words.specs.Decoded.{decoded};
-ghost use Rattle.refusals.specs.Met.{holdsLine, holdsSlot, slotMet, lineHolder, pageHolder, eventHolder, holderMet, reasonMet};
+ghost use Rattle.refusals.specs.Met.{holds_line, holds_slot, slot_met, line_holder, page_holder, event_holder, holder_met, reason_met};
 
 use layout::Sizes;
 use reasons::Reason;
@@ -11,7 +11,7 @@ use state_words::Words;
 
 // The slot of a page, 16 where it has none or the sizes are out of their ranges.
 fn slot_met(z: Sizes, words: &Words, p: usize) -> usize
-    ensures { result ≡ slotMet z (decoded words.now).table.page p }
+    ensures { result ≡ slot_met z (decoded words.now).table.page p }
 {
     if !layout::sizes_ok(z) {
         return 16;
@@ -26,7 +26,7 @@ fn slot_met(z: Sizes, words: &Words, p: usize) -> usize
 // The lowest writer other than w that holds line l of slot s, 4 where none does.
 fn first_of_line(words: &Words, w: usize, s: usize, l: usize) -> usize
     requires { (s < 16) × (l < 64) }
-    ensures { result ≡ firstBelow 4 (holdsLine (decoded words.now).writers.held w s l) }
+    ensures { result ≡ first_below 4 (holds_line (decoded words.now).writers.held w s l) }
 {
     let mut v = 0;
     while v < 4 {
@@ -41,7 +41,7 @@ fn first_of_line(words: &Words, w: usize, s: usize, l: usize) -> usize
 // The lowest writer that holds a line of slot s, 4 where none does.
 fn first_of_slot(words: &Words, s: usize) -> usize
     requires { s < 16 }
-    ensures { result ≡ firstBelow 4 (holdsSlot (decoded words.now).writers.held s) }
+    ensures { result ≡ first_below 4 (holds_slot (decoded words.now).writers.held s) }
 {
     let mut v = 0;
     while v < 4 {
@@ -55,7 +55,7 @@ fn first_of_slot(words: &Words, s: usize) -> usize
 
 // The lowest writer in the way of a write (row 14), 4 where there is none.
 pub fn line_holder(words: &Words, writer: usize, page: usize, line: usize) -> usize
-    ensures { result ≡ lineHolder (decoded words.now) writer page line }
+    ensures { result ≡ line_holder (decoded words.now) writer page line }
 {
     let z = state_words::sizes_in(words);
     let s = slot_met(z, words, page);
@@ -70,7 +70,7 @@ pub fn line_holder(words: &Words, writer: usize, page: usize, line: usize) -> us
 
 // The lowest writer in the way of a consolidation (row 18), 4 where there is none.
 pub fn page_holder(words: &Words, page: usize) -> usize
-    ensures { result ≡ pageHolder (decoded words.now) page }
+    ensures { result ≡ page_holder (decoded words.now) page }
 {
     let z = state_words::sizes_in(words);
     let s = slot_met(z, words, page);
@@ -82,7 +82,7 @@ pub fn page_holder(words: &Words, page: usize) -> usize
 
 // The lowest writer in the way of an event (row 14), 4 where there is none. A count has one line, an event that moves credit two.
 pub fn event_holder(words: &Words, kind: usize, meter: usize) -> usize
-    ensures { result ≡ eventHolder (decoded words.now) kind meter }
+    ensures { result ≡ event_holder (decoded words.now) kind meter }
 {
     let first = line_holder(words, 1, 0, meters::first_meter(kind, meter));
     let own = line_holder(words, 1, 0, meters::own_meter(kind, meter));
@@ -100,7 +100,7 @@ fn holder_met(
     kind: usize,
     meter: usize,
 ) -> usize
-    ensures { result ≡ holderMet (decoded words.now) call number writer page line kind meter }
+    ensures { result ≡ holder_met (decoded words.now) call number writer page line kind meter }
 {
     if number == 14 {
         if call == wording::EVENT {
@@ -132,7 +132,7 @@ pub fn reason_met(
     kind: usize,
     meter: usize,
 ) -> Reason
-    ensures { result ≡ reasonMet (decoded words.now) call number writer page line kind meter }
+    ensures { result ≡ reason_met (decoded words.now) call number writer page line kind meter }
 {
     Reason {
         call,

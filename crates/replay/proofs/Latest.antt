@@ -7,7 +7,7 @@ use native.Mathlib.Nat.{not-suc-le-zero}
 use lib.Dec.{eqb}
 use borrow.Author.Tests.{eqb-true, eqb-false}
 use Rattle.bounded.specs.Below.{up_to}
-use Rattle.bounded.proofs.Tests.{caseOn}
+use Rattle.bounded.proofs.Tests.{case_on}
 use Rattle.bounded.proofs.Below.{split_below, up-ext}
 use Rattle.layout.specs.declared.Sizes.{Sizes}
 use Rattle.layout.specs.Layout.{Legal}
@@ -15,7 +15,7 @@ use Rattle.journal.specs.declared.Slot.{Slot}
 use Rattle.journal.specs.declared.Record.{Record}
 use Rattle.replay.specs.declared.Table.{Table}
 use Rattle.journal.specs.Records.{position}
-use Rattle.replay.specs.Table.{noPosition, slotIn, withSlot, lastIn, replaced, replay}
+use Rattle.replay.specs.Table.{no_position, slot_in, with_slot, last_in, replaced, replay}
 use Rattle.journal.proofs.Ring.{pos-lt, pos-more}
 use Rattle.replay.proofs.Tables.{Sixteen, sixteen-slot, sixteen-last, slot_same, slot-other, last-same, last-other, table-ext}
 
@@ -31,7 +31,7 @@ NoRecord n e s = (i : ℕ) → i < n → (e i).slot ≡ s → ⊥
 pub latest : (n : ℕ) (e : ℕ → Record) (s : ℕ) → ((i : ℕ) × Latest n e s i) ⊎ NoRecord n e s
 latest zero e s = inr (λ i l q. not-suc-le-zero l)
 latest (suc n) e s =
-    caseOn (eqb (e n).slot s)
+    case_on (eqb (e n).slot s)
     (λ t. inl (n, record { live = omega arith; slot = eqb-true (e n).slot s t; later = λ j l m q. omega arith }))
     (λ t.
     let f : (e n).slot ≡ s → ⊥ = eqb-false (e n).slot s t in
@@ -44,22 +44,22 @@ latest (suc n) e s =
 
 -- slot s of table t is v, and q is its last position
 pub record Holds (t : Table) (s : ℕ) (v : Slot) (q : ℕ) : Type 0 where
-  pub slot : slotIn t s ≡ v
-  pub last : lastIn t s ≡ q
+  pub slot : slot_in t s ≡ v
+  pub last : last_in t s ≡ q
 
 -- ---- one record
 
 module _ (t : Table) (e : Record) (q : ℕ) where
   pub sixteen-replaced : Sixteen t → Sixteen (replaced t e q)
-  sixteen-replaced h = sixteen-last (withSlot t e.slot e.now) e.slot q (sixteen-slot t e.slot e.now h)
+  sixteen-replaced h = sixteen-last (with_slot t e.slot e.now) e.slot q (sixteen-slot t e.slot e.now h)
 
   pub replaced-same : Sixteen t → e.slot < 16 → Holds (replaced t e q) e.slot e.now q
   replaced-same h l =
-      record { slot = slot_same t e.slot e.now h l; last = last-same (withSlot t e.slot e.now) e.slot q (sixteen-slot t e.slot e.now h) l }
+      record { slot = slot_same t e.slot e.now h l; last = last-same (with_slot t e.slot e.now) e.slot q (sixteen-slot t e.slot e.now h) l }
 
-  pub replaced-other : (s : ℕ) → (e.slot ≡ s → ⊥) → Holds (replaced t e q) s (slotIn t s) (lastIn t s)
+  pub replaced-other : (s : ℕ) → (e.slot ≡ s → ⊥) → Holds (replaced t e q) s (slot_in t s) (last_in t s)
   replaced-other s n =
-      record { slot = slot-other t e.slot e.now s (λ w. n (sym w)); last = last-other (withSlot t e.slot e.now) e.slot q s (λ w. n (sym w)) }
+      record { slot = slot-other t e.slot e.now s (λ w. n (sym w)); last = last-other (with_slot t e.slot e.now) e.slot q s (λ w. n (sym w)) }
 
 -- ---- replay
 
@@ -103,7 +103,7 @@ module _ (z : Sizes) (tail : ℕ) where
         let g = replay-latest n i m (record { live = lt; slot = h.slot; later = λ j l k. h.later j l (omega arith) }) in
         record { slot = o.slot ∙ g.slot; last = o.last ∙ g.last })
 
-    pub replay-kept : (n : ℕ) → NoRecord n e s → Holds (replay z tail n e t) s (slotIn t s) (lastIn t s)
+    pub replay-kept : (n : ℕ) → NoRecord n e s → Holds (replay z tail n e t) s (slot_in t s) (last_in t s)
     unfolding replay up_to
     replay-kept zero h = record { slot = refl; last = refl }
     replay-kept (suc n) h =
@@ -112,22 +112,22 @@ module _ (z : Sizes) (tail : ℕ) where
         record { slot = o.slot ∙ g.slot; last = o.last ∙ g.last }
 
     -- where the table had no last positions, those after replay say which slots have records
-    module _ (n : ℕ) (legal : Legal z) (none : lastIn t s ≡ noPosition) where
-      pub none-recorded : s < 16 → lastIn (replay z tail n e t) s ≡ noPosition → NoRecord n e s
+    module _ (n : ℕ) (legal : Legal z) (none : last_in t s ≡ no_position) where
+      pub none-recorded : s < 16 → last_in (replay z tail n e t) s ≡ no_position → NoRecord n e s
       none-recorded m q =
           ⊎_elim
           (λ (x : (i : ℕ) × Latest n e s i). absurd (omega (arith, replay-latest n x.0 m x.1, pos-lt z legal tail x.0, q)))
           (λ h. h)
           (latest n e s)
 
-      pub some-recorded : (lastIn (replay z tail n e t) s ≡ noPosition → ⊥) → (i : ℕ) × Latest n e s i
+      pub some-recorded : (last_in (replay z tail n e t) s ≡ no_position → ⊥) → (i : ℕ) × Latest n e s i
       some-recorded q =
           ⊎_elim (λ (x : (i : ℕ) × Latest n e s i). x) (λ h. absurd (q ((replay-kept n h).last ∙ none))) (latest n e s)
 
   -- tables that differ only in slots with records become the same
   module _ (n : ℕ) (e : ℕ → Record) (t u : Table) (p : Sixteen t) (q : Sixteen u) where
-    replay-alike : (s : ℕ) → s < 16 → (NoRecord n e s → slotIn t s ≡ slotIn u s) → lastIn t s ≡ lastIn u s
-        → Holds (replay z tail n e t) s (slotIn (replay z tail n e u) s) (lastIn (replay z tail n e u) s)
+    replay-alike : (s : ℕ) → s < 16 → (NoRecord n e s → slot_in t s ≡ slot_in u s) → last_in t s ≡ last_in u s
+        → Holds (replay z tail n e t) s (slot_in (replay z tail n e u) s) (last_in (replay z tail n e u) s)
     replay-alike s m a b =
         ⊎_elim
         (λ (x : (i : ℕ) × Latest n e s i).
@@ -140,7 +140,7 @@ module _ (z : Sizes) (tail : ℕ) where
         record { slot = g.slot ∙ a f ∙ sym h.slot; last = g.last ∙ b ∙ sym h.last })
         (latest n e s)
 
-    pub replay-base : ((s : ℕ) → s < 16 → NoRecord n e s → slotIn t s ≡ slotIn u s) → ((s : ℕ) → s < 16 → lastIn t s ≡ lastIn u s)
+    pub replay-base : ((s : ℕ) → s < 16 → NoRecord n e s → slot_in t s ≡ slot_in u s) → ((s : ℕ) → s < 16 → last_in t s ≡ last_in u s)
         → replay z tail n e t ≡ replay z tail n e u
     replay-base a b =
         table-ext (replay z tail n e t) (replay z tail n e u) (sixteen-replay n e t p) (sixteen-replay n e u q)

@@ -1,9 +1,9 @@
 // The slots as a mount makes them: the slot table, then the live records.
 ghost use Rattle.std.specs.Prelude.{◌≡◌, true, ◌+◌, ◌*◌, ◌≤◌, ◌<◌, length};
-ghost use Rattle.layout.specs.Layout.{Legal, imageLength};
+ghost use Rattle.layout.specs.Layout.{Legal, image_length};
 ghost use Rattle.words.specs.Words.{word};
-ghost use Rattle.journal.specs.Records.{liveRecord, recordsOk};
-ghost use Rattle.replay.specs.Table.{slotIn, withSlot, emptyTable, tableFrom, replay, slotsOfArrays, slotsShaped, pageApart, pagesApart};
+ghost use Rattle.journal.specs.Records.{live_record, records_ok};
+ghost use Rattle.replay.specs.Table.{slot_in, with_slot, empty_table, table_from, replay, slots_of_arrays, slots_shaped, page_apart, pages_apart};
 
 use journal::Slot;
 use layout::Sizes;
@@ -24,7 +24,7 @@ pub struct Table {
 // Slot s of a table.
 pub fn slot_in(t: Table, s: usize) -> Slot
     requires { s < 16 }
-    ensures { result ≡ slotIn t s }
+    ensures { result ≡ slot_in t s }
 {
     Slot {
         page: t.page[s],
@@ -43,7 +43,7 @@ pub fn slot_at<'a>(
     s: usize,
 ) -> Slot
     requires { s < 16 }
-    ensures { result ≡ slotIn (slotsOfArrays page.now original.now spare.now bitmap.now) s }
+    ensures { result ≡ slot_in (slots_of_arrays page.now original.now spare.now bitmap.now) s }
 {
     Slot {
         page: page[s],
@@ -56,7 +56,7 @@ pub fn slot_at<'a>(
 // A table with slot s replaced.
 pub fn with_slot(t: Table, s: usize, v: Slot) -> Table
     requires { s < 16 }
-    ensures { result ≡ withSlot t s v }
+    ensures { result ≡ with_slot t s v }
 {
     let mut u = t;
     u.page[s] = v.page;
@@ -68,7 +68,7 @@ pub fn with_slot(t: Table, s: usize, v: Slot) -> Table
 
 // A table with nothing in it.
 pub fn empty_table() -> Table
-    ensures { result ≡ emptyTable }
+    ensures { result ≡ empty_table }
 {
     Table {
         page: [0; 16],
@@ -81,8 +81,8 @@ pub fn empty_table() -> Table
 
 // The slot table of an image.
 fn table_from(image: &[u8], z: Sizes) -> Table
-    requires { Legal z × (imageLength z ≤ length image.now) }
-    ensures { result ≡ tableFrom (word image.now) z }
+    requires { Legal z × (image_length z ≤ length image.now) }
+    ensures { result ≡ table_from (word image.now) z }
 {
     let mut t = empty_table();
     let mut s = 0;
@@ -100,9 +100,9 @@ fn table_from(image: &[u8], z: Sizes) -> Table
 
 // The slot table with the n live records, which are right, laid over it in order.
 pub fn replayed(image: &[u8], z: Sizes, tail: usize, n: usize) -> Table
-    requires { Legal z × (imageLength z ≤ length image.now) × (tail < 2 * z.places) × (n ≤ z.places)
-        × (recordsOk z tail n (liveRecord (word image.now) z tail) ≡ true) }
-    ensures { result ≡ replay z tail n (liveRecord (word image.now) z tail) (tableFrom (word image.now) z) }
+    requires { Legal z × (image_length z ≤ length image.now) × (tail < 2 * z.places) × (n ≤ z.places)
+        × (records_ok z tail n (live_record (word image.now) z tail) ≡ true) }
+    ensures { result ≡ replay z tail n (live_record (word image.now) z tail) (table_from (word image.now) z) }
 {
     let mut t = table_from(image, z);
     let mut i = 0;
@@ -129,7 +129,7 @@ pub fn slots_shaped<'a>(
     bitmap: &'a [u64; 16],
 ) -> bool
     requires { Legal z }
-    ensures { result ≡ slotsShaped z (slotsOfArrays page.now original.now spare.now bitmap.now) }
+    ensures { result ≡ slots_shaped z (slots_of_arrays page.now original.now spare.now bitmap.now) }
 {
     let mut s = 0;
     while s < z.slots {
@@ -150,7 +150,7 @@ pub fn slots_shaped<'a>(
 // Whether page p, of slot s, is in no slot below s.
 fn page_apart(page: &[usize; 16], s: usize) -> bool
     requires { s < 16 }
-    ensures { result ≡ pageApart page.now s }
+    ensures { result ≡ page_apart page.now s }
 {
     let p = page[s];
     if p == journal::NO_PAGE {
@@ -169,7 +169,7 @@ fn page_apart(page: &[usize; 16], s: usize) -> bool
 // Whether no page is in two slots.
 pub fn pages_apart(z: Sizes, page: &[usize; 16]) -> bool
     requires { Legal z }
-    ensures { result ≡ pagesApart z page.now }
+    ensures { result ≡ pages_apart z page.now }
 {
     let mut s = 0;
     while s < z.slots {

@@ -3,29 +3,29 @@ use Rattle.std.specs.Prelude.{ℕ, List, [], ◌∷◌, ◌++◌}
 use Prim.Native.Char.{code}
 use Rattle.bounded.specs.Below.{one}
 use Rattle.state.specs.State.{State}
-use Rattle.decimals.specs.Decimal.{decimalOf}
+use Rattle.decimals.specs.Decimal.{decimal_of}
 use Rattle.workbench.specs.declared.Said.TheVariants.{OtherForm, Answered, Store, Hash, Numbers}
 use Rattle.workbench.specs.declared.Said.{Said}
 use Rattle.workbench.specs.Turns.{Turn}
 use Rattle.number_text.specs.Text.{field}
-use Rattle.printing.specs.Output.{outputLine}
+use Rattle.printing.specs.Output.{output_line}
 use Rattle.printing.specs.declared.Output.TheVariants as output
-use Rattle.state_text.specs.Numbers.{stateField}
+use Rattle.state_text.specs.Numbers.{state_field}
 
 -- a line before its last field, with answer 0
-abbrev pub shownStart : ℕ → ℕ → ℕ → List ℕ
-shownStart n letter count = decimalOf n ++ (code "," ∷ letter ∷ (field 0 ++ field count))
+abbrev pub shown_start : ℕ → ℕ → ℕ → List ℕ
+shown_start n letter count = decimal_of n ++ (code "," ∷ letter ∷ (field 0 ++ field count))
 
-abbrev pub shownLine : ℕ → ℕ → ℕ → List ℕ → List ℕ
-shownLine n letter count last = shownStart n letter count ++ (last ++ (code "\n" ∷ []))
+abbrev pub shown_line : ℕ → ℕ → ℕ → List ℕ → List ℕ
+shown_line n letter count last = shown_start n letter count ++ (last ++ (code "\n" ∷ []))
 
 -- an answer, and a line of another form, are printed as powerhit's are; of a store its word is the count, and the last field 1 where it decides
-abbrev pub saidLine : ℕ → ℕ → Said → State → List ℕ
-saidLine n letter OtherForm st = outputLine n output.Unknown
-saidLine n letter (Answered number count) st = outputLine n (output.Answered letter number count)
-saidLine n letter (Store at decides) st = shownLine n letter at (field (one decides))
-saidLine n letter (Hash h) st = shownLine n letter 0 (field h)
-saidLine n letter Numbers st = shownLine n letter 0 (stateField st)
+abbrev pub said_line : ℕ → ℕ → Said → State → List ℕ
+said_line n letter OtherForm st = output_line n output.Unknown
+said_line n letter (Answered number count) st = output_line n (output.Answered letter number count)
+said_line n letter (Store at decides) st = shown_line n letter at (field (one decides))
+said_line n letter (Hash h) st = shown_line n letter 0 (field h)
+said_line n letter Numbers st = shown_line n letter 0 (state_field st)
 
-unfoldable pub printedOf : ℕ → ℕ → Turn → List ℕ
-printedOf n letter t = saidLine n letter t.said t.st
+unfoldable pub printed_of : ℕ → ℕ → Turn → List ℕ
+printed_of n letter t = said_line n letter t.said t.st

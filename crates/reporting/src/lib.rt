@@ -2,9 +2,9 @@
 ghost use Rattle.std.specs.Prelude.{◌+◌, ◌≤◌, length};
 ghost use Rattle.number_text.specs.Text.{Put, field};
 ghost use Rattle.state_words.specs.Decoded.{decoded};
-ghost use Rattle.state_text.specs.Numbers.{stateField};
-ghost use Rattle.reporting.specs.Text.{shownStart, shownLine, printedOf};
-ghost use Rattle.workbench.specs.Turns.{turnAt};
+ghost use Rattle.state_text.specs.Numbers.{state_field};
+ghost use Rattle.reporting.specs.Text.{shown_start, shown_line, printed_of};
+ghost use Rattle.workbench.specs.Turns.{turn_at};
 
 use number_text::put_after;
 use printing::Output;
@@ -15,7 +15,7 @@ use workbench::Said;
 // The line's number and letter, then answer 0 and a count.
 fn put_start(out: &mut [u8], at: usize, n: u64, letter: u8, count: u64) -> usize
     requires { at + 64 ≤ length out.old }
-    ensures { Put out.old at (shownStart n letter count) out.new result }
+    ensures { Put out.old at (shown_start n letter count) out.new result }
 {
     let next = decimals::put_decimal(out, at, n);
     let next = decimals::put_byte(out, next, b',');
@@ -27,7 +27,7 @@ fn put_start(out: &mut [u8], at: usize, n: u64, letter: u8, count: u64) -> usize
 // A line with a count and a last field, which are numbers.
 fn put_counted(out: &mut [u8], at: usize, n: u64, letter: u8, count: u64, last: u64) -> usize
     requires { at + 86 ≤ length out.old }
-    ensures { Put out.old at (shownLine n letter count (field last)) out.new result }
+    ensures { Put out.old at (shown_line n letter count (field last)) out.new result }
 {
     let next = put_start(out, at, n, letter, count);
     let next = put_after(out, next, b',', last);
@@ -36,7 +36,7 @@ fn put_counted(out: &mut [u8], at: usize, n: u64, letter: u8, count: u64, last: 
 
 fn put_numbered(out: &mut [u8], at: usize, n: u64, letter: u8, words: &Words) -> usize
     requires { at + 29066 ≤ length out.old }
-    ensures { Put out.old at (shownLine n letter 0 (stateField (decoded words.now))) out.new result }
+    ensures { Put out.old at (shown_line n letter 0 (state_field (decoded words.now))) out.new result }
 {
     let next = put_start(out, at, n, letter, 0);
     let next = state_text::put_state(out, next, words);
@@ -46,7 +46,7 @@ fn put_numbered(out: &mut [u8], at: usize, n: u64, letter: u8, words: &Words) ->
 // The line that input line n prints, at most 29,066 bytes.
 pub fn print(out: &mut [u8], at: usize, n: u64, letter: u8, said: Said, words: &Words) -> usize
     requires { at + 29066 ≤ length out.old }
-    ensures { Put out.old at (printedOf n letter (turnAt said words.now)) out.new result }
+    ensures { Put out.old at (printed_of n letter (turn_at said words.now)) out.new result }
 {
     match said {
         Said::OtherForm => printing::put_output(out, at, n as usize, Output::Unknown),

@@ -1,11 +1,11 @@
 // Runs of words: one value in each, a copy, the eight of a line.
 ghost use Rattle.std.specs.Prelude.{◌≡◌, ◌+◌, ◌*◌, ◌≤◌, length, replicate};
-ghost use Rattle.words.specs.Words.{word, putWords, wordsAt, part, over};
+ghost use Rattle.words.specs.Words.{word, put_words, words_at, part, over};
 
 // Puts v as each of the n words from byte at on.
 pub fn fill_words(s: &mut [u8], at: usize, n: usize, v: u64)
     requires { at + 8 * n ≤ length s.old }
-    ensures { s.new ≡ putWords s.old at (replicate n v) }
+    ensures { s.new ≡ put_words s.old at (replicate n v) }
 {
     let mut i = 0;
     while i < n {
@@ -30,7 +30,7 @@ pub fn copy_words(src: &[u8], from: usize, dst: &mut [u8], to: usize, n: usize)
 // The 8 words of a line.
 pub fn words_of(line: &[u8]) -> [u64; 8]
     requires { length line.now ≡ 64 }
-    ensures { result ≡ wordsAt line.now 0 8 }
+    ensures { result ≡ words_at line.now 0 8 }
 {
     [
         words::word_at(line, 0),

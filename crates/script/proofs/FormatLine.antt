@@ -10,14 +10,14 @@ use borrow.Author.Tests.{eq-eqb, ne_eqb, le-ltb}
 use Rattle.bounded.proofs.Rows.{row-none}
 use Rattle.bounded.proofs.Tests.{row-yes}
 use Rattle.layout.specs.declared.Sizes.{Sizes}
-use Rattle.layout.specs.Layout.{sizesOk, imageWords, imageLength}
+use Rattle.layout.specs.Layout.{sizes_ok, image_words, image_length}
 use Rattle.layout.proofs.LayoutLaws.{legal}
-use Rattle.fresh.specs.Fresh.{formatted, formatStores}
+use Rattle.fresh.specs.Fresh.{formatted, format_stores}
 use Rattle.fresh.proofs.FreshStores.{stores-all}
 use Rattle.operations.specs.Operations.{needs}
-use Rattle.refinement.specs.Stores.{left, stateAfter}
-use Rattle.refinement.specs.Calls.{worldOf, stepRow, stepRows, run_of, runBytes}
-use Rattle.refinement.specs.Mount.{freshState, format_of}
+use Rattle.refinement.specs.Stores.{left, state_after}
+use Rattle.refinement.specs.Calls.{world_of, step_row, step_rows, run_of, run_bytes}
+use Rattle.refinement.specs.Mount.{fresh_state, format_of}
 use Rattle.refinement.specs.Run.{Result, result, exec}
 use Rattle.refinement.proofs.FormatAsked.{formatting, format-valid, format-left, format-taken, ran-image, ran-state}
 use Rattle.call_mount.specs.Replacing.{replacing}
@@ -27,12 +27,12 @@ use Rattle.executing.specs.declared.Cut.TheVariants.{Unset}
 use Rattle.executing.specs.Called.{Machine, turn, ready, finished}
 use Rattle.script.specs.Turns.{formats}
 
-module _ (z : Sizes) (ok : sizesOk z ≡ true) (buffer : List ℕ) (fits : imageLength z ≤ length buffer) where
+module _ (z : Sizes) (ok : sizes_ok z ≡ true) (buffer : List ℕ) (fits : image_length z ≤ length buffer) where
   abbrev all : ℕ
-  all = imageWords z + 1
+  all = image_words z + 1
 
   abbrev pub asks : Result
-  asks = record { number = 0; stores = all; world = worldOf (formatting z) buffer; target = [] }
+  asks = record { number = 0; stores = all; world = world_of (formatting z) buffer; target = [] }
 
   asked : (m : Machine) → result (replacing m.st (format_of z buffer)) buffer ≡ asks
   unfolding format_of
@@ -41,18 +41,18 @@ module _ (z : Sizes) (ok : sizesOk z ≡ true) (buffer : List ℕ) (fits : image
   whole : min all all ≡ all
   whole = omega arith
 
-  runs : 0 ≡ stepRow (formatting z) buffer
-  runs = row-none (stepRows (formatting z) buffer) (ap not (format-valid z ok), (le-ltb (length buffer) (imageLength z) fits, (refl, tt)))
+  runs : 0 ≡ step_row (formatting z) buffer
+  runs = row-none (step_rows (formatting z) buffer) (ap not (format-valid z ok), (le-ltb (length buffer) (image_length z) fits, (refl, tt)))
 
-  image : runBytes (formatting z) buffer all ≡ formatted z buffer
-  image = ran-image z ok buffer fits all ∙ ap (λ (n : ℕ). formatStores z n buffer) whole ∙ stores-all z (legal z ok) buffer fits
+  image : run_bytes (formatting z) buffer all ≡ formatted z buffer
+  image = ran-image z ok buffer fits all ∙ ap (λ (n : ℕ). format_stores z n buffer) whole ∙ stores-all z (legal z ok) buffer fits
 
-  fresh-last : stateAfter (formatting z) all ≡ freshState z
+  fresh-last : state_after (formatting z) all ≡ fresh_state z
   unfolding needs
-  fresh-last = rw (eq-eqb (0 + (imageWords z + 1)) (imageWords z + 1) (omega arith))
+  fresh-last = rw (eq-eqb (0 + (image_words z + 1)) (image_words z + 1) (omega arith))
 
-  state : (run_of (formatting z) buffer all).state ≡ freshState z
-  state = ran-state z ok buffer fits all ∙ ap (stateAfter (formatting z)) whole ∙ fresh-last
+  state : (run_of (formatting z) buffer all).state ≡ fresh_state z
+  state = ran-state z ok buffer fits all ∙ ap (state_after (formatting z)) whole ∙ fresh-last
 
   stores : (run_of (formatting z) buffer all).stores ≡ all
   unfolding run_of
@@ -60,13 +60,13 @@ module _ (z : Sizes) (ok : sizesOk z ≡ true) (buffer : List ℕ) (fits : image
       let n : left (formatting z) ≡ all = format-left z (legal z ok) in
       rw (← runs) (ap (λ (k : ℕ). min all k) n ∙ whole)
 
-  made : finished 70 Unset asks ≡ turn (ready (freshState z) Unset) (Answered 70 0 all) (formatted z buffer)
+  made : finished 70 Unset asks ≡ turn (ready (fresh_state z) Unset) (Answered 70 0 all) (formatted z buffer)
   unfolding finished exec
   made =
-      let some : eqb (imageWords z + 1) 0 ≡ false = ne_eqb (imageWords z + 1) 0 (λ q. omega (arith, q)) in
+      let some : eqb (image_words z + 1) 0 ≡ false = ne_eqb (image_words z + 1) 0 (λ q. omega (arith, q)) in
       rw some (λ i. turn (ready (state i) Unset) (Answered 70 0 (stores i)) (image i))
 
-  pub format-fresh : (m : Machine) → m.cut ≡ Unset → formats m buffer z ≡ turn (ready (freshState z) Unset) (Answered 70 0 all) (formatted z buffer)
+  pub format-fresh : (m : Machine) → m.cut ≡ Unset → formats m buffer z ≡ turn (ready (fresh_state z) Unset) (Answered 70 0 all) (formatted z buffer)
   unfolding formats
   format-fresh m e =
       let d = result (replacing m.st (format_of z buffer)) buffer in

@@ -3,8 +3,8 @@ use Rattle.std.specs.Prelude.{ℕ, suc, List, [], ◌∷◌}
 use Prim.Native.Char.{code}
 use Prim.Native.String.{String, [] as none, ◌∷◌ as ◌then◌}
 use Rattle.executing.specs.Called.{Machine}
-use Rattle.printing.specs.Output.{outputLine}
-use Rattle.script.specs.Performed.{lineTurn}
+use Rattle.printing.specs.Output.{output_line}
+use Rattle.script.specs.Performed.{line_turn}
 
 -- the bytes of a text of ASCII characters
 unfoldable pub text : String → List ℕ
@@ -15,8 +15,8 @@ text (c then s) = code c ∷ text s
 unfoldable pub printed : ℕ → Machine → List ℕ → List (List ℕ) → List (List ℕ)
 printed n m img [] = []
 printed n m img (line ∷ lines) =
-    let t = lineTurn m img line in
-    outputLine n t.output ∷ printed (suc n) t.machine t.image lines
+    let t = line_turn m img line in
+    output_line n t.output ∷ printed (suc n) t.machine t.image lines
 
 abbrev pub input : List (List ℕ)
 input =

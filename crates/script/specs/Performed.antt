@@ -5,8 +5,8 @@ use Rattle.state_words.specs.Decoded.{decoded}
 use Rattle.text.specs.Fields.{parsed}
 use Rattle.executing.specs.declared.Cut.TheVariants.{Unset}
 use Rattle.script.specs.declared.Performed.{Performed}
-use Rattle.printing.specs.Output.{outputLine}
-use Rattle.executing.specs.Called.{Machine, machineAt, Turn}
+use Rattle.printing.specs.Output.{output_line}
+use Rattle.executing.specs.Called.{Machine, machine_at, Turn}
 use Rattle.script.specs.Turns.{turn_of}
 
 -- before the first line: every word is 0, and no line looks at the state until a format is taken
@@ -14,8 +14,8 @@ abbrev pub started : Machine
 started = record { st = decoded (replicate 1280 0); formatted = false; cut = Unset }
 
 -- a number has 1 to 9 digits
-abbrev pub lineTurn : Machine → List ℕ → List ℕ → Turn
-lineTurn m img line = turn_of m img (parsed 9 line)
+abbrev pub line_turn : Machine → List ℕ → List ℕ → Turn
+line_turn m img line = turn_of m img (parsed 9 line)
 
 -- no printed line is longer: two numbers of 20 digits after one of 20, the letter, 4 commas, a dash and a newline
 abbrev pub room : ℕ
@@ -30,12 +30,12 @@ pub record Performance : Type 0 where
 -- line number n, whose printed line goes to byte at of out; without room nothing is done
 unfoldable pub performed : Machine → List ℕ → ℕ → List ℕ → List ℕ → ℕ → Performance
 performed m img n line out at =
-    let t = lineTurn m img line in
-    let printed = outputLine n t.output in
+    let t = line_turn m img line in
+    let printed = output_line n t.output in
     cond (leb (at + room) (length out))
     (record { machine = t.machine; end = at + length printed; image = t.image; out = over out at printed })
     (record { machine = m; end = at; image = img; out = out })
 
 -- what the code's came to
-abbrev pub performedTo : Performed → List ℕ → List ℕ → List ℕ → Performance
-performedTo r words img out = record { machine = machineAt r.mode words; end = r.end; image = img; out = out }
+abbrev pub performed_to : Performed → List ℕ → List ℕ → List ℕ → Performance
+performed_to r words img out = record { machine = machine_at r.mode words; end = r.end; image = img; out = out }

@@ -1,9 +1,9 @@
 -- What the lines of an input came to in program powerhit, and all that is printed for them.
 use Rattle.std.specs.Prelude.{ℕ, ◌+◌, ◌%◌, ◌^◌, cond, List, ◌++◌, leb, length}
 use Rattle.executing.specs.Called.{Machine}
-use Rattle.printing.specs.Output.{outputLine}
+use Rattle.printing.specs.Output.{output_line}
 use Rattle.script.specs.Listing.{text}
-use Rattle.script.specs.Performed.{started, lineTurn}
+use Rattle.script.specs.Performed.{started, line_turn}
 
 -- the machine, its image, how many the lines were, all that is printed, and how many of its last bytes are not yet handed to a write
 pub record Work : Type 0 where
@@ -21,8 +21,8 @@ roomed waiting = cond (leb waiting 65000) waiting 0
 unfoldable pub act : Work → List ℕ → Work
 act w line =
     let n = (w.lines + 1) % 2 ^ 64 in
-    let t = lineTurn w.machine w.image line in
-    let text = outputLine n t.output in
+    let t = line_turn w.machine w.image line in
+    let text = output_line n t.output in
     record {
       machine = t.machine;
       image = t.image;

@@ -1,7 +1,7 @@
 // A line of the input performed: read, obeyed and answered by a line of the output.
 ghost use Rattle.std.specs.Prelude.{◌≡◌, ◌+◌, leb};
-ghost use Rattle.executing.specs.Called.{machineAt};
-ghost use Rattle.script.specs.Performed.{room, started, performed, performedTo};
+ghost use Rattle.executing.specs.Called.{machine_at};
+ghost use Rattle.script.specs.Performed.{room, started, performed, performed_to};
 
 use crate::{Performed, turns};
 use executing::{Cut, Mode};
@@ -9,7 +9,7 @@ use state_words::{WORD_COUNT, Words};
 
 // The machine before the first line: every word is 0.
 pub fn start(words: &mut Words) -> Mode
-    ensures { machineAt result words.new ≡ started }
+    ensures { machine_at result words.new ≡ started }
 {
     *words = [0u64; WORD_COUNT];
     Mode {
@@ -38,8 +38,8 @@ pub fn perform(
     out: &mut [u8],
     at: usize,
 ) -> Performed
-    ensures { performedTo result words.new image.new out.new
-        ≡ performed (machineAt m words.old) image.old n line.now out.old at }
+    ensures { performed_to result words.new image.new out.new
+        ≡ performed (machine_at m words.old) image.old n line.now out.old at }
 {
     if !has_room(out.len(), at) {
         return Performed { mode: m, end: at };

@@ -1,8 +1,8 @@
 // A line of powerhit's script performed: the call that it names, and what is printed of it.
 ghost use Rattle.std.specs.Prelude.{◌≡◌};
 ghost use Rattle.state_words.specs.Decoded.{decoded};
-ghost use Rattle.executing.specs.Called.{machineAt, turnAt};
-ghost use Rattle.script.specs.Turns.{sizesIn, formats, shown, shownBy, turn_of};
+ghost use Rattle.executing.specs.Called.{machine_at, turn_at};
+ghost use Rattle.script.specs.Turns.{sizes_in, formats, shown, shown_by, turn_of};
 
 use executing::{Cut, Mode, Turned, calls, finishing};
 use forms::Form;
@@ -14,7 +14,7 @@ use text::Line;
 
 // The sizes that a line gives.
 fn sizes_in(numbers: &[u64; 69]) -> Sizes
-    ensures { result ≡ sizesIn numbers.now }
+    ensures { result ≡ sizes_in numbers.now }
 {
     Sizes {
         pages: numbers[0] as usize,
@@ -26,7 +26,7 @@ fn sizes_in(numbers: &[u64; 69]) -> Sizes
 
 // F: a format asked for, and its stores; after a refused one the machine stays as it was.
 fn format_turn(image: &mut [u8], words: &mut Words, m: Mode, z: Sizes) -> Turned
-    ensures { turnAt result words.new image.new ≡ formats (machineAt m words.old) image.old z }
+    ensures { turn_at result words.new image.new ≡ formats (machine_at m words.old) image.old z }
 {
     let answer = call_mount::format(image, words, z, Until::Asked);
     let number = answers::number_of(answer);
@@ -74,7 +74,7 @@ fn read_byte(
 }
 
 fn read_shown(image: &[u8], words: &Words, numbers: &[u64; 69]) -> Output
-    ensures { result ≡ shownBy (decoded words.now) image.now numbers.now }
+    ensures { result ≡ shown_by (decoded words.now) image.now numbers.now }
 {
     read_byte(
         image,
@@ -88,7 +88,7 @@ fn read_shown(image: &[u8], words: &Words, numbers: &[u64; 69]) -> Output
 
 // The machine and the image after a line, and what it prints. A K takes the place of one that waits.
 pub fn turn(image: &mut [u8], words: &mut Words, m: Mode, line: Line) -> Turned
-    ensures { turnAt result words.new image.new ≡ turn_of (machineAt m words.old) image.old line }
+    ensures { turn_at result words.new image.new ≡ turn_of (machine_at m words.old) image.old line }
 {
     let letter = line.letter;
     let count = line.count;

@@ -10,14 +10,14 @@ use lib.ListN.{length, take, get_or, length-append, length-take}
 use lib.Seq.{take-suc, take_all}
 use borrow.Author.Tests.{ne_eqb}
 use mathlib.Core.Bool.{Bool, false}
-use Rattle.decimals.specs.Decimal.{decimalOf}
+use Rattle.decimals.specs.Decimal.{decimal_of}
 use Rattle.decimals.proofs.Printing.{decimal-le}
 use Rattle.number_text.specs.Text.{Put}
 use Rattle.number_text.proofs.Puts.{put-none, put_then, put_as}
 use Rattle.sequence_runs.specs.declared.Played.{Played}
 use Rattle.sequence_runs.specs.Calls.{call_of}
-use Rattle.sequence_runs.specs.Runs.{Ran, start, oneMore, ran, firstByte, playedOf}
-use Rattle.sequence_lines.specs.Listing.{marked, parted, numbersOf, line_of}
+use Rattle.sequence_runs.specs.Runs.{Ran, start, one_more, ran, first_byte, played_of}
+use Rattle.sequence_lines.specs.Listing.{marked, parted, numbers_of, line_of}
 use Rattle.sequence_lines.specs.Parts.{followed, PutLine}
 
 -- ---- numbers, each followed by a comma
@@ -32,7 +32,7 @@ unfolding followed
 followed-one v = append-nil (marked v (code ","))
 
 pub length_marked : (v mark : ℕ) → length (marked v mark) ≤ 21
-length_marked v mark = omega (arith, length-append (decimalOf v) (mark ∷ []), decimal-le v)
+length_marked v mark = omega (arith, length-append (decimal_of v) (mark ∷ []), decimal-le v)
 
 pub length-followed : (xs : List ℕ) → length (followed xs) ≤ 21 * length xs
 unfolding followed
@@ -82,33 +82,33 @@ parted-append (x ∷ xs) y ys =
     ∙ sym (append_assoc (marked x (code ",")) (followed xs) (parted (y ∷ ys)))
 
 -- how many stores the last call needs does not depend on the cut
-ran-more : (k c : ℕ) (cs : List ℕ) (r : Ran) → 0 < length cs → ran k (c ∷ cs) r ≡ ran k cs (oneMore false k (call_of c) r)
+ran-more : (k c : ℕ) (cs : List ℕ) (r : Ran) → 0 < length cs → ran k (c ∷ cs) r ≡ ran k cs (one_more false k (call_of c) r)
 unfolding ran
-ran-more k c cs r h = ap (λ (b : Bool). ran k cs (oneMore b k (call_of c) r)) (ne_eqb (length cs) 0 (λ e. omega arith))
+ran-more k c cs r h = ap (λ (b : Bool). ran k cs (one_more b k (call_of c) r)) (ne_eqb (length cs) 0 (λ e. omega arith))
 
 needed-same : (k : ℕ) (calls : List ℕ) (r : Ran) → (ran k calls r).needed ≡ (ran 0 calls r).needed
-unfolding ran oneMore
+unfolding ran one_more
 needed-same k [] r = refl
 needed-same k (c ∷ []) r = refl
 needed-same k (c ∷ d ∷ cs) r =
     ap (λ (q : Ran). q.needed) (ran-more k c (d ∷ cs) r (omega arith))
-    ∙ needed-same k (d ∷ cs) (oneMore false k (call_of c) r)
+    ∙ needed-same k (d ∷ cs) (one_more false k (call_of c) r)
     ∙ sym (ap (λ (q : Ran). q.needed) (ran-more 0 c (d ∷ cs) r (omega arith)))
 
 parted-both : (xs ys : List ℕ) (z : ℕ) (zs : List ℕ) → parted (xs ++ (ys ++ (z ∷ zs))) ≡ followed xs ++ (followed ys ++ parted (z ∷ zs))
 parted-both xs ys z zs = ap parted (sym (append_assoc xs ys (z ∷ zs))) ∙ parted-append (xs ++ ys) z zs ∙ rw (followed-append, append_assoc)
 
 pub line-put : {l m₁ m₂ m₃ : List ℕ} {a b₁ b₂ b₃ : ℕ} (calls answers : List ℕ) (k : ℕ) (p : Played)
-    → p ≡ playedOf (ran k calls start) → answers ≡ (ran k calls start).answers → length answers ≡ length calls
+    → p ≡ played_of (ran k calls start) → answers ≡ (ran k calls start).answers → length answers ≡ length calls
     → Put l a (followed calls) m₁ b₁ → Put m₁ b₁ (followed answers) m₂ b₂ → Put m₂ b₂ (parted (k ∷ p.first ∷ p.second ∷ [])) m₃ b₃
     → length m₁ ≡ length l → a + (42 * length calls + 63) ≤ length l
     → PutLine l a calls k m₃ (record { next = b₃; needed = p.needed })
 unfolding line_of
 line-put {l} calls answers k p played answered same p₁ p₂ p₃ n room =
     let r = ran k calls start in
-    let end = k ∷ firstByte r.world 0 ∷ firstByte r.world 1 ∷ [] in
-    let text : followed calls ++ (followed answers ++ parted (k ∷ p.first ∷ p.second ∷ [])) ≡ parted (numbersOf calls k r) =
-    rw (played, answered) (sym (parted-both calls r.answers k (firstByte r.world 0 ∷ firstByte r.world 1 ∷ []))) in
+    let end = k ∷ first_byte r.world 0 ∷ first_byte r.world 1 ∷ [] in
+    let text : followed calls ++ (followed answers ++ parted (k ∷ p.first ∷ p.second ∷ [])) ≡ parted (numbers_of calls k r) =
+    rw (played, answered) (sym (parted-both calls r.answers k (first_byte r.world 0 ∷ first_byte r.world 1 ∷ []))) in
     record {
       text = put_as text (put_then p₁ (put_then p₂ p₃ (omega (arith, p₁.place, p₂.place, length-followed calls, length-followed answers))) (omega (arith, p₁.place, length-followed calls)));
       needed = ap (λ (q : Played). q.needed) played ∙ needed-same k calls start;

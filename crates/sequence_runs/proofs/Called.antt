@@ -7,20 +7,20 @@ use native.Mathlib.Omega.{arith}
 use lib.Dec.{eqb}
 use lib.ListN.{get_or, replicate, get_or-eq_default}
 use borrow.Author.Tests.{eqb-true, eqb-false}
-use Rattle.bounded.proofs.Tests.{caseOn}
+use Rattle.bounded.proofs.Tests.{case_on}
 use Rattle.answers.specs.declared.Answer.{Answer}
-use Rattle.answers.specs.Answers.{number_of, stores_of, answeredAt}
+use Rattle.answers.specs.Answers.{number_of, stores_of, answered_at}
 use Rattle.refinement.specs.Outcome.{Outcome}
 use Rattle.refinement.specs.Stores.{World}
-use Rattle.refinement.specs.Calls.{run_of, runBytes}
-use Rattle.refinement.specs.Recall.{recallBytes}
+use Rattle.refinement.specs.Calls.{run_of, run_bytes}
+use Rattle.refinement.specs.Recall.{recall_bytes}
 use Rattle.refinement.specs.Run.{Call, Result, result, exec, run, checkpoint}
 use Rattle.state_words.specs.Decoded.{decoded}
 use Rattle.op_stores.specs.declared.Until.TheVariants.{Asked}
 use Rattle.op_stores.specs.Started.{Started}
 use Rattle.op_stores.proofs.Calls.{asked_is}
 use Rattle.sequence_runs.specs.Calls.{twelve, call_of}
-use Rattle.sequence_runs.specs.Runs.{budget, oneMore, firstByte}
+use Rattle.sequence_runs.specs.Runs.{budget, one_more, first_byte}
 use Rattle.sequence_runs.specs.Turns.{CameOf, Turned}
 
 -- ---- the call asked for
@@ -36,10 +36,10 @@ past-eleven c a b d e f g h i j k l some =
 
 -- what comes of a call that makes no store, and of one that is only asked for
 module _ (a : Answer) (words img : List ℕ) (o : Outcome) where
-  pub quiet_told : answeredAt a (decoded words) ≡ o → result (answeredAt a (decoded words)) img ≡ result o img
+  pub quiet_told : answered_at a (decoded words) ≡ o → result (answered_at a (decoded words)) img ≡ result o img
   quiet_told h = ap (λ (x : Outcome). result x img) h
 
-  pub asked-told : (img' : List ℕ) → Started a (decoded words) img' o img Asked → result (answeredAt a (decoded words)) img' ≡ result o img
+  pub asked-told : (img' : List ℕ) → Started a (decoded words) img' o img Asked → result (answered_at a (decoded words)) img' ≡ result o img
   asked-told img' h = let e = asked_is o img in ap₂ result (h.0 ∙ e.0) (h.1 ∙ e.1)
 
 module _ (c : ℕ) (v : World) (r : Result) where
@@ -50,10 +50,10 @@ module _ (c : ℕ) (v : World) (r : Result) where
   -- any number but 1 to 11 is a checkpoint's
   last-call : (1 ≤ c → 12 ≤ c) → call_of c ≡ checkpoint
   last-call h =
-      caseOn (eqb c 0)
+      case_on (eqb c 0)
       (λ t. rw (eqb-true c 0 t))
       (λ t.
-      caseOn (eqb c 12)
+      case_on (eqb c 12)
       (λ u. rw (eqb-true c 12 u))
       (λ u.
       let some : 1 ≤ c = omega (arith, eqb-false c 0 t) in
@@ -67,9 +67,9 @@ module _ (c : ℕ) (v : World) (r : Result) where
 pub turned : (last : Bool) (k c : ℕ) (words img : List ℕ) (x : Answer) (words₁ img₁ : List ℕ) (y : Answer) (words₂ img₂ : List ℕ) (number needed b : ℕ)
     → CameOf (call_of c) words img x words₁ img₁
     → number ≡ number_of x → needed ≡ stores_of x → b ≡ budget last k needed
-    → answeredAt y (decoded words₂) ≡ run_of (decoded words₁) img₁ b → img₂ ≡ runBytes (decoded words₁) img₁ b
+    → answered_at y (decoded words₂) ≡ run_of (decoded words₁) img₁ b → img₂ ≡ run_bytes (decoded words₁) img₁ b
     → Turned last k c words img (record { number = number; needed = needed }) words₂ img₂
-unfolding oneMore exec
+unfolding one_more exec
 turned last k c words img x words₁ img₁ y words₂ img₂ number needed b e hn hs hb ho hi =
     let state : decoded words₂ ≡ (run_of (decoded words₁) img₁ b).state = ap (λ (o : Outcome). o.state) ho in
     record {
@@ -85,6 +85,6 @@ turned last k c words img x words₁ img₁ y words₂ img₂ number needed b e 
 -- ---- the byte that a recall shows
 
 pub first-told : (v : World) (img : List ℕ) (l : ℕ) (target : List ℕ)
-    → target ≡ recallBytes img 0 l (replicate 64 0) → v.image ≡ img → get_or target 0 0 ≡ firstByte v l
-unfolding firstByte exec
+    → target ≡ recall_bytes img 0 l (replicate 64 0) → v.image ≡ img → get_or target 0 0 ≡ first_byte v l
+unfolding first_byte exec
 first-told v img l target h e = rw (h, e)

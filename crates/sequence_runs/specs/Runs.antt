@@ -2,7 +2,7 @@
 use Rattle.std.specs.Prelude.{ℕ, Bool, cond, List, [], ◌∷◌, ◌++◌, eqb, length, get_or, replicate}
 use Rattle.layout.specs.declared.Sizes.{Sizes}
 use Rattle.refinement.specs.Stores.{World}
-use Rattle.refinement.specs.Run.{Call, mount, run, recall, exec, formattedWorld}
+use Rattle.refinement.specs.Run.{Call, mount, run, recall, exec, formatted_world}
 use Rattle.sequence_runs.specs.declared.Played.{Played}
 use Rattle.sequence_runs.specs.Calls.{call_of}
 
@@ -11,8 +11,8 @@ abbrev pub small : Sizes
 small = record { pages = 1; slots = 1; places = 1; entries = 0 }
 
 -- a fresh image, and nothing past it
-unfoldable pub freshWorld : World
-freshWorld = formattedWorld small (replicate 8320 0)
+unfoldable pub fresh_world : World
+fresh_world = formatted_world small (replicate 8320 0)
 
 -- what the calls so far came to: their answers, the stores that the last one needed, and the world
 pub record Ran : Type 0 where
@@ -21,15 +21,15 @@ pub record Ran : Type 0 where
   pub world : World
 
 abbrev pub start : Ran
-start = record { answers = []; needed = 0; world = freshWorld }
+start = record { answers = []; needed = 0; world = fresh_world }
 
 -- the stores that a call may make: all that it needs, and the last one k
 abbrev pub budget : Bool → ℕ → ℕ → ℕ
 budget last k needed = cond last k needed
 
 -- one call more (a refused one needs no stores)
-unfoldable pub oneMore : Bool → ℕ → Call → Ran → Ran
-oneMore last k c r =
+unfoldable pub one_more : Bool → ℕ → Call → Ran → Ran
+one_more last k c r =
     let d = exec c r.world in
     record {
       answers = r.answers ++ (d.number ∷ []);
@@ -40,12 +40,12 @@ oneMore last k c r =
 -- the calls of these numbers
 unfoldable pub ran : ℕ → List ℕ → Ran → Ran
 ran k [] r = r
-ran k (c ∷ cs) r = ran k cs (oneMore (eqb (length cs) 0) k (call_of c) r)
+ran k (c ∷ cs) r = ran k cs (one_more (eqb (length cs) 0) k (call_of c) r)
 
 -- the first byte of line l of page 0 after a mount
-unfoldable pub firstByte : World → ℕ → ℕ
-firstByte v l = get_or (exec (recall 0 l (replicate 64 0)) (exec mount v).world).target 0 0
+unfoldable pub first_byte : World → ℕ → ℕ
+first_byte v l = get_or (exec (recall 0 l (replicate 64 0)) (exec mount v).world).target 0 0
 
 -- the stores that the last call needs, and the first bytes of both lines
-abbrev pub playedOf : Ran → Played
-playedOf r = record { needed = r.needed; first = firstByte r.world 0; second = firstByte r.world 1 }
+abbrev pub played_of : Ran → Played
+played_of r = record { needed = r.needed; first = first_byte r.world 0; second = first_byte r.world 1 }

@@ -4,7 +4,7 @@ mod turns;
 
 ghost use Rattle.std.specs.Prelude.{◌≡◌, length, replicate};
 ghost use Rattle.refinement.specs.Stores.{World};
-ghost use Rattle.sequence_runs.specs.Runs.{start, ran, firstByte, playedOf};
+ghost use Rattle.sequence_runs.specs.Runs.{start, ran, first_byte, played_of};
 
 use layout::Sizes;
 use state_words::WORD_COUNT;
@@ -20,7 +20,7 @@ pub struct Played {
 
 // The first byte of a line of page 0, as a recall shows it: it mounts.
 fn first_byte(image: &[u8], line: usize) -> u8
-    ensures { (v : World) → v.image ≡ image.now → result ≡ firstByte v line }
+    ensures { (v : World) → v.image ≡ image.now → result ≡ first_byte v line }
 {
     let mut target = [0u8; 64];
     recalling::recall(0, line, image, &mut target);
@@ -37,7 +37,7 @@ fn blank() -> [u8; 8320]
 // Makes the calls of these numbers on a fresh image, cuts the last one after k stores, and puts down their answers.
 pub fn play(numbers: &[u64], k: usize, answers: &mut [u64]) -> Played
     requires { length answers.old ≡ length numbers.now }
-    ensures played { result ≡ playedOf (ran k numbers.now start) }
+    ensures played { result ≡ played_of (ran k numbers.now start) }
     ensures answers { answers.new ≡ (ran k numbers.now start).answers }
 {
     let mut image = blank();

@@ -8,7 +8,7 @@ use native.Mathlib.Omega.{arith}
 use lib.Dec.{ltb}
 use lib.ListN.{length, length-append}
 use borrow.Author.Tests.{ltb-true, ltb-false}
-use Rattle.bounded.proofs.Tests.{caseOn}
+use Rattle.bounded.proofs.Tests.{case_on}
 use Rattle.sequences.specs.Sequences.{sequence, Before, Numbers, Rising, Sound, Complete}
 
 -- ---- how long they are, and of what
@@ -52,7 +52,7 @@ rising (suc n) i j h k =
     let low : j < 12 ^ n * 12 = rw pow-suc at k in
     let xs = sequence n (i / 12) in
     let ys = sequence n (j / 12) in
-    caseOn (ltb (i / 12) (j / 12))
+    case_on (ltb (i / 12) (j / 12))
     (λ t.
     before_more xs ys (i % 12 + 1) (j % 12 + 1) (length-sequence n (i / 12) ∙ sym (length-sequence n (j / 12)))
     (rising n (i / 12) (j / 12) (ltb-true (i / 12) (j / 12) t) (omega arith)))

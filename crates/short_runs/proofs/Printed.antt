@@ -10,25 +10,25 @@ use lib.Dec.{leb}
 use lib.ListN.{length, set}
 use borrow.Author.Tests.{le-leb, lt-leb, leb-true}
 use Rattle.bounded.specs.Below.{up_to}
-use Rattle.bounded.proofs.Tests.{caseOn}
+use Rattle.bounded.proofs.Tests.{case_on}
 use Rattle.cutting.specs.Buffers.{Ends}
 use Rattle.cutting.proofs.Buffers.{ends-none, ends_more}
 use Rattle.number_text.specs.Text.{each}
 use Rattle.sequences.specs.Sequences.{sequence}
 use Rattle.sequence_lines.specs.declared.Line.{Line}
-use Rattle.sequence_lines.specs.Listing.{neededBy, line_of, lines_of, listing}
+use Rattle.sequence_lines.specs.Listing.{needed_by, line_of, lines_of, listing}
 use Rattle.sequence_lines.specs.Parts.{PutLine}
 use Rattle.short_runs.specs.declared.Output.{Output}
-use Rattle.short_runs.specs.Program.{roomed, wantedOf, mark, withLine, withLines, withListing, Prints, PutCut, Responds}
+use Rattle.short_runs.specs.Program.{roomed, wanted_of, mark, with_line, with_lines, with_listing, Prints, PutCut, Responds}
 
 -- ---- room for a line
 
 pub roomed-low : (at : ℕ) → roomed at ≤ 65000
-roomed-low at = caseOn (leb at 65000) (λ t. rw t (leb-true at 65000 t)) (λ t. rw t (omega arith))
+roomed-low at = case_on (leb at 65000) (λ t. rw t (leb-true at 65000 t)) (λ t. rw t (omega arith))
 
 -- all that waits is written, or nothing
 ends-room : {out : List ℕ} {at : ℕ} {printed : List ℕ} → Ends out at printed → Ends out (roomed at) printed
-ends-room {out} {at} {printed} h = caseOn (leb at 65000) (λ t. rw t h) (λ t. rw t (ends-none out printed))
+ends-room {out} {at} {printed} h = case_on (leb at 65000) (λ t. rw t h) (λ t. rw t (ends-none out printed))
 
 pub cut-put : (s : Output) (out : List ℕ) (room : ℕ) (calls : List ℕ) (k : ℕ) (out' : List ℕ) (r : Line) (ok : Bool)
     → room ≡ roomed s.at → length out ≡ 65536 → length out' ≡ length out → PutLine out room calls k out' r
@@ -64,31 +64,31 @@ module _ {s : Output} {out : List ℕ} where
         unwritten = λ printed e. rw (← append_assoc) (h.unwritten (printed ++ each k f) (p.unwritten printed e));
       })
 
-  pub prints-lines : {r : Output} {out' : List ℕ} (calls : List ℕ) (k : ℕ) → k ≤ neededBy calls → neededBy calls ≤ k
-      → Prints s out (each (k + 1) (line_of calls)) (up_to (k + 1) (λ j. withLine (line_of calls j))) r out' → Prints s out (lines_of calls) (withLines calls) r out'
-  unfolding lines_of withLines
+  pub prints-lines : {r : Output} {out' : List ℕ} (calls : List ℕ) (k : ℕ) → k ≤ needed_by calls → needed_by calls ≤ k
+      → Prints s out (each (k + 1) (line_of calls)) (up_to (k + 1) (λ j. with_line (line_of calls j))) r out' → Prints s out (lines_of calls) (with_lines calls) r out'
+  unfolding lines_of with_lines
   prints-lines {r} {out'} calls k h l p =
-      let e : k ≡ neededBy calls = omega arith in
-      subst (λ (j : ℕ). Prints s out (each (j + 1) (line_of calls)) (up_to (j + 1) (λ j. withLine (line_of calls j))) r out') e p
+      let e : k ≡ needed_by calls = omega arith in
+      subst (λ (j : ℕ). Prints s out (each (j + 1) (line_of calls)) (up_to (j + 1) (λ j. with_line (line_of calls j))) r out') e p
 
   pub prints-all : {r : Output} {out' : List ℕ} (n i : ℕ) → i ≤ 12 ^ n → 12 ^ n ≤ i
-      → Prints s out (each i (λ j. lines_of (sequence n j))) (up_to i (λ j. withLines (sequence n j))) r out' → Prints s out (listing n) (withListing n) r out'
-  unfolding listing withListing
+      → Prints s out (each i (λ j. lines_of (sequence n j))) (up_to i (λ j. with_lines (sequence n j))) r out' → Prints s out (listing n) (with_listing n) r out'
+  unfolding listing with_listing
   prints-all {r} {out'} n i h l p =
       let e : i ≡ 12 ^ n = omega arith in
-      subst (λ (j : ℕ). Prints s out (each j (λ j. lines_of (sequence n j))) (up_to j (λ j. withLines (sequence n j))) r out') e p
+      subst (λ (j : ℕ). Prints s out (each j (λ j. lines_of (sequence n j))) (up_to j (λ j. with_lines (sequence n j))) r out') e p
 
 -- ---- the response
 
-pub responds-list : (input : List ℕ) (n : ℕ) (s r : Output) (out out' : List ℕ) → n ≡ wantedOf input → n ≤ 3 → s.at ≡ 0 → Prints s out (listing n) (withListing n) r out' → Responds input r out'
+pub responds-list : (input : List ℕ) (n : ℕ) (s r : Output) (out out' : List ℕ) → n ≡ wanted_of input → n ≤ 3 → s.at ≡ 0 → Prints s out (listing n) (with_listing n) r out' → Responds input r out'
 responds-list input n s r out out' e h z p =
     let t = le-leb n 3 h in
-    record { waiting = rw (← e, t) (p.waiting ∙ ap (withListing n) z); unwritten = rw (← e, t) (p.unwritten [] (rw z (ends-none out []))) }
+    record { waiting = rw (← e, t) (p.waiting ∙ ap (with_listing n) z); unwritten = rw (← e, t) (p.unwritten [] (rw z (ends-none out []))) }
 
 pub mark-ends : (out : List ℕ) → 2 ≤ length out → Ends (set (set out 0 (code "?")) 1 (code "\n")) 2 mark
 mark-ends [] h = absurd (omega arith)
 mark-ends (a ∷ []) h = absurd (omega arith)
 mark-ends (a ∷ b ∷ l) h = record { within = omega arith; bytes = refl }
 
-pub responds-mark : (input : List ℕ) (n : ℕ) (ok : Bool) (out : List ℕ) → n ≡ wantedOf input → 3 < n → Ends out 2 mark → Responds input (record { at = 2; ok = ok }) out
+pub responds-mark : (input : List ℕ) (n : ℕ) (ok : Bool) (out : List ℕ) → n ≡ wanted_of input → 3 < n → Ends out 2 mark → Responds input (record { at = 2; ok = ok }) out
 responds-mark input n ok out e h p = let t = lt-leb n 3 h in record { waiting = rw (← e, t); unwritten = rw (← e, t) p }

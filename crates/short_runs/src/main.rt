@@ -4,7 +4,7 @@ ghost use Rattle.std.specs.Prelude.{◌≡◌, ◌^◌, ◌≤◌, length};
 ghost use Rattle.cutting.specs.Buffers.{Ends};
 ghost use Rattle.sequences.specs.Sequences.{sequence};
 ghost use Rattle.sequence_lines.specs.Listing.{lines_of, listing};
-ghost use Rattle.short_runs.specs.Program.{roomed, digitOf, wantedOf, mark, withLines, withListing, Prints, PutCut, Responds};
+ghost use Rattle.short_runs.specs.Program.{roomed, digit_of, wanted_of, mark, with_lines, with_listing, Prints, PutCut, Responds};
 
 use libc::{STDIN_FILENO, STDOUT_FILENO};
 
@@ -61,7 +61,7 @@ fn put_cut(s: Output, out: &mut [u8; 65536], n: usize, i: u64, k: usize) -> Cut
 // The lines of sequence i of n calls.
 fn put_cuts(s: Output, out: &mut [u8; 65536], n: usize, i: u64) -> Output
     requires { n ≤ 3 }
-    ensures { Prints s out.old (lines_of (sequence n i)) (withLines (sequence n i)) result out.new }
+    ensures { Prints s out.old (lines_of (sequence n i)) (with_lines (sequence n i)) result out.new }
 {
     let mut output = s;
     let mut k = 0;
@@ -91,7 +91,7 @@ fn total(n: usize) -> u64
 // The lines of all sequences of n calls.
 fn put_all(s: Output, out: &mut [u8; 65536], n: usize) -> Output
     requires { n ≤ 3 }
-    ensures { Prints s out.old (listing n) (withListing n) result out.new }
+    ensures { Prints s out.old (listing n) (with_listing n) result out.new }
 {
     let mut output = s;
     let all = total(n);
@@ -105,7 +105,7 @@ fn put_all(s: Output, out: &mut [u8; 65536], n: usize) -> Output
 
 // The digit's number, or 4 for any other byte.
 fn digit_of(b: u8) -> usize
-    ensures { result ≡ digitOf b }
+    ensures { result ≡ digit_of b }
 {
     if (b < 48) | (b > 51) {
         return 4;
@@ -115,7 +115,7 @@ fn digit_of(b: u8) -> usize
 
 // The number that the input asks for, or 4: one digit of 0 to 3, with or without a newline.
 fn wanted(input: &[u8]) -> usize
-    ensures { result ≡ wantedOf input.now }
+    ensures { result ≡ wanted_of input.now }
 {
     if input.len() == 1 {
         return digit_of(input[0]);

@@ -7,16 +7,16 @@ use borrow.Author.Tests.{le-ltb, eq-eqb, ne_eqb}
 use lib.Dec.{ltb, eqb}
 use lib.ListN.{get_or}
 use Rattle.bounded.specs.Below.{all_below}
-use Rattle.bounded.specs.Count.{eachOnce}
+use Rattle.bounded.specs.Count.{each_once}
 use Rattle.layout.specs.declared.Sizes.{Sizes}
 use Rattle.layout.specs.Layout.{Legal, frames}
 use Rattle.journal.specs.declared.Slot.{Slot}
-use Rattle.journal.specs.Slots.{noPage, noFrame, isOwning, shaped}
+use Rattle.journal.specs.Slots.{no_page, no_frame, is_owning, shaped}
 use Rattle.replay.specs.declared.Table.{Table}
-use Rattle.replay.specs.Table.{slotIn, slotsShaped, pageApart, pagesApart, frameNames, tableOk}
-use Rattle.replay.specs.Map.{originalKept, originalsKept, namesKept}
+use Rattle.replay.specs.Table.{slot_in, slots_shaped, page_apart, pages_apart, frame_names, table_ok}
+use Rattle.replay.specs.Map.{original_kept, originals_kept, names_kept}
 use Rattle.replay.proofs.Maps.{names-kept}
-use Rattle.slot_rules.specs.Slots.{slotFine, slotsFine}
+use Rattle.slot_rules.specs.Slots.{slot_fine, slots_fine}
 
 -- two tests of each number below n
 four : (a b c d : Bool) → (a && b) && (c && d) ≡ (a && c) && (b && d)
@@ -30,10 +30,10 @@ all-and f g zero = refl
 all-and f g (suc n) = ap (λ (b : Bool). b && (f n && g n)) (all-and f g n) ∙ four (all_below n f) (all_below n g) (f n) (g n)
 
 -- the pass over all slots
-pub fine-all : (h : ℕ → ℕ) (z : Sizes) (t : Table) → all_below z.slots (slotFine h z t) ≡ slotsShaped z t && (pagesApart z t.page && originalsKept h z t)
+pub fine-all : (h : ℕ → ℕ) (z : Sizes) (t : Table) → all_below z.slots (slot_fine h z t) ≡ slots_shaped z t && (pages_apart z t.page && originals_kept h z t)
 fine-all h z t =
-    all-and (λ s. shaped z (slotIn t s)) (λ s. pageApart t.page s && originalKept h t s) z.slots
-    ∙ ap (λ (b : Bool). slotsShaped z t && b) (all-and (pageApart t.page) (originalKept h t) z.slots)
+    all-and (λ s. shaped z (slot_in t s)) (λ s. page_apart t.page s && original_kept h t s) z.slots
+    ∙ ap (λ (b : Bool). slots_shaped z t && b) (all-and (page_apart t.page) (original_kept h t) z.slots)
 
 turned : (a b k n m : Bool) → (k ≡ true → n ≡ m) → (a && (b && k)) && n ≡ (a && (b && m)) && k
 turned true true true n m e = e refl ∙ sym (and-true m)
@@ -42,42 +42,42 @@ turned true false k n m e = refl
 turned false b k n m e = refl
 
 -- both tests together
-pub slots-fine : (h : ℕ → ℕ) (z : Sizes) (t : Table) → Legal z → slotsFine h z t ≡ tableOk h z t && originalsKept h z t
+pub slots-fine : (h : ℕ → ℕ) (z : Sizes) (t : Table) → Legal z → slots_fine h z t ≡ table_ok h z t && originals_kept h z t
 slots-fine h z t legal =
-    let n = eachOnce (frames z) (namesKept h z t) in
+    let n = each_once (frames z) (names_kept h z t) in
     ap (λ (b : Bool). b && n) (fine-all h z t)
-    ∙ turned (slotsShaped z t) (pagesApart z t.page) (originalsKept h z t) n (eachOnce (frames z) (frameNames h z t))
-    (λ kept. ap (eachOnce (frames z)) (names-kept h z t legal kept))
+    ∙ turned (slots_shaped z t) (pages_apart z t.page) (originals_kept h z t) n (each_once (frames z) (frame_names h z t))
+    (λ kept. ap (each_once (frames z)) (names-kept h z t legal kept))
 
 -- a free slot's shape
-abbrev pub freeShape : Sizes → Slot → Bool
-freeShape z t = eqb t.original noFrame && eqb t.bitmap 0 && ltb t.spare (z.pages + z.slots)
+abbrev pub free_shape : Sizes → Slot → Bool
+free_shape z t = eqb t.original no_frame && eqb t.bitmap 0 && ltb t.spare (z.pages + z.slots)
 
-shape_free : (z : Sizes) (t : Slot) → Legal z → t.page ≡ noPage → shaped z t ≡ freeShape z t
-shape_free z t h e = rw (le-ltb t.page z.pages (omega (arith, h, e)), eq-eqb t.page noPage e)
+shape_free : (z : Sizes) (t : Slot) → Legal z → t.page ≡ no_page → shaped z t ≡ free_shape z t
+shape_free z t h e = rw (le-ltb t.page z.pages (omega (arith, h, e)), eq-eqb t.page no_page e)
 
-shape-owning : (z : Sizes) (t : Slot) → (t.page ≡ noPage → ⊥) → shaped z t ≡ isOwning z t
-shape-owning z t n = rw (ne_eqb t.page noPage n) (or-false (isOwning z t))
+shape-owning : (z : Sizes) (t : Slot) → (t.page ≡ no_page → ⊥) → shaped z t ≡ is_owning z t
+shape-owning z t n = rw (ne_eqb t.page no_page n) (or-false (is_owning z t))
 
 and_both : (a b c d : Bool) → a ≡ b → c ≡ d → a && c ≡ b && d
 and_both a b c d e h = ap₂ (λ (x y : Bool). x && y) e h
 
 -- a slot where it is known whether it is free
 module _ (h : ℕ → ℕ) (z : Sizes) (t : Table) (s : ℕ) where
-  pub free-is : Legal z → get_or t.page s 0 ≡ noPage → slotFine h z t s ≡ freeShape z (slotIn t s)
+  pub free-is : Legal z → get_or t.page s 0 ≡ no_page → slot_fine h z t s ≡ free_shape z (slot_in t s)
   free-is legal e =
-      let n : eqb (get_or t.page s 0) noPage ≡ true = eq-eqb (get_or t.page s 0) noPage e in
-      let page : pageApart t.page s ≡ true = ap (λ (b : Bool). b || all_below s (λ k. not (eqb (get_or t.page s 0) (get_or t.page k 0)))) n in
-      let kept : originalKept h t s ≡ true = ap (λ (b : Bool). b || eqb (h (get_or t.page s 0)) (get_or t.original s 0)) n in
-      and_both (shaped z (slotIn t s)) (freeShape z (slotIn t s)) _ true (shape_free z (slotIn t s) legal e) (and_both (pageApart t.page s) true _ true page kept)
-      ∙ and-true (freeShape z (slotIn t s))
+      let n : eqb (get_or t.page s 0) no_page ≡ true = eq-eqb (get_or t.page s 0) no_page e in
+      let page : page_apart t.page s ≡ true = ap (λ (b : Bool). b || all_below s (λ k. not (eqb (get_or t.page s 0) (get_or t.page k 0)))) n in
+      let kept : original_kept h t s ≡ true = ap (λ (b : Bool). b || eqb (h (get_or t.page s 0)) (get_or t.original s 0)) n in
+      and_both (shaped z (slot_in t s)) (free_shape z (slot_in t s)) _ true (shape_free z (slot_in t s) legal e) (and_both (page_apart t.page s) true _ true page kept)
+      ∙ and-true (free_shape z (slot_in t s))
 
-  pub owning-is : (get_or t.page s 0 ≡ noPage → ⊥)
-      → slotFine h z t s
-      ≡ isOwning z (slotIn t s) && (all_below s (λ k. not (eqb (get_or t.page s 0) (get_or t.page k 0))) && eqb (h (get_or t.page s 0)) (get_or t.original s 0))
+  pub owning-is : (get_or t.page s 0 ≡ no_page → ⊥)
+      → slot_fine h z t s
+      ≡ is_owning z (slot_in t s) && (all_below s (λ k. not (eqb (get_or t.page s 0) (get_or t.page k 0))) && eqb (h (get_or t.page s 0)) (get_or t.original s 0))
   owning-is e =
-      let n : eqb (get_or t.page s 0) noPage ≡ false = ne_eqb (get_or t.page s 0) noPage e in
+      let n : eqb (get_or t.page s 0) no_page ≡ false = ne_eqb (get_or t.page s 0) no_page e in
       let pages : Bool = all_below s (λ k. not (eqb (get_or t.page s 0) (get_or t.page k 0))) in
       let same : Bool = eqb (h (get_or t.page s 0)) (get_or t.original s 0) in
-      and_both (shaped z (slotIn t s)) (isOwning z (slotIn t s)) _ _ (shape-owning z (slotIn t s) e)
-      (and_both (pageApart t.page s) pages _ same (ap (λ (b : Bool). b || pages) n) (ap (λ (b : Bool). b || same) n))
+      and_both (shaped z (slot_in t s)) (is_owning z (slot_in t s)) _ _ (shape-owning z (slot_in t s) e)
+      (and_both (page_apart t.page s) pages _ same (ap (λ (b : Bool). b || pages) n) (ap (λ (b : Bool). b || same) n))

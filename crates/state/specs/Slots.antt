@@ -1,20 +1,20 @@
 -- Reading the slots of a state: the slot of a page and the first free one. Each takes the arrays that it reads.
 use Rattle.std.specs.Prelude.{ℕ, ◌+◌, ◌%◌, Bool, List, eqb, get_or}
-use Rattle.bounded.specs.Below.{firstBelow}
+use Rattle.bounded.specs.Below.{first_below}
 use Rattle.layout.specs.declared.Sizes.{Sizes}
-use Rattle.journal.specs.Slots.{noPage}
+use Rattle.journal.specs.Slots.{no_page}
 
 -- whether slot s is free
-abbrev pub freeAt : List ℕ → ℕ → Bool
-freeAt page s = eqb (get_or page s 0) noPage
+abbrev pub free_at : List ℕ → ℕ → Bool
+free_at page s = eqb (get_or page s 0) no_page
 
 -- the slot of page p, S where it has none
-abbrev pub slotOfPage : Sizes → List ℕ → ℕ → ℕ
-slotOfPage z page p = firstBelow z.slots (λ s. eqb (get_or page s 0) p)
+abbrev pub slot_of_page : Sizes → List ℕ → ℕ → ℕ
+slot_of_page z page p = first_below z.slots (λ s. eqb (get_or page s 0) p)
 
 -- going round from the next slot to try: the slot k places on, and at which k the first free one lies (S: none)
-abbrev pub roundSlot : Sizes → ℕ → ℕ → ℕ
-roundSlot z next k = (next + k) % z.slots
+abbrev pub round_slot : Sizes → ℕ → ℕ → ℕ
+round_slot z next k = (next + k) % z.slots
 
-unfoldable pub freeAfter : Sizes → List ℕ → ℕ → ℕ
-freeAfter z page next = firstBelow z.slots (λ k. freeAt page (roundSlot z next k))
+unfoldable pub free_after : Sizes → List ℕ → ℕ → ℕ
+free_after z page next = first_below z.slots (λ k. free_at page (round_slot z next k))

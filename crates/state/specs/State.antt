@@ -30,5 +30,5 @@ pub record State : Type 0 where
   pub pending : Pending
 
 -- page p's own frame by the map
-abbrev pub ownFrame : State → ℕ → ℕ
-ownFrame st p = get_or st.map p 0
+abbrev pub own_frame : State → ℕ → ℕ
+own_frame st p = get_or st.map p 0

@@ -7,7 +7,7 @@ use lib.ListN.{length, set, take, drop, length-drop}
 use lib.Seq.{length-take-le, get_or-set_same, get_or-set_other}
 use Rattle.state_words.specs.Decoded.{start, size, part, decoded}
 use Rattle.state_words.proofs.DecodedLaws.{put-part}
-use Rattle.state_edits.specs.Edits.{withSizeAt, withSizes}
+use Rattle.state_edits.specs.Edits.{with_size_at, with_sizes}
 
 module _ (c : List ℕ) (n : length c ≡ 1280) where
   abbrev p : List ℕ
@@ -16,7 +16,7 @@ module _ (c : List ℕ) (n : length c ≡ 1280) where
   long : length p ≡ 4
   long = length-take-le 4 (drop 0 c) (omega (arith, length-drop 0 c))
 
-  pub size-put : (k v : ℕ) → k ≤ 3 → decoded (set c (0 + k) v) ≡ withSizes (decoded c) (withSizeAt (decoded c).sizes k v)
+  pub size-put : (k v : ℕ) → k ≤ 3 → decoded (set c (0 + k) v) ≡ with_sizes (decoded c) (with_size_at (decoded c).sizes k v)
   unfolding decoded start size part
   size-put zero v l =
       put-part c 0 0 v (omega arith) (omega arith)

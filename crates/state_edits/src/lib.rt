@@ -1,9 +1,9 @@
 // T: a number of the state becomes v, by the field's number f and the place i.
 ghost use Rattle.std.specs.Prelude.{◌≡◌, ◌<◌, ◌≤◌, true};
-ghost use Rattle.state_words.specs.Decoded.{decoded, withTable};
-ghost use Rattle.workbench.specs.Turns.{turnAt};
-ghost use Rattle.state_edits.specs.Edits.{withSizeAt, withSizes, isSingle, withSingle, singleTurn, withSlotNumber, slotTurn, openTurn, heldTurn};
-ghost use Rattle.state_edits.specs.Edits.{entryTurn, keyTurn, placedTurn, fieldTurn, numberTurn};
+ghost use Rattle.state_words.specs.Decoded.{decoded, with_table};
+ghost use Rattle.workbench.specs.Turns.{turn_at};
+ghost use Rattle.state_edits.specs.Edits.{with_size_at, with_sizes, is_single, with_single, single_turn, with_slot_number, slot_turn, open_turn, held_turn};
+ghost use Rattle.state_edits.specs.Edits.{entry_turn, key_turn, placed_turn, field_turn, number_turn};
 
 use state_words::{BITMAP, LAST, ORIGINAL, PAGE, SIZES, SPARE, Words};
 use text::Line;
@@ -12,7 +12,7 @@ use workbench::Said;
 // P, S, J, L.
 fn put_size(words: &mut Words, k: usize, v: usize)
     requires { k ≤ 3 }
-    ensures { decoded words.new ≡ withSizes (decoded words.old) (withSizeAt (decoded words.old).sizes k v) }
+    ensures { decoded words.new ≡ with_sizes (decoded words.old) (with_size_at (decoded words.old).sizes k v) }
 {
     let _ = state_words::all_words(*words);
     words[SIZES + k] = v as u64;
@@ -20,8 +20,8 @@ fn put_size(words: &mut Words, k: usize, v: usize)
 
 // The fields that have one number.
 fn put_single(words: &mut Words, f: usize, v: usize)
-    requires { isSingle f ≡ true }
-    ensures { decoded words.new ≡ withSingle (decoded words.old) f v }
+    requires { is_single f ≡ true }
+    ensures { decoded words.new ≡ with_single (decoded words.old) f v }
 {
     let at = state_words::places_in(words);
     match f {
@@ -41,7 +41,7 @@ fn put_single(words: &mut Words, f: usize, v: usize)
 // Fields 6 to 10 of slot i: page, original, spare, bitmap, last position.
 fn put_slot_number(words: &mut Words, f: usize, i: usize, v: usize)
     requires { (5 < f) × (f ≤ 10) × (i < 16) }
-    ensures { decoded words.new ≡ withTable (decoded words.old) (withSlotNumber (decoded words.old).table f i v) }
+    ensures { decoded words.new ≡ with_table (decoded words.old) (with_slot_number (decoded words.old).table f i v) }
 {
     match f {
         6 => words[PAGE + i] = v as u64,
@@ -53,8 +53,8 @@ fn put_slot_number(words: &mut Words, f: usize, i: usize, v: usize)
 }
 
 fn set_single(words: &mut Words, f: usize, i: usize, v: usize) -> Said
-    requires { isSingle f ≡ true }
-    ensures { turnAt result words.new ≡ singleTurn (decoded words.old) f i v }
+    requires { is_single f ≡ true }
+    ensures { turn_at result words.new ≡ single_turn (decoded words.old) f i v }
 {
     if i == 0 {
         put_single(words, f, v);
@@ -66,7 +66,7 @@ fn set_single(words: &mut Words, f: usize, i: usize, v: usize) -> Said
 // An original and a spare have 32 bits.
 fn set_slot(words: &mut Words, f: usize, i: usize, v: usize) -> Said
     requires { (5 < f) × (f ≤ 10) }
-    ensures { turnAt result words.new ≡ slotTurn (decoded words.old) f i v }
+    ensures { turn_at result words.new ≡ slot_turn (decoded words.old) f i v }
 {
     if (i <= 15) & ((f < 7) | (8 < f) | (v < 4294967296)) {
         put_slot_number(words, f, i, v);
@@ -77,7 +77,7 @@ fn set_slot(words: &mut Words, f: usize, i: usize, v: usize) -> Said
 
 // Field 11: writer i open or not.
 fn set_open(words: &mut Words, i: usize, v: usize) -> Said
-    ensures { turnAt result words.new ≡ openTurn (decoded words.old) i v }
+    ensures { turn_at result words.new ≡ open_turn (decoded words.old) i v }
 {
     if (i <= 3) & (v <= 1) {
         state_words::put_open(words, i, v == 1);
@@ -88,7 +88,7 @@ fn set_open(words: &mut Words, i: usize, v: usize) -> Said
 
 // Field 12: held lines, at 16 × writer + slot.
 fn set_held(words: &mut Words, i: usize, v: usize) -> Said
-    ensures { turnAt result words.new ≡ heldTurn (decoded words.old) i v }
+    ensures { turn_at result words.new ≡ held_turn (decoded words.old) i v }
 {
     if i <= 63 {
         state_words::put_held(words, i / 16, i % 16, v as u64);
@@ -99,7 +99,7 @@ fn set_held(words: &mut Words, i: usize, v: usize) -> Said
 
 // Field 13: the map's entry of page i, of 16 bits.
 fn set_entry(words: &mut Words, i: usize, v: usize) -> Said
-    ensures { turnAt result words.new ≡ entryTurn (decoded words.old) i v }
+    ensures { turn_at result words.new ≡ entry_turn (decoded words.old) i v }
 {
     if (i <= 1023) & (v <= 65535) {
         state_words::put_entry(words, i, v);
@@ -110,7 +110,7 @@ fn set_entry(words: &mut Words, i: usize, v: usize) -> Said
 
 // Field 17: key i of the wide transaction.
 fn set_key(words: &mut Words, i: usize, v: usize) -> Said
-    ensures { turnAt result words.new ≡ keyTurn (decoded words.old) i v }
+    ensures { turn_at result words.new ≡ key_turn (decoded words.old) i v }
 {
     if i <= 63 {
         state_words::put_key(words, i, v as u64);
@@ -121,7 +121,7 @@ fn set_key(words: &mut Words, i: usize, v: usize) -> Said
 
 // The fields that have a place.
 fn set_placed(words: &mut Words, f: usize, i: usize, v: usize) -> Said
-    ensures { turnAt result words.new ≡ placedTurn (decoded words.old) f i v }
+    ensures { turn_at result words.new ≡ placed_turn (decoded words.old) f i v }
 {
     if (6 <= f) & (f <= 10) {
         return set_slot(words, f, i, v);
@@ -142,7 +142,7 @@ fn set_placed(words: &mut Words, f: usize, i: usize, v: usize) -> Said
 }
 
 fn set_field(words: &mut Words, f: usize, i: usize, v: usize) -> Said
-    ensures { turnAt result words.new ≡ fieldTurn (decoded words.old) f i v }
+    ensures { turn_at result words.new ≡ field_turn (decoded words.old) f i v }
 {
     if (f <= 5) | ((14 <= f) & (f <= 16)) | (f == 18) {
         return set_single(words, f, i, v);
@@ -151,7 +151,7 @@ fn set_field(words: &mut Words, f: usize, i: usize, v: usize) -> Said
 }
 
 pub fn set_number(words: &mut Words, line: Line) -> Said
-    ensures { turnAt result words.new ≡ numberTurn (decoded words.old) line }
+    ensures { turn_at result words.new ≡ number_turn (decoded words.old) line }
 {
     if line.count == 3 {
         return set_field(

@@ -2,9 +2,9 @@
 ghost use Rattle.std.specs.Prelude.{◌≡◌, ◌<◌, ◌≤◌, length};
 ghost use Rattle.bounded.specs.Below.{all_below};
 ghost use Rattle.layout.specs.Layout.{Legal};
-ghost use Rattle.entries.specs.Entries.{entry_of, keyRight, entriesOk};
-ghost use Rattle.state.specs.Held.{holderOk, heldOk, othersHold, someHold, heldSlots};
-ghost use Rattle.state.specs.Wide.{wide_of, someOpen, aloneOpen, noneHeld, wideOk};
+ghost use Rattle.entries.specs.Entries.{entry_of, key_right, entries_ok};
+ghost use Rattle.state.specs.Held.{holder_ok, held_ok, others_hold, some_hold, held_slots};
+ghost use Rattle.state.specs.Wide.{wide_of, some_open, alone_open, none_held, wide_ok};
 ghost use Rattle.state_words.specs.Decoded.{decoded};
 
 use layout::Sizes;
@@ -13,7 +13,7 @@ use state_words::{Words, held_at, key_at, open_at, page_at};
 
 // Whether a writer is open.
 pub fn some_open(words: &Words) -> bool
-    ensures { result ≡ someOpen (decoded words.now).writers.opened }
+    ensures { result ≡ some_open (decoded words.now).writers.opened }
 {
     let a = open_at(words, 0);
     let b = open_at(words, 1);
@@ -25,7 +25,7 @@ pub fn some_open(words: &Words) -> bool
 // Whether a writer holds a line of slot s: one test of all four, with no branch between them.
 pub fn some_hold(words: &Words, s: usize) -> bool
     requires { s < 16 }
-    ensures { result ≡ someHold (decoded words.now).writers.held s }
+    ensures { result ≡ some_hold (decoded words.now).writers.held s }
 {
     let a = held_at(words, 0, s);
     let b = held_at(words, 1, s);
@@ -37,7 +37,7 @@ pub fn some_hold(words: &Words, s: usize) -> bool
 // Whether what writer w holds of slot s keeps the rules.
 fn holder_ok(words: &Words, free: bool, s: usize, w: usize) -> bool
     requires { (s < 16) × (w < 4) }
-    ensures { result ≡ holderOk (decoded words.now).writers.opened (decoded words.now).writers.held free s w }
+    ensures { result ≡ holder_ok (decoded words.now).writers.opened (decoded words.now).writers.held free s w }
 {
     let m = held_at(words, w, s);
     if m == 0 {
@@ -57,7 +57,7 @@ fn holder_ok(words: &Words, free: bool, s: usize, w: usize) -> bool
 // The same of the four writers. Of most slots nothing is held.
 fn slot_held_ok(words: &Words, free: bool, s: usize) -> bool
     requires { s < 16 }
-    ensures { result ≡ all_below 4 (holderOk (decoded words.now).writers.opened (decoded words.now).writers.held free s) }
+    ensures { result ≡ all_below 4 (holder_ok (decoded words.now).writers.opened (decoded words.now).writers.held free s) }
 {
     if !some_hold(words, s) {
         return true;
@@ -75,7 +75,7 @@ fn slot_held_ok(words: &Words, free: bool, s: usize) -> bool
 // Whether no line is held twice, for a closed writer or in a free slot.
 pub fn held_ok(z: Sizes, words: &Words) -> bool
     requires { Legal z }
-    ensures { result ≡ heldOk z (decoded words.now).table.page (decoded words.now).writers.opened
+    ensures { result ≡ held_ok z (decoded words.now).table.page (decoded words.now).writers.opened
         (decoded words.now).writers.held }
 {
     let mut s = 0;
@@ -92,7 +92,7 @@ pub fn held_ok(z: Sizes, words: &Words) -> bool
 // Whether a writer other than w holds line l of slot s.
 pub fn others_hold(words: &Words, w: usize, s: usize, l: usize) -> bool
     requires { (s < 16) × (l < 64) }
-    ensures { result ≡ othersHold (decoded words.now).writers.held w s l }
+    ensures { result ≡ others_hold (decoded words.now).writers.held w s l }
 {
     let mut v = 0;
     while v < 4 {
@@ -108,7 +108,7 @@ pub fn others_hold(words: &Words, w: usize, s: usize, l: usize) -> bool
 // How many slots writer w holds lines of.
 pub fn held_count(z: Sizes, words: &Words, w: usize) -> usize
     requires { Legal z × (w < 4) }
-    ensures { result ≡ length (heldSlots z (decoded words.now).writers.held w) }
+    ensures { result ≡ length (held_slots z (decoded words.now).writers.held w) }
 {
     let mut n = 0;
     let mut s = 0;
@@ -122,7 +122,7 @@ pub fn held_count(z: Sizes, words: &Words, w: usize) -> usize
 
 // Whether writer w is open and no other is.
 fn alone_open(words: &Words, w: usize) -> bool
-    ensures { result ≡ aloneOpen (decoded words.now).writers.opened w }
+    ensures { result ≡ alone_open (decoded words.now).writers.opened w }
 {
     let mut v = 0;
     while v < 4 {
@@ -138,7 +138,7 @@ fn alone_open(words: &Words, w: usize) -> bool
 // Whether no line is held.
 fn none_held(z: Sizes, words: &Words) -> bool
     requires { Legal z }
-    ensures { result ≡ noneHeld z (decoded words.now).writers.held }
+    ensures { result ≡ none_held z (decoded words.now).writers.held }
 {
     let mut s = 0;
     while s < z.slots {
@@ -168,7 +168,7 @@ pub fn find_entry(words: &Words, n: usize, key: u64) -> usize
 // Whether entry e is one of a page, and of a line that no entry before it has.
 fn key_right(z: Sizes, words: &Words, e: usize) -> bool
     requires { e < 64 }
-    ensures { result ≡ keyRight z (decoded words.now).wide.keys e }
+    ensures { result ≡ key_right z (decoded words.now).wide.keys e }
 {
     let key = key_at(words, e);
     let first = find_entry(words, e, key);
@@ -179,7 +179,7 @@ fn key_right(z: Sizes, words: &Words, e: usize) -> bool
 // Whether n entries are at most L, and each is right.
 fn entries_ok(z: Sizes, words: &Words, n: usize) -> bool
     requires { Legal z }
-    ensures { result ≡ entriesOk z (decoded words.now).wide.keys n }
+    ensures { result ≡ entries_ok z (decoded words.now).wide.keys n }
 {
     if z.entries < n {
         return false;
@@ -197,7 +197,7 @@ fn entries_ok(z: Sizes, words: &Words, n: usize) -> bool
 // Whether the entries are right, and a wide writer is open, not prepared, and beside no held line and no other open writer.
 pub fn wide_ok(z: Sizes, at: Places, words: &Words) -> bool
     requires { Legal z }
-    ensures { result ≡ wideOk z (decoded words.now).writers.opened (decoded words.now).writers.held
+    ensures { result ≡ wide_ok z (decoded words.now).writers.opened (decoded words.now).writers.held
         at.prepared (wide_of at.wide at.count (decoded words.now).wide.keys) }
 {
     if !entries_ok(z, words, at.count) {

@@ -1,7 +1,7 @@
 // Reading the slots of a state in words: the slot of a page, and the first free one.
 ghost use Rattle.std.specs.Prelude.{◌≡◌, ◌<◌};
 ghost use Rattle.layout.specs.Layout.{Legal};
-ghost use Rattle.state.specs.Slots.{slotOfPage, freeAfter};
+ghost use Rattle.state.specs.Slots.{slot_of_page, free_after};
 ghost use Rattle.state_words.specs.Decoded.{decoded};
 
 use layout::Sizes;
@@ -10,7 +10,7 @@ use state_words::{Words, page_at};
 // The slot of page p, or S where it has none.
 pub fn slot_of(z: Sizes, words: &Words, p: usize) -> usize
     requires { Legal z }
-    ensures { result ≡ slotOfPage z (decoded words.now).table.page p }
+    ensures { result ≡ slot_of_page z (decoded words.now).table.page p }
 {
     let mut s = 0;
     while s < z.slots {
@@ -25,7 +25,7 @@ pub fn slot_of(z: Sizes, words: &Words, p: usize) -> usize
 // How many places on from next the first free slot lies, or S where none is free.
 pub fn free_after(z: Sizes, words: &Words, next: usize) -> usize
     requires { Legal z × (next < z.slots) }
-    ensures { result ≡ freeAfter z (decoded words.now).table.page next }
+    ensures { result ≡ free_after z (decoded words.now).table.page next }
 {
     let mut k = 0;
     while k < z.slots {

@@ -2,7 +2,7 @@
 use Rattle.std.specs.Prelude.{ℕ, cond, ltb}
 use Rattle.layout.specs.declared.Sizes.{Sizes}
 use Rattle.journal.specs.declared.Slot.{Slot}
-use Rattle.refinement.specs.Frames.{committedFrame}
+use Rattle.refinement.specs.Frames.{committed_frame}
 
-abbrev pub committedAt : Sizes → Slot → ℕ → ℕ → ℕ → ℕ
-committedAt z t s f l = cond (ltb s z.slots) (committedFrame t l) f
+abbrev pub committed_at : Sizes → Slot → ℕ → ℕ → ℕ → ℕ
+committed_at z t s f l = cond (ltb s z.slots) (committed_frame t l) f

@@ -8,15 +8,15 @@ use borrow.Author.Tests.{ne_eqb, eq-eqb, eqb-true}
 use lib.Dec.{eqb}
 use lib.ListN.{length, get_or, set, take, drop, length-set, length-drop}
 use lib.Seq.{length-take-le}
-use Rattle.bounded.proofs.Tests.{caseOn, contradicts}
+use Rattle.bounded.proofs.Tests.{case_on, contradicts}
 use Rattle.state.specs.State.{State}
 use Rattle.state.specs.declared.Pending.{Pending}
 use Rattle.state.specs.declared.Op.{Op}
-use Rattle.operations.specs.Operations.{isIdle}
-use Rattle.state_words.specs.Decoded.{start, size, part, fromParts, decoded, opBy}
+use Rattle.operations.specs.Operations.{is_idle}
+use Rattle.state_words.specs.Decoded.{start, size, part, from_parts, decoded, op_by}
 use Rattle.state_words.proofs.DecodedLaws.{part-put, from-ext}
 use Rattle.state_words.proofs.PendingLaws.{op-idle}
-use Rattle.state_pending.specs.Put.{eight, opIn, withPending}
+use Rattle.state_pending.specs.Put.{eight, op_in, with_pending}
 
 -- part j after one store to part k, where it is another, and where it is k
 other : (c : List ℕ) (k s v j : ℕ) → k < 19 → s < size k → j < 19 → eqb j k ≡ false → part (set c (start k + s) v) j ≡ part c j
@@ -99,18 +99,18 @@ module _ (c : List ℕ) (k : ℕ) (l : List ℕ) (hk : k < 19) (e : size k ≡ 8
 
   pub eight-part : length (part c k) ≡ 8 → length l ≡ 8 → (j : ℕ) → j < 19 → part c7 j ≡ cond (eqb j k) l (part c j)
   eight-part m n j hj =
-      caseOn (eqb j k) (λ t. let q : j ≡ k = eqb-true j k t in rw t (ap (part c7) q ∙ own ∙ filled (part c k) l m n)) (λ f. rw f (others j hj f))
+      case_on (eqb j k) (λ t. let q : j ≡ k = eqb-true j k t in rw t (ap (part c7) q ∙ own ∙ filled (part c k) l m n)) (λ f. rw f (others j hj f))
 
-busy : (n : List ℕ) (op : Op) → opIn n ≡ op → isIdle op ≡ false → eqb (get_or n 0 0) 0 ≡ false
+busy : (n : List ℕ) (op : Op) → op_in n ≡ op → is_idle op ≡ false → eqb (get_or n 0 0) 0 ≡ false
 busy n op e b =
-    caseOn (eqb (get_or n 0 0) 0)
+    case_on (eqb (get_or n 0 0) 0)
     (λ t.
-    let idle : isIdle (opIn n) ≡ true = op-idle (get_or n 0 0) (get_or n 1 0) (get_or n 2 0) (get_or n 3 0) (get_or n 4 0) (get_or n 5 0) ∙ rw t in
-    contradicts (sym (ap isIdle e) ∙ idle) b)
+    let idle : is_idle (op_in n) ≡ true = op-idle (get_or n 0 0) (get_or n 1 0) (get_or n 2 0) (get_or n 3 0) (get_or n 4 0) (get_or n 5 0) ∙ rw t in
+    contradicts (sym (ap is_idle e) ∙ idle) b)
     (λ f. f)
 
-pub pending-put : (c n : List ℕ) (p : Pending) → length c ≡ 1280 → length n ≡ 8 → length p.line ≡ 8 → length p.second ≡ 8 → opIn n ≡ p.op → get_or n 6 0 ≡ p.made
-    → isIdle p.op ≡ false → decoded (eight (eight (eight c 14 n) 24 p.line) 32 p.second) ≡ withPending (decoded c) p
+pub pending-put : (c n : List ℕ) (p : Pending) → length c ≡ 1280 → length n ≡ 8 → length p.line ≡ 8 → length p.second ≡ 8 → op_in n ≡ p.op → get_or n 6 0 ≡ p.made
+    → is_idle p.op ≡ false → decoded (eight (eight (eight c 14 n) 24 p.line) 32 p.second) ≡ with_pending (decoded c) p
 unfolding decoded start size
 pending-put c n p lc ln ll ls e m b =
     let d = eight c 14 n in

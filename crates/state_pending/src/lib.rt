@@ -1,9 +1,9 @@
 // Puts what is pending into a state in words.
 ghost use Rattle.std.specs.Prelude.{◌≡◌, true, false, [], ◌∷◌, ◌+◌, ◌≤◌, get_or, length};
-ghost use Rattle.operations.specs.Operations.{isIdle};
-ghost use Rattle.validity.specs.Validity.{stateOk};
+ghost use Rattle.operations.specs.Operations.{is_idle};
+ghost use Rattle.validity.specs.Validity.{state_ok};
 ghost use Rattle.state_words.specs.Decoded.{decoded};
-ghost use Rattle.state_pending.specs.Put.{eight, opIn, withPending};
+ghost use Rattle.state_pending.specs.Put.{eight, op_in, with_pending};
 
 use state::{Op, Pending};
 use state_words::Words;
@@ -19,7 +19,7 @@ fn written(code: u64, a: usize, b: usize, c: usize, d: usize, e: usize, made: u6
 
 // The numbers of what is pending.
 fn op_words(op: Op, made: usize) -> [u64; 8]
-    ensures op { opIn result ≡ op }
+    ensures op { op_in result ≡ op }
     ensures made { get_or result 6 0 ≡ made }
 {
     let m = made as u64;
@@ -71,8 +71,8 @@ fn put_eight(words: &mut Words, i: usize, l: [u64; 8])
 
 // Puts what is pending, an operation. Nothing may be pending before it, and row 8 must accept the state with it: so no operation takes another's place.
 pub fn put_pending(words: &mut Words, p: Pending)
-    requires { (isIdle p.op ≡ false) × (isIdle (decoded words.old).pending.op ≡ true) × (stateOk (withPending (decoded words.old) p) ≡ true) }
-    ensures { decoded words.new ≡ withPending (decoded words.old) p }
+    requires { (is_idle p.op ≡ false) × (is_idle (decoded words.old).pending.op ≡ true) × (state_ok (with_pending (decoded words.old) p) ≡ true) }
+    ensures { decoded words.new ≡ with_pending (decoded words.old) p }
 {
     let _ = state_words::all_words(*words);
     let op = p.op;

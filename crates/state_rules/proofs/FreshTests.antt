@@ -4,9 +4,9 @@ use mathlib.Core.Path.{◌≡◌, refl, sym, ap, ◌∙◌}
 use lib.Dec.{eqb, ltb}
 use Rattle.bounded.specs.Below.{all_below}
 use Rattle.bounded.proofs.Tests.{contradicts}
-use Rattle.state.specs.State.{State, ownFrame}
-use Rattle.state.specs.Wide.{someOpen}
-use Rattle.validity.specs.Validity.{freshAt, fresh_of, isFresh}
+use Rattle.state.specs.State.{State, own_frame}
+use Rattle.state.specs.Wide.{some_open}
+use Rattle.validity.specs.Validity.{fresh_at, fresh_of, is_fresh}
 
 places-stop : (a b c d r : Bool) → ((not a || not b) || not c) || not d ≡ true → false ≡ (a && (b && (c && d))) && r
 places-stop true true true true r e = contradicts e refl
@@ -39,27 +39,27 @@ module _ (st : State) where
   placed = ((not (eqb st.head 0) || not (eqb st.tail 0)) || not (eqb st.next 0)) || not (eqb st.wide.count 0)
 
   abbrev pub slots : Bool
-  slots = all_below st.sizes.slots (freshAt st.sizes st.table) && all_below st.sizes.pages (λ p. eqb (ownFrame st p) p)
+  slots = all_below st.sizes.slots (fresh_at st.sizes st.table) && all_below st.sizes.pages (λ p. eqb (own_frame st p) p)
 
   abbrev writing : Bool → Bool
   writing o = (o || ltb st.writers.prepared 4) || ltb st.wide.writer 4
 
   abbrev closed : Bool
-  closed = not (someOpen st.writers.opened) && (not (ltb st.writers.prepared 4) && not (ltb st.wide.writer 4))
+  closed = not (some_open st.writers.opened) && (not (ltb st.writers.prepared 4) && not (ltb st.wide.writer 4))
 
-  pub not-placed : placed ≡ true → false ≡ isFresh st
+  pub not-placed : placed ≡ true → false ≡ is_fresh st
   unfolding fresh_of
   not-placed e = places-stop (eqb st.head 0) (eqb st.tail 0) (eqb st.next 0) (eqb st.wide.count 0) (closed && slots) e
 
   -- o is whether a writer is open
-  pub not-closed : placed ≡ false → (o : Bool) → o ≡ someOpen st.writers.opened → writing o ≡ true → false ≡ isFresh st
+  pub not-closed : placed ≡ false → (o : Bool) → o ≡ some_open st.writers.opened → writing o ≡ true → false ≡ is_fresh st
   unfolding fresh_of
   not-closed e o q w =
       places-go (eqb st.head 0) (eqb st.tail 0) (eqb st.next 0) (eqb st.wide.count 0) (closed && slots) false e
-      (writers-stop (someOpen st.writers.opened) (ltb st.writers.prepared 4) (ltb st.wide.writer 4) slots (ap writing (sym q) ∙ w))
+      (writers-stop (some_open st.writers.opened) (ltb st.writers.prepared 4) (ltb st.wide.writer 4) slots (ap writing (sym q) ∙ w))
 
-  pub by_slots : placed ≡ false → (o : Bool) → o ≡ someOpen st.writers.opened → writing o ≡ false → (r : Bool) → r ≡ slots → r ≡ isFresh st
+  pub by_slots : placed ≡ false → (o : Bool) → o ≡ some_open st.writers.opened → writing o ≡ false → (r : Bool) → r ≡ slots → r ≡ is_fresh st
   unfolding fresh_of
   by_slots e o q w r h =
       places-go (eqb st.head 0) (eqb st.tail 0) (eqb st.next 0) (eqb st.wide.count 0) (closed && slots) r e
-      (writers-go (someOpen st.writers.opened) (ltb st.writers.prepared 4) (ltb st.wide.writer 4) slots r (ap writing (sym q) ∙ w) h)
+      (writers-go (some_open st.writers.opened) (ltb st.writers.prepared 4) (ltb st.wide.writer 4) slots r (ap writing (sym q) ∙ w) h)

@@ -3,8 +3,8 @@
 ghost use Rattle.std.specs.Prelude.{◌≡◌, ◌<◌, eqb};
 ghost use Rattle.bounded.specs.Below.{all_below};
 ghost use Rattle.layout.specs.Layout.{Legal};
-ghost use Rattle.state.specs.State.{ownFrame};
-ghost use Rattle.validity.specs.Validity.{freshAt, isFresh};
+ghost use Rattle.state.specs.State.{own_frame};
+ghost use Rattle.validity.specs.Validity.{fresh_at, is_fresh};
 ghost use Rattle.state_words.specs.Decoded.{decoded};
 ghost use Rattle.op_rows.specs.Seen.{seen};
 
@@ -15,7 +15,7 @@ use state_words::{MAP, Words};
 // Whether slot s is free with the spare that a fresh image has, and has no last position.
 fn slot_fresh(z: Sizes, words: &Words, s: usize) -> bool
     requires { Legal z × (s < z.slots) }
-    ensures { result ≡ freshAt z (decoded words.now).table s }
+    ensures { result ≡ fresh_at z (decoded words.now).table s }
 {
     let v = state_words::slot_at(words, s);
     if v.page != journal::NO_PAGE {
@@ -30,7 +30,7 @@ fn slot_fresh(z: Sizes, words: &Words, s: usize) -> bool
 // The same of each slot.
 fn slots_fresh(z: Sizes, words: &Words) -> bool
     requires { Legal z }
-    ensures { result ≡ all_below z.slots (freshAt z (decoded words.now).table) }
+    ensures { result ≡ all_below z.slots (fresh_at z (decoded words.now).table) }
 {
     let mut s = 0;
     while s < z.slots {
@@ -45,7 +45,7 @@ fn slots_fresh(z: Sizes, words: &Words) -> bool
 // Whether page i is in frame i, of each page.
 fn map_fresh(z: Sizes, words: &Words) -> bool
     requires { Legal z }
-    ensures { result ≡ all_below z.pages (λ p. eqb (ownFrame (decoded words.now) p) p) }
+    ensures { result ≡ all_below z.pages (λ p. eqb (own_frame (decoded words.now) p) p) }
 {
     let _ = state_words::all_words(*words);
     let all = &words[..];
@@ -56,7 +56,7 @@ fn map_fresh(z: Sizes, words: &Words) -> bool
 // Whether the state is fresh: nothing in the journal, no writer open, prepared or wide, no entry used, every slot and the map fresh.
 pub(crate) fn is_fresh(z: Sizes, at: Places, words: &Words) -> bool
     requires { Legal z }
-    ensures { result ≡ isFresh (seen z at (decoded words.now)) }
+    ensures { result ≡ is_fresh (seen z at (decoded words.now)) }
 {
     if (at.head != 0) | (at.tail != 0) | (at.next != 0) | (at.count != 0) {
         return false;

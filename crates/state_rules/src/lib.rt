@@ -4,13 +4,13 @@ mod slots;
 
 ghost use Rattle.std.specs.Prelude.{◌≡◌, ◌*◌, ◌<◌, ◌≤◌};
 ghost use Rattle.layout.specs.Layout.{Legal};
-ghost use Rattle.journal.specs.Records.{liveCount};
-ghost use Rattle.state.specs.State.{ownFrame};
-ghost use Rattle.validity.specs.Validity.{slotsOk, isLiveOf, lastOkOf, lastsOk, preparedOk, isFresh, opFits, pendingOk, stateOk};
+ghost use Rattle.journal.specs.Records.{live_count};
+ghost use Rattle.state.specs.State.{own_frame};
+ghost use Rattle.validity.specs.Validity.{slots_ok, is_live_of, last_ok_of, lasts_ok, prepared_ok, is_fresh, op_fits, pending_ok, state_ok};
 ghost use Rattle.state_words.specs.Decoded.{decoded, places_of};
 ghost use Rattle.op_rows.specs.Seen.{Low, seen};
 ghost use Rattle.state_rules.specs.Met.{Met};
-ghost use Rattle.state_rules.specs.Quiet.{quietIn, opOk};
+ghost use Rattle.state_rules.specs.Quiet.{quiet_in, op_ok};
 
 use layout::Sizes;
 use state::{Op, Places};
@@ -20,7 +20,7 @@ use state_words::{Words, last_at};
 
 // The rules of rows 3, 5 and 7 for the slots and the map.
 fn slots_ok(z: Sizes, head: usize, tail: usize, words: &Words) -> bool
-    ensures { result ≡ slotsOk z head tail (decoded words.now).table (ownFrame (decoded words.now)) }
+    ensures { result ≡ slots_ok z head tail (decoded words.now).table (own_frame (decoded words.now)) }
 {
     if !layout::sizes_ok(z) {
         return false;
@@ -34,7 +34,7 @@ fn slots_ok(z: Sizes, head: usize, tail: usize, words: &Words) -> bool
 // Whether q is a live position, of which there are so many.
 fn is_live(z: Sizes, tail: usize, live: usize, q: usize) -> bool
     requires { Legal z × (tail < 2 * z.places) }
-    ensures { result ≡ isLiveOf z tail live q }
+    ensures { result ≡ is_live_of z tail live q }
 {
     if 2 * z.places <= q {
         return false;
@@ -45,7 +45,7 @@ fn is_live(z: Sizes, tail: usize, live: usize, q: usize) -> bool
 // Whether the last position of slot s, where it has one, is live and that of no slot below it, the remainders of whose positions met has.
 fn last_ok(z: Sizes, tail: usize, live: usize, words: &Words, s: usize, met: u64) -> bool
     requires { Legal z × (tail < 2 * z.places) × (s < 16) × Met (decoded words.now).table.last s met }
-    ensures { result ≡ lastOkOf z tail live (decoded words.now).table.last s }
+    ensures { result ≡ last_ok_of z tail live (decoded words.now).table.last s }
 {
     let q = last_at(words, s);
     if q == replay::NO_POSITION {
@@ -70,7 +70,7 @@ fn last_ok(z: Sizes, tail: usize, live: usize, words: &Words, s: usize, met: u64
 // The same of each slot.
 fn lasts_ok(z: Sizes, head: usize, tail: usize, words: &Words) -> bool
     requires { Legal z × (head < 2 * z.places) × (tail < 2 * z.places) }
-    ensures { result ≡ lastsOk z head tail (decoded words.now).table.last }
+    ensures { result ≡ lasts_ok z head tail (decoded words.now).table.last }
 {
     let live = journal::records::live_count(z, head, tail);
     let mut met = 0;
@@ -87,8 +87,8 @@ fn lasts_ok(z: Sizes, head: usize, tail: usize, words: &Words) -> bool
 
 // Whether a prepared writer is open and its records fit.
 fn prepared_ok(z: Sizes, at: Places, words: &Words) -> bool
-    requires { Legal z × (at.head < 2 * z.places) × (at.tail < 2 * z.places) × (liveCount z at.head at.tail ≤ z.places) }
-    ensures { result ≡ preparedOk z at.head at.tail (decoded words.now).writers.opened
+    requires { Legal z × (at.head < 2 * z.places) × (at.tail < 2 * z.places) × (live_count z at.head at.tail ≤ z.places) }
+    ensures { result ≡ prepared_ok z at.head at.tail (decoded words.now).writers.opened
         (decoded words.now).writers.held at.prepared }
 {
     if 4 <= at.prepared {
@@ -103,7 +103,7 @@ fn prepared_ok(z: Sizes, at: Places, words: &Words) -> bool
 
 // Whether the state keeps every rule of row 8 that says nothing of what is pending.
 fn quiet_ok(z: Sizes, at: Places, words: &Words) -> bool
-    ensures { result ≡ quietIn z at (decoded words.now) }
+    ensures { result ≡ quiet_in z at (decoded words.now) }
 {
     if !slots_ok(z, at.head, at.tail, words) {
         return false;
@@ -126,7 +126,7 @@ fn quiet_ok(z: Sizes, at: Places, words: &Words) -> bool
 // Whether a write or a commit that is pending is not one by the wide writer, whose are `Log` and `Copy`, and a format is beside the fresh state.
 fn op_fits(z: Sizes, at: Places, words: &Words, op: Op) -> bool
     requires { Legal z }
-    ensures { result ≡ opFits at.wide (isFresh (seen z at (decoded words.now))) op }
+    ensures { result ≡ op_fits at.wide (is_fresh (seen z at (decoded words.now))) op }
 {
     match op {
         Op::Write {
@@ -161,7 +161,7 @@ fn op_fits(z: Sizes, at: Places, words: &Words, op: Op) -> bool
 // Whether an operation with so many stores made has stores left, and no row from 11 on turns it back.
 fn op_ok(z: Sizes, at: Places, words: &Words, op: Op, made: usize) -> bool
     requires { Low z at × (at.count ≤ 64) }
-    ensures { result ≡ opOk (seen z at (decoded words.now)) op made }
+    ensures { result ≡ op_ok (seen z at (decoded words.now)) op made }
 {
     if !op_fits(z, at, words, op) {
         return false;
@@ -175,7 +175,7 @@ fn op_ok(z: Sizes, at: Places, words: &Words, op: Op, made: usize) -> bool
 // The same of the operation that is pending, where one is.
 fn pending_ok(z: Sizes, at: Places, words: &Words) -> bool
     requires { Low z at × (at.count ≤ 64) }
-    ensures { result ≡ pendingOk (seen z at (decoded words.now)) }
+    ensures { result ≡ pending_ok (seen z at (decoded words.now)) }
 {
     if idle_in(words) {
         return true;
@@ -188,7 +188,7 @@ fn pending_ok(z: Sizes, at: Places, words: &Words) -> bool
 // Whether the state keeps every rule of row 8. z and at are its sizes and places.
 pub fn state_ok(z: Sizes, at: Places, words: &Words) -> bool
     requires { (z ≡ (decoded words.now).sizes) × (at ≡ places_of (decoded words.now)) }
-    ensures { result ≡ stateOk (decoded words.now) }
+    ensures { result ≡ state_ok (decoded words.now) }
 {
     if !quiet_ok(z, at, words) {
         return false;

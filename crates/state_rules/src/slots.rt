@@ -2,11 +2,11 @@
 // frame; and spares and frames of pages name each frame once.
 ghost use Rattle.std.specs.Prelude.{◌≡◌, ◌<◌};
 ghost use Rattle.bounded.specs.Below.{all_below};
-ghost use Rattle.bounded.specs.Count.{eachOnce};
+ghost use Rattle.bounded.specs.Count.{each_once};
 ghost use Rattle.layout.specs.Layout.{Legal, frames};
-ghost use Rattle.replay.specs.Map.{namesKept};
-ghost use Rattle.slot_rules.specs.Slots.{slotFine, slotsFine};
-ghost use Rattle.state.specs.State.{ownFrame};
+ghost use Rattle.replay.specs.Map.{names_kept};
+ghost use Rattle.slot_rules.specs.Slots.{slot_fine, slots_fine};
+ghost use Rattle.state.specs.State.{own_frame};
 ghost use Rattle.state_words.specs.Decoded.{decoded};
 ghost use Rattle.state_rules.specs.Met.{Met, apart};
 
@@ -44,7 +44,7 @@ fn page_new(words: &Words, s: usize, met: u64) -> bool
 // Whether slot s has a shape, and as an owning one a page that no slot below it has, with its original for its frame.
 fn slot_fine(z: Sizes, words: &Words, s: usize, met: u64) -> bool
     requires { Legal z × (s < 16) × Met (decoded words.now).table.page s met }
-    ensures { result ≡ slotFine (ownFrame (decoded words.now)) z (decoded words.now).table s }
+    ensures { result ≡ slot_fine (own_frame (decoded words.now)) z (decoded words.now).table s }
 {
     let a = slot_at(words, s);
     let f = z.pages + z.slots;
@@ -63,7 +63,7 @@ fn slot_fine(z: Sizes, words: &Words, s: usize, met: u64) -> bool
 // The same of each slot.
 fn each_fine(z: Sizes, words: &Words) -> bool
     requires { Legal z }
-    ensures { result ≡ all_below z.slots (slotFine (ownFrame (decoded words.now)) z (decoded words.now).table) }
+    ensures { result ≡ all_below z.slots (slot_fine (own_frame (decoded words.now)) z (decoded words.now).table) }
 {
     let mut met = 0;
     let mut s = 0;
@@ -80,7 +80,7 @@ fn each_fine(z: Sizes, words: &Words) -> bool
 // Whether the spares and the frames of the pages name each frame once.
 fn names_once(z: Sizes, words: &Words) -> bool
     requires { Legal z }
-    ensures { result ≡ eachOnce (frames z) (namesKept (ownFrame (decoded words.now)) z (decoded words.now).table) }
+    ensures { result ≡ each_once (frames z) (names_kept (own_frame (decoded words.now)) z (decoded words.now).table) }
 {
     let _ = state_words::all_words(*words);
     let all = &words[..];
@@ -92,7 +92,7 @@ fn names_once(z: Sizes, words: &Words) -> bool
 // Both.
 pub fn slots_fine(z: Sizes, words: &Words) -> bool
     requires { Legal z }
-    ensures { result ≡ slotsFine (ownFrame (decoded words.now)) z (decoded words.now).table }
+    ensures { result ≡ slots_fine (own_frame (decoded words.now)) z (decoded words.now).table }
 {
     if !each_fine(z, words) {
         return false;

@@ -3,8 +3,8 @@ ghost use Rattle.std.specs.Prelude.{◌≡◌, ◌+◌, ◌*◌, ◌<◌, ◌≤
 ghost use Rattle.number_text.specs.Text.{Put, blanked, each};
 ghost use Rattle.words.specs.Words.{part};
 ghost use Rattle.state_words.specs.Decoded.{decoded};
-ghost use Rattle.state_text.specs.Numbers.{slotNumbers, openNumbers, heldNumbers, writerNumbers, headerNumbers, entryNumber, keyNumber};
-ghost use Rattle.state_text.specs.Numbers.{turnNumbers, wideNumbers, placesField, workNumbers, stateField};
+ghost use Rattle.state_text.specs.Numbers.{slot_numbers, open_numbers, held_numbers, writer_numbers, header_numbers, entry_number, key_number};
+ghost use Rattle.state_text.specs.Numbers.{turn_numbers, wide_numbers, places_field, work_numbers, state_field};
 
 use state::held::one_if;
 use state_words::Words;
@@ -13,7 +13,7 @@ use state_words::Words;
 
 fn slot_numbers(words: &Words, i: usize) -> [u64; 5]
     requires { i < 16 }
-    ensures { result ≡ slotNumbers (decoded words.now).table i }
+    ensures { result ≡ slot_numbers (decoded words.now).table i }
 {
     let slot = state_words::slot_at(words, i);
     [
@@ -28,7 +28,7 @@ fn slot_numbers(words: &Words, i: usize) -> [u64; 5]
 // The first n slots.
 fn put_slots(out: &mut [u8], at: usize, words: &Words, n: usize) -> usize
     requires { (n ≤ 16) × (at + 1680 ≤ length out.old) }
-    ensures { Put out.old at (blanked (each n (slotNumbers (decoded words.now).table))) out.new result }
+    ensures { Put out.old at (blanked (each n (slot_numbers (decoded words.now).table))) out.new result }
 {
     let mut next = at;
     let mut i = 0;
@@ -44,7 +44,7 @@ fn put_slots(out: &mut [u8], at: usize, words: &Words, n: usize) -> usize
 
 fn entry_number(words: &Words, p: usize) -> [u64; 1]
     requires { p < 1024 }
-    ensures { result ≡ entryNumber (decoded words.now).map p }
+    ensures { result ≡ entry_number (decoded words.now).map p }
 {
     [state_words::entry_at(words, p) as u64]
 }
@@ -52,7 +52,7 @@ fn entry_number(words: &Words, p: usize) -> [u64; 1]
 // The first n entries.
 fn put_map(out: &mut [u8], at: usize, words: &Words, n: usize) -> usize
     requires { (n ≤ 1024) × (at + 21504 ≤ length out.old) }
-    ensures { Put out.old at (blanked (each n (entryNumber (decoded words.now).map))) out.new result }
+    ensures { Put out.old at (blanked (each n (entry_number (decoded words.now).map))) out.new result }
 {
     let mut next = at;
     let mut i = 0;
@@ -67,7 +67,7 @@ fn put_map(out: &mut [u8], at: usize, words: &Words, n: usize) -> usize
 // ---- writers
 
 fn open_numbers(words: &Words) -> [u64; 4]
-    ensures { result ≡ openNumbers (decoded words.now).writers }
+    ensures { result ≡ open_numbers (decoded words.now).writers }
 {
     [
         one_if(state_words::open_at(words, 0)) as u64,
@@ -96,7 +96,7 @@ fn held_by(words: &Words, w: usize) -> [u64; 16]
 // Each writer's held lines of the first n slots.
 fn put_held(out: &mut [u8], at: usize, words: &Words, n: usize) -> usize
     requires { (n ≤ 16) × (at + 1344 ≤ length out.old) }
-    ensures { Put out.old at (blanked (each 4 (heldNumbers (decoded words.now).writers.held n))) out.new result }
+    ensures { Put out.old at (blanked (each 4 (held_numbers (decoded words.now).writers.held n))) out.new result }
 {
     let mut next = at;
     let mut w = 0;
@@ -110,7 +110,7 @@ fn put_held(out: &mut [u8], at: usize, words: &Words, n: usize) -> usize
 
 fn put_writers(out: &mut [u8], at: usize, words: &Words, n: usize) -> usize
     requires { (n ≤ 16) × (at + 1428 ≤ length out.old) }
-    ensures { Put out.old at (blanked (writerNumbers (decoded words.now).writers n)) out.new result }
+    ensures { Put out.old at (blanked (writer_numbers (decoded words.now).writers n)) out.new result }
 {
     let opened = open_numbers(words);
     let next = number_text::put_numbers(out, at, &opened);
@@ -120,7 +120,7 @@ fn put_writers(out: &mut [u8], at: usize, words: &Words, n: usize) -> usize
 // ---- the prepared writer and the wide transaction
 
 fn turn_numbers(words: &Words) -> [u64; 3]
-    ensures { result ≡ turnNumbers (decoded words.now) }
+    ensures { result ≡ turn_numbers (decoded words.now) }
 {
     let at = state_words::places_in(words);
     [
@@ -132,7 +132,7 @@ fn turn_numbers(words: &Words) -> [u64; 3]
 
 fn key_number(words: &Words, e: usize) -> [u64; 1]
     requires { e < 64 }
-    ensures { result ≡ keyNumber (decoded words.now).wide.keys e }
+    ensures { result ≡ key_number (decoded words.now).wide.keys e }
 {
     [state_words::key_at(words, e)]
 }
@@ -140,7 +140,7 @@ fn key_number(words: &Words, e: usize) -> [u64; 1]
 // The first n keys.
 fn put_keys(out: &mut [u8], at: usize, words: &Words, n: usize) -> usize
     requires { (n ≤ 64) × (at + 1344 ≤ length out.old) }
-    ensures { Put out.old at (blanked (each n (keyNumber (decoded words.now).wide.keys))) out.new result }
+    ensures { Put out.old at (blanked (each n (key_number (decoded words.now).wide.keys))) out.new result }
 {
     let mut next = at;
     let mut i = 0;
@@ -154,7 +154,7 @@ fn put_keys(out: &mut [u8], at: usize, words: &Words, n: usize) -> usize
 
 fn put_wide(out: &mut [u8], at: usize, words: &Words) -> usize
     requires { at + 1407 ≤ length out.old }
-    ensures { Put out.old at (blanked (wideNumbers (decoded words.now))) out.new result }
+    ensures { Put out.old at (blanked (wide_numbers (decoded words.now))) out.new result }
 {
     let places = state_words::places_in(words);
     let n = bounded::smaller(places.count, 64);
@@ -166,7 +166,7 @@ fn put_wide(out: &mut [u8], at: usize, words: &Words) -> usize
 // ---- all of it
 
 fn header_numbers(words: &Words) -> [u64; 6]
-    ensures { result ≡ headerNumbers (decoded words.now) }
+    ensures { result ≡ header_numbers (decoded words.now) }
 {
     let z = state_words::sizes_in(words);
     let at = state_words::places_in(words);
@@ -183,7 +183,7 @@ fn header_numbers(words: &Words) -> [u64; 6]
 // P and the header, the slots, the map.
 fn put_places(out: &mut [u8], at: usize, words: &Words) -> usize
     requires { at + 23331 ≤ length out.old }
-    ensures { Put out.old at (placesField (decoded words.now)) out.new result }
+    ensures { Put out.old at (places_field (decoded words.now)) out.new result }
 {
     let z = state_words::sizes_in(words);
     let next = number_text::put_after(out, at, b',', z.pages as u64);
@@ -196,7 +196,7 @@ fn put_places(out: &mut [u8], at: usize, words: &Words) -> usize
 // The writers, the wide transaction, what is pending.
 fn put_work(out: &mut [u8], at: usize, words: &Words) -> usize
     requires { at + 5670 ≤ length out.old }
-    ensures { Put out.old at (blanked (workNumbers (decoded words.now))) out.new result }
+    ensures { Put out.old at (blanked (work_numbers (decoded words.now))) out.new result }
 {
     let z = state_words::sizes_in(words);
     let next = put_writers(out, at, words, bounded::smaller(z.slots, 16));
@@ -207,7 +207,7 @@ fn put_work(out: &mut [u8], at: usize, words: &Words) -> usize
 // At most 1,381 numbers, each of 20 digits after a mark.
 pub fn put_state(out: &mut [u8], at: usize, words: &Words) -> usize
     requires { at + 29001 ≤ length out.old }
-    ensures { Put out.old at (stateField (decoded words.now)) out.new result }
+    ensures { Put out.old at (state_field (decoded words.now)) out.new result }
 {
     let next = put_places(out, at, words);
     put_work(out, next, words)

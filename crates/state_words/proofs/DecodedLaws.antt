@@ -12,12 +12,12 @@ use lib.ListN.{length, get_or, set, take, drop, length-drop, length-set}
 use lib.Seq.{take-set-le, drop-set-lt, drop-set-add, get_or-drop, get_or-set_same, length-take-le}
 use Rattle.bounded.specs.Below.{all_below, one}
 use Rattle.bounded.proofs.Below.{all-at}
-use Rattle.bounded.proofs.Tests.{caseOn}
+use Rattle.bounded.proofs.Tests.{case_on}
 use Rattle.journal.specs.declared.Slot.{Slot}
-use Rattle.replay.specs.Table.{slotIn, withSlot, with_last}
+use Rattle.replay.specs.Table.{slot_in, with_slot, with_last}
 use Rattle.state.specs.State.{State}
-use Rattle.state.specs.Held.{isOpen, heldAt}
-use Rattle.state_words.specs.Decoded.{start, size, part, flags, fromParts, decoded, places_of, withTable, withWriters, with_head, withTail, with_next, withWide, withNothing, withMap, withBitmap, withOpened, withHeld, withPrepared}
+use Rattle.state.specs.Held.{is_open, held_at}
+use Rattle.state_words.specs.Decoded.{start, size, part, flags, from_parts, decoded, places_of, with_table, with_writers, with_head, with_tail, with_next, with_wide, with_nothing, with_map, with_bitmap, with_opened, with_held, with_prepared}
 
 pub get_d_take : (n : ℕ) (l : List ℕ) (i : ℕ) → i < n → get_or (take n l) i 0 ≡ get_or l i 0
 get_d_take zero l i h = absurd (not-suc-le-zero h)
@@ -65,14 +65,14 @@ pub part-put : (c : List ℕ) (k s v : ℕ) → k < 19 → s < size k → (j : �
 unfolding part
 part-put c k s v hk hs j hj =
     let t : apart j k ≡ true = all-at (apart j) 19 k hk (all-at (λ i. all_below 19 (apart i)) 19 j hj all_apart) in
-    caseOn (eqb j k)
+    case_on (eqb j k)
     (λ e. let q : j ≡ k = eqb-true j k e in rw e (ap (λ (i : ℕ). take (size i) (drop (start i) (set c (start k + s) v))) q ∙ here (start k) (size k) c s v hs))
     (λ e.
-    caseOn (leb (start j + size j) (start k))
+    case_on (leb (start j + size j) (start k))
     (λ l. let h = leb-true (start j + size j) (start k) l in rw e (above (start j) (size j) c (start k + s) v (omega (arith, h))))
     (λ n. let h = leb-true (start k + size k) (start j) (last_of j k e n t) in rw e (below (start j) (size j) c (start k + s) v (omega (arith, h, hs)))))
 
-pub from-ext : (p q : ℕ → List ℕ) → ((j : ℕ) → j < 19 → p j ≡ q j) → fromParts p ≡ fromParts q
+pub from-ext : (p q : ℕ → List ℕ) → ((j : ℕ) → j < 19 → p j ≡ q j) → from_parts p ≡ from_parts q
 from-ext p q h =
     rw (
       h 0 (omega arith),
@@ -97,7 +97,7 @@ from-ext p q h =
     )
 
 -- THE LAW: the state after a store to place s of part k
-pub put-part : (c : List ℕ) (k s v : ℕ) → k < 19 → s < size k → decoded (set c (start k + s) v) ≡ fromParts (λ j. cond (eqb j k) (set (part c k) s v) (part c j))
+pub put-part : (c : List ℕ) (k s v : ℕ) → k < 19 → s < size k → decoded (set c (start k + s) v) ≡ from_parts (λ j. cond (eqb j k) (set (part c k) s v) (part c j))
 unfolding decoded
 put-part c k s v hk hs = from-ext (part (set c (start k + s) v)) (λ j. cond (eqb j k) (set (part c k) s v) (part c j)) (part-put c k s v hk hs)
 
@@ -152,44 +152,44 @@ module _ (c : List ℕ) where
     unfolding decoded start size
     last-read = sym (part_at c 15 s l)
 
-    pub slot_read : record { page = get_or c (40 + s) 0; original = get_or c (56 + s) 0; spare = get_or c (72 + s) 0; bitmap = get_or c (88 + s) 0 } ≡ slotIn st.table s
+    pub slot_read : record { page = get_or c (40 + s) 0; original = get_or c (56 + s) 0; spare = get_or c (72 + s) 0; bitmap = get_or c (88 + s) 0 } ≡ slot_in st.table s
     unfolding decoded start size
     slot_read = rw (part_at c 11 s l, part_at c 12 s l, part_at c 13 s l, part_at c 14 s l)
 
-    pub page-put : (v : ℕ) → decoded (set c (40 + s) v) ≡ withTable st (record { page = set st.table.page s v; original = st.table.original; spare = st.table.spare; bitmap = st.table.bitmap; last = st.table.last })
+    pub page-put : (v : ℕ) → decoded (set c (40 + s) v) ≡ with_table st (record { page = set st.table.page s v; original = st.table.original; spare = st.table.spare; bitmap = st.table.bitmap; last = st.table.last })
     unfolding decoded start size
     page-put v = put-part c 11 s v (omega arith) l
 
-    pub original-put : (v : ℕ) → decoded (set c (56 + s) v) ≡ withTable st (record { page = st.table.page; original = set st.table.original s v; spare = st.table.spare; bitmap = st.table.bitmap; last = st.table.last })
+    pub original-put : (v : ℕ) → decoded (set c (56 + s) v) ≡ with_table st (record { page = st.table.page; original = set st.table.original s v; spare = st.table.spare; bitmap = st.table.bitmap; last = st.table.last })
     unfolding decoded start size
     original-put v = put-part c 12 s v (omega arith) l
 
-    pub spare-put : (v : ℕ) → decoded (set c (72 + s) v) ≡ withTable st (record { page = st.table.page; original = st.table.original; spare = set st.table.spare s v; bitmap = st.table.bitmap; last = st.table.last })
+    pub spare-put : (v : ℕ) → decoded (set c (72 + s) v) ≡ with_table st (record { page = st.table.page; original = st.table.original; spare = set st.table.spare s v; bitmap = st.table.bitmap; last = st.table.last })
     unfolding decoded start size
     spare-put v = put-part c 13 s v (omega arith) l
 
-    pub bitmap-put : (v : ℕ) → decoded (set c (88 + s) v) ≡ withTable st (withBitmap st.table s v)
+    pub bitmap-put : (v : ℕ) → decoded (set c (88 + s) v) ≡ with_table st (with_bitmap st.table s v)
     unfolding decoded start size
     bitmap-put v = put-part c 14 s v (omega arith) l
 
-    pub last-put : (v : ℕ) → decoded (set c (104 + s) v) ≡ withTable st (with_last st.table s v)
+    pub last-put : (v : ℕ) → decoded (set c (104 + s) v) ≡ with_table st (with_last st.table s v)
     unfolding decoded start size
     last-put v = put-part c 15 s v (omega arith) l
 
-  pub open-read : (w : ℕ) → w < 4 → not (eqb (get_or c (10 + w) 0) 0) ≡ isOpen st.writers.opened w
+  pub open-read : (w : ℕ) → w < 4 → not (eqb (get_or c (10 + w) 0) 0) ≡ is_open st.writers.opened w
   unfolding decoded start size
   open-read w l = rw (sym (part_at c 7 w l)) (sym (flags-at (part c 7) w))
 
-  pub open-put : (w : ℕ) (b : Bool) → w < 4 → decoded (set c (10 + w) (one b)) ≡ withWriters st (withOpened st.writers (set st.writers.opened w b))
+  pub open-put : (w : ℕ) (b : Bool) → w < 4 → decoded (set c (10 + w) (one b)) ≡ with_writers st (with_opened st.writers (set st.writers.opened w b))
   unfolding decoded start size
   open-put w b l = put-part c 7 w (one b) (omega arith) l ∙ rw (flags-set (part c 7) w (one b), flag_one b)
 
   module _ (w s i : ℕ) (e : i ≡ 120 + (16 * w + s)) (lw : w < 4) (ls : s < 16) where
-    pub held-read : get_or c i 0 ≡ heldAt st.writers.held w s
+    pub held-read : get_or c i 0 ≡ held_at st.writers.held w s
     unfolding decoded start size
     held-read = rw e (sym (part_at c 16 (16 * w + s) (omega (arith, lw, ls))))
 
-    pub held-put : (v : ℕ) → decoded (set c i v) ≡ withWriters st (withHeld st.writers (set st.writers.held (16 * w + s) v))
+    pub held-put : (v : ℕ) → decoded (set c i v) ≡ with_writers st (with_held st.writers (set st.writers.held (16 * w + s) v))
     unfolding decoded start size
     held-put v = rw e (put-part c 16 (16 * w + s) v (omega arith) (omega (arith, lw, ls)))
 
@@ -197,7 +197,7 @@ module _ (c : List ℕ) where
   unfolding decoded start size
   key-read e l = sym (part_at c 17 e l)
 
-  pub key-put : (e v : ℕ) → e < 64 → decoded (set c (184 + e) v) ≡ withWide st (record { writer = st.wide.writer; count = st.wide.count; keys = set st.wide.keys e v })
+  pub key-put : (e v : ℕ) → e < 64 → decoded (set c (184 + e) v) ≡ with_wide st (record { writer = st.wide.writer; count = st.wide.count; keys = set st.wide.keys e v })
   unfolding decoded start size
   key-put e v l = put-part c 17 e v (omega arith) l
 
@@ -205,7 +205,7 @@ module _ (c : List ℕ) where
   unfolding decoded start size
   entry_read p l = sym (part_at c 18 p l)
 
-  pub entry-put : (p v : ℕ) → p < 1024 → decoded (set c (256 + p) v) ≡ withMap st (set st.map p v)
+  pub entry-put : (p v : ℕ) → p < 1024 → decoded (set c (256 + p) v) ≡ with_map st (set st.map p v)
   unfolding decoded start size
   entry-put p v l = put-part c 18 p v (omega arith) l
 
@@ -214,7 +214,7 @@ module _ (c : List ℕ) where
     unfolding decoded start size
     head-put v = put-part c 1 0 v (omega arith) (omega arith) ∙ rw (single c 1 v n (omega arith) refl)
 
-    pub tail-put : (v : ℕ) → decoded (set c 5 v) ≡ withTail st v
+    pub tail-put : (v : ℕ) → decoded (set c 5 v) ≡ with_tail st v
     unfolding decoded start size
     tail-put v = put-part c 2 0 v (omega arith) (omega arith) ∙ rw (single c 2 v n (omega arith) refl)
 
@@ -222,19 +222,19 @@ module _ (c : List ℕ) where
     unfolding decoded start size
     next-put v = put-part c 3 0 v (omega arith) (omega arith) ∙ rw (single c 3 v n (omega arith) refl)
 
-    pub writer-put : (v : ℕ) → decoded (set c 8 v) ≡ withWide st (record { writer = v; count = st.wide.count; keys = st.wide.keys })
+    pub writer-put : (v : ℕ) → decoded (set c 8 v) ≡ with_wide st (record { writer = v; count = st.wide.count; keys = st.wide.keys })
     unfolding decoded start size
     writer-put v = put-part c 5 0 v (omega arith) (omega arith) ∙ rw (single c 5 v n (omega arith) refl)
 
-    pub count-put : (v : ℕ) → decoded (set c 9 v) ≡ withWide st (record { writer = st.wide.writer; count = v; keys = st.wide.keys })
+    pub count-put : (v : ℕ) → decoded (set c 9 v) ≡ with_wide st (record { writer = st.wide.writer; count = v; keys = st.wide.keys })
     unfolding decoded start size
     count-put v = put-part c 6 0 v (omega arith) (omega arith) ∙ rw (single c 6 v n (omega arith) refl)
 
-    pub prepared-put : (v : ℕ) → decoded (set c 7 v) ≡ withWriters st (withPrepared st.writers v)
+    pub prepared-put : (v : ℕ) → decoded (set c 7 v) ≡ with_writers st (with_prepared st.writers v)
     unfolding decoded start size
     prepared-put v = put-part c 4 0 v (omega arith) (omega arith) ∙ rw (single c 4 v n (omega arith) refl)
 
-    pub nothing_put : decoded (set c 14 0) ≡ withNothing st
+    pub nothing_put : decoded (set c 14 0) ≡ with_nothing st
     unfolding decoded start size part
     nothing_put =
         let long : 8 ≤ length (drop 14 c) = omega (arith, length-drop 14 c) in
@@ -242,7 +242,7 @@ module _ (c : List ℕ) where
 
 -- a slot's four words
 pub slot-put : (c : List ℕ) (s : ℕ) (v : Slot) → s < 16
-    → decoded (set (set (set (set c (40 + s) v.page) (56 + s) v.original) (72 + s) v.spare) (88 + s) v.bitmap) ≡ withTable (decoded c) (withSlot (decoded c).table s v)
+    → decoded (set (set (set (set c (40 + s) v.page) (56 + s) v.original) (72 + s) v.spare) (88 + s) v.bitmap) ≡ with_table (decoded c) (with_slot (decoded c).table s v)
 slot-put c s v l =
     let c1 = set c (40 + s) v.page in
     let c2 = set c1 (56 + s) v.original in
@@ -250,5 +250,5 @@ slot-put c s v l =
     rw (bitmap-put c3 s l v.bitmap, spare-put c2 s l v.spare, original-put c1 s l v.original, page-put c s l v.page)
 
 -- the wide writer and its count
-pub wide-put : (c : List ℕ) (n : length c ≡ 1280) (w k : ℕ) → decoded (set (set c 8 w) 9 k) ≡ withWide (decoded c) (record { writer = w; count = k; keys = (decoded c).wide.keys })
+pub wide-put : (c : List ℕ) (n : length c ≡ 1280) (w k : ℕ) → decoded (set (set c 8 w) 9 k) ≡ with_wide (decoded c) (record { writer = w; count = k; keys = (decoded c).wide.keys })
 wide-put c n w k = count-put (set c 8 w) (length-set c 8 w ∙ n) k ∙ rw (writer-put c n w)

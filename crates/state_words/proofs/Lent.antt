@@ -11,9 +11,9 @@ use lib.Seq.{ext_get_or, get_or-drop, length-take-le, take-append-le, drop-appen
 use Rattle.bounded.specs.Below.{all_below}
 use Rattle.bounded.specs.Tab.{tab}
 use Rattle.bounded.proofs.Below.{all-at}
-use Rattle.bounded.proofs.Tab.{length-tab, getD-tab}
-use Rattle.bounded.proofs.Tests.{caseOn}
-use Rattle.state_words.specs.Decoded.{start, size, part, decoded, withMap}
+use Rattle.bounded.proofs.Tab.{length-tab, get_or-tab}
+use Rattle.bounded.proofs.Tests.{case_on}
+use Rattle.state_words.specs.Decoded.{start, size, part, decoded, with_map}
 use Rattle.state_words.proofs.DecodedLaws.{get_d_take, part_at, from-ext}
 
 -- the first n words of part k
@@ -26,7 +26,7 @@ front c k n h l =
     let low : i < n = omega (arith, same) in
     get_d_take n (drop (start k) c) i low
     ∙ get_or-drop (start k) c i 0
-    ∙ sym (getD-tab n (λ j. get_or (part c k) j 0) i 0 low ∙ part_at c k i (omega (arith, h, low))))
+    ∙ sym (get_or-tab n (λ j. get_or (part c k) j 0) i 0 low ∙ part_at c k i (omega (arith, h, low))))
 
 -- the words below the map
 low_parts : all_below 18 (λ j. leb (start j + size j) 256) ≡ true
@@ -77,8 +77,8 @@ module _ (c : List ℕ) (long : length c ≡ 1280) where
         ∙ take_all 1024 (hs ++ drop n (drop 256 c)) more
         ∙ ap (λ (l : List ℕ). hs ++ drop n l) (sym (take_all 1024 (drop 256 c) few))
 
-    pub map_back : decoded back ≡ withMap (decoded c) (hs ++ drop n (decoded c).map)
+    pub map_is_back : decoded back ≡ with_map (decoded c) (hs ++ drop n (decoded c).map)
     unfolding decoded
-    map_back =
+    map_is_back =
         from-ext (part back) (λ j. cond (eqb j 18) (hs ++ drop n (part c 18)) (part c j))
-        (λ j p. caseOn (eqb j 18) (λ t. rw t (ap (part back) (eqb-true j 18 t) ∙ high)) (λ t. rw t (low j (omega (arith, p, eqb-false j 18 t)))))
+        (λ j p. case_on (eqb j 18) (λ t. rw t (ap (part back) (eqb-true j 18 t) ∙ high)) (λ t. rw t (low j (omega (arith, p, eqb-false j 18 t)))))

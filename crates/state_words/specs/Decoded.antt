@@ -24,8 +24,8 @@ flags [] = []
 flags (n ∷ l) = not (eqb n 0) ∷ flags l
 
 -- the operation by its number: none for any other number
-abbrev pub opBy : ℕ → ℕ → ℕ → ℕ → ℕ → ℕ → Op
-opBy k a b c d e =
+abbrev pub op_by : ℕ → ℕ → ℕ → ℕ → ℕ → ℕ → Op
+op_by k a b c d e =
     cond (eqb k 1) (Write a b c d e) (cond (eqb k 2) (Commit a) (cond (eqb k 3) (Consolidate a) (cond (eqb k 4) Checkpoint (cond (eqb k 5) (Event a b c)
     (cond (eqb k 6) (Prepare a) (cond (eqb k 7) (Confirm a) (cond (eqb k 8) (Log a b c d) (cond (eqb k 9) Copy (cond (eqb k 10) Format Idle)))))))))
 
@@ -33,18 +33,18 @@ opBy k a b c d e =
 abbrev pub nothing : Pending
 nothing = record { op = Idle; made = 0; line = replicate 8 0; second = replicate 8 0 }
 
-abbrev pub pendingFrom : List ℕ → List ℕ → List ℕ → Pending
-pendingFrom n line second =
+abbrev pub pending_from : List ℕ → List ℕ → List ℕ → Pending
+pending_from n line second =
     cond (eqb (get_or n 0 0) 0) nothing
     (record {
-      op = opBy (get_or n 0 0) (get_or n 1 0) (get_or n 2 0) (get_or n 3 0) (get_or n 4 0) (get_or n 5 0);
+      op = op_by (get_or n 0 0) (get_or n 1 0) (get_or n 2 0) (get_or n 3 0) (get_or n 4 0) (get_or n 5 0);
       made = get_or n 6 0;
       line = line;
       second = second;
     })
 
-abbrev pub fromParts : (ℕ → List ℕ) → State
-fromParts p =
+abbrev pub from_parts : (ℕ → List ℕ) → State
+from_parts p =
     record {
       sizes = record { pages = get_or (p 0) 0 0; slots = get_or (p 0) 1 0; places = get_or (p 0) 2 0; entries = get_or (p 0) 3 0 };
       head = get_or (p 1) 0 0;
@@ -54,12 +54,12 @@ fromParts p =
       map = p 18;
       writers = record { opened = flags (p 7); held = p 16; prepared = get_or (p 4) 0 0 };
       wide = record { writer = get_or (p 5) 0 0; count = get_or (p 6) 0 0; keys = p 17 };
-      pending = pendingFrom (p 8) (p 9) (p 10);
+      pending = pending_from (p 8) (p 9) (p 10);
     }
 
 -- the state that the words are
 unfoldable pub decoded : List ℕ → State
-decoded c = fromParts (part c)
+decoded c = from_parts (part c)
 
 -- head, tail, next slot, prepared writer, wide one and its entries
 abbrev pub places_of : State → Places
@@ -67,8 +67,8 @@ places_of st =
     record { head = st.head; tail = st.tail; next = st.next; prepared = st.writers.prepared; wide = st.wide.writer; count = st.wide.count }
 
 -- a state with another table, other writers, another head, tail or next slot, another wide transaction, or nothing pending
-abbrev pub withTable : State → Table → State
-withTable st t =
+abbrev pub with_table : State → Table → State
+with_table st t =
     record {
       sizes = st.sizes;
       head = st.head;
@@ -81,8 +81,8 @@ withTable st t =
       pending = st.pending;
     }
 
-abbrev pub withWriters : State → Writers → State
-withWriters st ws =
+abbrev pub with_writers : State → Writers → State
+with_writers st ws =
     record {
       sizes = st.sizes;
       head = st.head;
@@ -109,8 +109,8 @@ with_head st h =
       pending = st.pending;
     }
 
-abbrev pub withTail : State → ℕ → State
-withTail st q =
+abbrev pub with_tail : State → ℕ → State
+with_tail st q =
     record {
       sizes = st.sizes;
       head = st.head;
@@ -137,8 +137,8 @@ with_next st s =
       pending = st.pending;
     }
 
-abbrev pub withWide : State → Wide → State
-withWide st d =
+abbrev pub with_wide : State → Wide → State
+with_wide st d =
     record {
       sizes = st.sizes;
       head = st.head;
@@ -152,8 +152,8 @@ withWide st d =
     }
 
 -- a state with another map
-abbrev pub withMap : State → List ℕ → State
-withMap st m =
+abbrev pub with_map : State → List ℕ → State
+with_map st m =
     record {
       sizes = st.sizes;
       head = st.head;
@@ -167,8 +167,8 @@ withMap st m =
     }
 
 -- a state with m stores of what is pending made
-abbrev pub withMade : State → ℕ → State
-withMade st m =
+abbrev pub with_made : State → ℕ → State
+with_made st m =
     record {
       sizes = st.sizes;
       head = st.head;
@@ -186,8 +186,8 @@ withMade st m =
       };
     }
 
-abbrev pub withNothing : State → State
-withNothing st =
+abbrev pub with_nothing : State → State
+with_nothing st =
     record {
       sizes = st.sizes;
       head = st.head;
@@ -201,14 +201,14 @@ withNothing st =
     }
 
 -- a table with one bitmap or one last position replaced; writers with one open or closed, other held lines, another one prepared
-abbrev pub withBitmap : Table → ℕ → ℕ → Table
-withBitmap t s m = record { page = t.page; original = t.original; spare = t.spare; bitmap = set t.bitmap s m; last = t.last }
+abbrev pub with_bitmap : Table → ℕ → ℕ → Table
+with_bitmap t s m = record { page = t.page; original = t.original; spare = t.spare; bitmap = set t.bitmap s m; last = t.last }
 
-abbrev pub withOpened : Writers → List Bool → Writers
-withOpened ws o = record { opened = o; held = ws.held; prepared = ws.prepared }
+abbrev pub with_opened : Writers → List Bool → Writers
+with_opened ws o = record { opened = o; held = ws.held; prepared = ws.prepared }
 
-abbrev pub withHeld : Writers → List ℕ → Writers
-withHeld ws h = record { opened = ws.opened; held = h; prepared = ws.prepared }
+abbrev pub with_held : Writers → List ℕ → Writers
+with_held ws h = record { opened = ws.opened; held = h; prepared = ws.prepared }
 
-abbrev pub withPrepared : Writers → ℕ → Writers
-withPrepared ws w = record { opened = ws.opened; held = ws.held; prepared = w }
+abbrev pub with_prepared : Writers → ℕ → Writers
+with_prepared ws w = record { opened = ws.opened; held = ws.held; prepared = w }

@@ -3,10 +3,10 @@ pub mod parts;
 
 ghost use Rattle.std.specs.Prelude.{◌≡◌, ◌+◌, ◌*◌, ◌<◌, get_or, set, length};
 ghost use Rattle.bounded.specs.Below.{one};
-ghost use Rattle.replay.specs.Table.{slotIn, withSlot, with_last};
-ghost use Rattle.state.specs.Held.{isOpen, heldAt};
-ghost use Rattle.state_words.specs.Decoded.{decoded, places_of, withTable, withWriters, with_head, withTail, with_next, withWide, withNothing};
-ghost use Rattle.state_words.specs.Decoded.{withBitmap, withOpened, withHeld, withPrepared, withMap};
+ghost use Rattle.replay.specs.Table.{slot_in, with_slot, with_last};
+ghost use Rattle.state.specs.Held.{is_open, held_at};
+ghost use Rattle.state_words.specs.Decoded.{decoded, places_of, with_table, with_writers, with_head, with_tail, with_next, with_wide, with_nothing};
+ghost use Rattle.state_words.specs.Decoded.{with_bitmap, with_opened, with_held, with_prepared, with_map};
 
 use journal::Slot;
 use layout::Sizes;
@@ -86,7 +86,7 @@ pub fn places_in(words: &Words) -> Places
 // Slot s of the table.
 pub fn slot_at(words: &Words, s: usize) -> Slot
     requires { s < 16 }
-    ensures { result ≡ slotIn (decoded words.now).table s }
+    ensures { result ≡ slot_in (decoded words.now).table s }
 {
     Slot {
         page: words[PAGE + s] as usize,
@@ -123,7 +123,7 @@ pub fn last_at(words: &Words, s: usize) -> usize
 // The lines of slot s that writer w holds.
 pub fn held_at(words: &Words, w: usize, s: usize) -> u64
     requires { (w < 4) × (s < 16) }
-    ensures { result ≡ heldAt (decoded words.now).writers.held w s }
+    ensures { result ≡ held_at (decoded words.now).writers.held w s }
 {
     words[HELD + 16 * w + s]
 }
@@ -131,7 +131,7 @@ pub fn held_at(words: &Words, w: usize, s: usize) -> u64
 // Whether writer w is open.
 pub fn open_at(words: &Words, w: usize) -> bool
     requires { w < 4 }
-    ensures { result ≡ isOpen (decoded words.now).writers.opened w }
+    ensures { result ≡ is_open (decoded words.now).writers.opened w }
 {
     words[OPENED + w] != 0
 }
@@ -155,7 +155,7 @@ pub fn entry_at(words: &Words, p: usize) -> usize
 // Replaces slot s.
 pub fn put_slot(words: &mut Words, s: usize, v: Slot)
     requires { s < 16 }
-    ensures { decoded words.new ≡ withTable (decoded words.old) (withSlot (decoded words.old).table s v) }
+    ensures { decoded words.new ≡ with_table (decoded words.old) (with_slot (decoded words.old).table s v) }
 {
     words[PAGE + s] = v.page as u64;
     words[ORIGINAL + s] = v.original as u64;
@@ -166,7 +166,7 @@ pub fn put_slot(words: &mut Words, s: usize, v: Slot)
 // Replaces the bitmap of slot s.
 pub fn put_bitmap(words: &mut Words, s: usize, m: u64)
     requires { s < 16 }
-    ensures { decoded words.new ≡ withTable (decoded words.old) (withBitmap (decoded words.old).table s m) }
+    ensures { decoded words.new ≡ with_table (decoded words.old) (with_bitmap (decoded words.old).table s m) }
 {
     words[BITMAP + s] = m;
 }
@@ -174,7 +174,7 @@ pub fn put_bitmap(words: &mut Words, s: usize, m: u64)
 // Replaces the last position of slot s.
 pub fn put_last(words: &mut Words, s: usize, q: usize)
     requires { s < 16 }
-    ensures { decoded words.new ≡ withTable (decoded words.old) (with_last (decoded words.old).table s q) }
+    ensures { decoded words.new ≡ with_table (decoded words.old) (with_last (decoded words.old).table s q) }
 {
     words[LAST + s] = q as u64;
 }
@@ -182,8 +182,8 @@ pub fn put_last(words: &mut Words, s: usize, q: usize)
 // Replaces the lines of slot s that writer w holds.
 pub fn put_held(words: &mut Words, w: usize, s: usize, m: u64)
     requires { (w < 4) × (s < 16) }
-    ensures { decoded words.new ≡ withWriters (decoded words.old)
-        (withHeld (decoded words.old).writers (set (decoded words.old).writers.held (16 * w + s) m)) }
+    ensures { decoded words.new ≡ with_writers (decoded words.old)
+        (with_held (decoded words.old).writers (set (decoded words.old).writers.held (16 * w + s) m)) }
 {
     words[HELD + 16 * w + s] = m;
 }
@@ -191,8 +191,8 @@ pub fn put_held(words: &mut Words, w: usize, s: usize, m: u64)
 // Opens or closes writer w. No other word changes.
 pub fn put_open(words: &mut Words, w: usize, b: bool)
     requires { w < 4 }
-    ensures state { decoded words.new ≡ withWriters (decoded words.old)
-        (withOpened (decoded words.old).writers (set (decoded words.old).writers.opened w b)) }
+    ensures state { decoded words.new ≡ with_writers (decoded words.old)
+        (with_opened (decoded words.old).writers (set (decoded words.old).writers.opened w b)) }
     ensures words { words.new ≡ set words.old (10 + w) (one b) }
 {
     words[OPENED + w] = state::held::one_if(b) as u64;
@@ -215,7 +215,7 @@ pub fn put_head(words: &mut Words, head: usize)
 
 // Sets tail.
 pub fn put_tail(words: &mut Words, tail: usize)
-    ensures { decoded words.new ≡ withTail (decoded words.old) tail }
+    ensures { decoded words.new ≡ with_tail (decoded words.old) tail }
 {
     let _ = all_words(*words);
     words[TAIL] = tail as u64;
@@ -231,7 +231,7 @@ pub fn put_next(words: &mut Words, next: usize)
 
 // Sets the wide writer, and how many entries it uses.
 pub fn put_wide(words: &mut Words, writer: usize, count: usize)
-    ensures { decoded words.new ≡ withWide (decoded words.old)
+    ensures { decoded words.new ≡ with_wide (decoded words.old)
         (record { writer = writer; count = count; keys = (decoded words.old).wide.keys }) }
 {
     let _ = all_words(*words);
@@ -242,7 +242,7 @@ pub fn put_wide(words: &mut Words, writer: usize, count: usize)
 // Replaces the key of entry e.
 pub fn put_key(words: &mut Words, e: usize, key: u64)
     requires { e < 64 }
-    ensures { decoded words.new ≡ withWide (decoded words.old)
+    ensures { decoded words.new ≡ with_wide (decoded words.old)
         (record {
           writer = (decoded words.old).wide.writer;
           count = (decoded words.old).wide.count;
@@ -255,14 +255,14 @@ pub fn put_key(words: &mut Words, e: usize, key: u64)
 // Replaces the frame of page p.
 pub fn put_entry(words: &mut Words, p: usize, frame: usize)
     requires { p < 1024 }
-    ensures { decoded words.new ≡ withMap (decoded words.old) (set (decoded words.old).map p frame) }
+    ensures { decoded words.new ≡ with_map (decoded words.old) (set (decoded words.old).map p frame) }
 {
     words[MAP + p] = frame as u64;
 }
 
 // Sets which writer is prepared.
 pub fn put_prepared(words: &mut Words, w: usize)
-    ensures { decoded words.new ≡ withWriters (decoded words.old) (withPrepared (decoded words.old).writers w) }
+    ensures { decoded words.new ≡ with_writers (decoded words.old) (with_prepared (decoded words.old).writers w) }
 {
     let _ = all_words(*words);
     words[PREPARED] = w as u64;
@@ -270,7 +270,7 @@ pub fn put_prepared(words: &mut Words, w: usize)
 
 // Nothing is pending.
 pub fn put_nothing(words: &mut Words)
-    ensures { decoded words.new ≡ withNothing (decoded words.old) }
+    ensures { decoded words.new ≡ with_nothing (decoded words.old) }
 {
     let _ = all_words(*words);
     words[PENDING] = 0;

@@ -1,14 +1,14 @@
 // What is pending, part by part; and a copy of the bitmaps.
 ghost use Rattle.std.specs.Prelude.{◌≡◌, false, ◌+◌, ◌≤◌, take, drop};
-ghost use Rattle.operations.specs.Operations.{isIdle};
-ghost use Rattle.state_words.specs.Decoded.{decoded, opBy, withMade};
+ghost use Rattle.operations.specs.Operations.{is_idle};
+ghost use Rattle.state_words.specs.Decoded.{decoded, op_by, with_made};
 
 use crate::{BITMAP, LINE, PENDING, SECOND, Words};
 use state::Op;
 
 // Whether nothing is pending.
 pub fn idle_in(words: &Words) -> bool
-    ensures { result ≡ isIdle (decoded words.now).pending.op }
+    ensures { result ≡ is_idle (decoded words.now).pending.op }
 {
     let k = words[PENDING];
     (k == 0) | (10 < k)
@@ -16,7 +16,7 @@ pub fn idle_in(words: &Words) -> bool
 
 // The operation by its number.
 fn op_by(k: usize, a: usize, b: usize, c: usize, d: usize, e: usize) -> Op
-    ensures { result ≡ opBy k a b c d e }
+    ensures { result ≡ op_by k a b c d e }
 {
     match k {
         1 => Op::Write {
@@ -64,7 +64,7 @@ pub fn op_in(words: &Words) -> Op
 
 // How many of its stores are made.
 pub fn made_in(words: &Words) -> usize
-    requires { isIdle (decoded words.now).pending.op ≡ false }
+    requires { is_idle (decoded words.now).pending.op ≡ false }
     ensures { result ≡ (decoded words.now).pending.made }
 {
     words[PENDING + 6] as usize
@@ -72,8 +72,8 @@ pub fn made_in(words: &Words) -> usize
 
 // Sets how many of its stores are made.
 pub fn put_made(words: &mut Words, made: usize)
-    requires { isIdle (decoded words.old).pending.op ≡ false }
-    ensures { decoded words.new ≡ withMade (decoded words.old) made }
+    requires { is_idle (decoded words.old).pending.op ≡ false }
+    ensures { decoded words.new ≡ with_made (decoded words.old) made }
 {
     let _ = crate::all_words(*words);
     words[PENDING + 6] = made as u64;
@@ -96,7 +96,7 @@ fn eight_at(words: &Words, a: usize) -> [u64; 8]
 
 // Its finished line.
 pub fn line_in(words: &Words) -> [u64; 8]
-    requires { isIdle (decoded words.now).pending.op ≡ false }
+    requires { is_idle (decoded words.now).pending.op ≡ false }
     ensures { result ≡ (decoded words.now).pending.line }
 {
     eight_at(words, LINE)
@@ -104,7 +104,7 @@ pub fn line_in(words: &Words) -> [u64; 8]
 
 // Its second finished line.
 pub fn second_in(words: &Words) -> [u64; 8]
-    requires { isIdle (decoded words.now).pending.op ≡ false }
+    requires { is_idle (decoded words.now).pending.op ≡ false }
     ensures { result ≡ (decoded words.now).pending.second }
 {
     eight_at(words, SECOND)

@@ -1,6 +1,6 @@
 // A line of a script as a letter and numbers, in one pass over its bytes.
 ghost use Rattle.std.specs.Prelude.{◌≡◌, [], ◌∷◌};
-ghost use Rattle.text.specs.Fields.{fields, otherForm, line_of, parsed};
+ghost use Rattle.text.specs.Fields.{fields, other_form, line_of, parsed};
 ghost use Rattle.text.specs.Digits.{takes, closes};
 
 use crate::Line;
@@ -9,7 +9,7 @@ use crate::Line;
 const TENTH: u64 = 1844674407370955161;
 
 fn other_form() -> Line
-    ensures { result ≡ otherForm }
+    ensures { result ≡ other_form }
 {
     let numbers = [0; 69];
     Line {

@@ -2,61 +2,61 @@
 -- and w. Each is the call's own definition.
 use Rattle.std.specs.Prelude.{ℕ, Bool, List, eqb}
 use Rattle.state.specs.State.{State}
-use Rattle.refinement.specs.Calls.{beginOf, beginWideOf, abortOf, commitOf, prepareOf, confirmOf, withdrawOf, consolidateOf, freeOf, checkpointOf}
+use Rattle.refinement.specs.Calls.{begin_of, begin_wide_of, abort_of, commit_of, prepare_of, confirm_of, withdraw_of, consolidate_of, free_of, checkpoint_of}
 use Rattle.text.specs.declared.Line.{Line}
-use Rattle.calling.specs.WriteLine.{hasData, writeBy}
+use Rattle.calling.specs.WriteLine.{has_data, write_by}
 use Rattle.workbench.specs.Turns.{Turn, arg, formed, called}
-use Rattle.call_turns.specs.InPlace.{call_by, bytesBy}
+use Rattle.call_turns.specs.InPlace.{call_by, bytes_by}
 
 -- ---- calls that make no store: B,w and b,w; V,w and v,w; A,w and a,w; Z,w
 
-abbrev pub beginTurn : State → Line → Turn
-beginTurn st line = formed (eqb line.count 1) st (called (beginOf st (arg line 0)))
+abbrev pub begin_turn : State → Line → Turn
+begin_turn st line = formed (eqb line.count 1) st (called (begin_of st (arg line 0)))
 
-abbrev pub beginWideTurn : State → Line → Turn
-beginWideTurn st line = formed (eqb line.count 1) st (called (beginWideOf st (arg line 0)))
+abbrev pub begin_wide_turn : State → Line → Turn
+begin_wide_turn st line = formed (eqb line.count 1) st (called (begin_wide_of st (arg line 0)))
 
-abbrev pub abortTurn : State → Line → Turn
-abortTurn st line = formed (eqb line.count 1) st (called (abortOf st (arg line 0)))
+abbrev pub abort_turn : State → Line → Turn
+abort_turn st line = formed (eqb line.count 1) st (called (abort_of st (arg line 0)))
 
-abbrev pub withdrawTurn : State → List ℕ → Line → Turn
-withdrawTurn st img line = formed (eqb line.count 1) st (called (withdrawOf st img (arg line 0)))
+abbrev pub withdraw_turn : State → List ℕ → Line → Turn
+withdraw_turn st img line = formed (eqb line.count 1) st (called (withdraw_of st img (arg line 0)))
 
 -- ---- asked for, or with the whole of it in place: C,w and c,w; D,p and d,p; P and p; W and w with a write's numbers
 
-abbrev pub commitTurn : Bool → State → List ℕ → Line → Turn
-commitTurn whole st img line = call_by (eqb line.count 1) whole st (commitOf st img (arg line 0)) img
+abbrev pub commit_turn : Bool → State → List ℕ → Line → Turn
+commit_turn whole st img line = call_by (eqb line.count 1) whole st (commit_of st img (arg line 0)) img
 
-abbrev pub commitBytes : Bool → State → List ℕ → Line → List ℕ
-commitBytes whole st img line = bytesBy (eqb line.count 1) whole (commitOf st img (arg line 0)) img
+abbrev pub commit_bytes : Bool → State → List ℕ → Line → List ℕ
+commit_bytes whole st img line = bytes_by (eqb line.count 1) whole (commit_of st img (arg line 0)) img
 
-abbrev pub consolidateTurn : Bool → State → List ℕ → Line → Turn
-consolidateTurn whole st img line = call_by (eqb line.count 1) whole st (consolidateOf st img (arg line 0)) img
+abbrev pub consolidate_turn : Bool → State → List ℕ → Line → Turn
+consolidate_turn whole st img line = call_by (eqb line.count 1) whole st (consolidate_of st img (arg line 0)) img
 
-abbrev pub consolidateBytes : Bool → State → List ℕ → Line → List ℕ
-consolidateBytes whole st img line = bytesBy (eqb line.count 1) whole (consolidateOf st img (arg line 0)) img
+abbrev pub consolidate_bytes : Bool → State → List ℕ → Line → List ℕ
+consolidate_bytes whole st img line = bytes_by (eqb line.count 1) whole (consolidate_of st img (arg line 0)) img
 
-abbrev pub checkpointTurn : Bool → State → List ℕ → Line → Turn
-checkpointTurn whole st img line = call_by (eqb line.count 0) whole st (checkpointOf st img) img
+abbrev pub checkpoint_turn : Bool → State → List ℕ → Line → Turn
+checkpoint_turn whole st img line = call_by (eqb line.count 0) whole st (checkpoint_of st img) img
 
-abbrev pub checkpointBytes : Bool → State → List ℕ → Line → List ℕ
-checkpointBytes whole st img line = bytesBy (eqb line.count 0) whole (checkpointOf st img) img
+abbrev pub checkpoint_bytes : Bool → State → List ℕ → Line → List ℕ
+checkpoint_bytes whole st img line = bytes_by (eqb line.count 0) whole (checkpoint_of st img) img
 
 -- writer, page, line, offset, length, then at most 64 bytes
-abbrev pub writeTurn : Bool → State → List ℕ → Line → Turn
-writeTurn whole st img line =
-    call_by (hasData line.count line.numbers) whole st (writeBy st img line.count line.numbers) img
+abbrev pub write_turn : Bool → State → List ℕ → Line → Turn
+write_turn whole st img line =
+    call_by (has_data line.count line.numbers) whole st (write_by st img line.count line.numbers) img
 
-abbrev pub writeBytes : Bool → State → List ℕ → Line → List ℕ
-writeBytes whole st img line = bytesBy (hasData line.count line.numbers) whole (writeBy st img line.count line.numbers) img
+abbrev pub write_bytes : Bool → State → List ℕ → Line → List ℕ
+write_bytes whole st img line = bytes_by (has_data line.count line.numbers) whole (write_by st img line.count line.numbers) img
 
 -- ---- asked for only, so no byte changes: X; I,w; J,w
 
-abbrev pub freeTurn : State → List ℕ → Line → Turn
-freeTurn st img line = formed (eqb line.count 0) st (called (freeOf st img))
+abbrev pub free_turn : State → List ℕ → Line → Turn
+free_turn st img line = formed (eqb line.count 0) st (called (free_of st img))
 
-abbrev pub prepareTurn : State → List ℕ → Line → Turn
-prepareTurn st img line = formed (eqb line.count 1) st (called (prepareOf st img (arg line 0)))
+abbrev pub prepare_turn : State → List ℕ → Line → Turn
+prepare_turn st img line = formed (eqb line.count 1) st (called (prepare_of st img (arg line 0)))
 
-abbrev pub confirmTurn : State → List ℕ → Line → Turn
-confirmTurn st img line = formed (eqb line.count 1) st (called (confirmOf st img (arg line 0)))
+abbrev pub confirm_turn : State → List ℕ → Line → Turn
+confirm_turn st img line = formed (eqb line.count 1) st (called (confirm_of st img (arg line 0)))

@@ -3,9 +3,9 @@ pub mod prepared;
 
 ghost use Rattle.std.specs.Prelude.{◌≡◌};
 ghost use Rattle.state_words.specs.Decoded.{decoded};
-ghost use Rattle.workbench.specs.Turns.{turnAt};
-ghost use Rattle.transaction_calls.specs.Calls.{beginTurn, beginWideTurn, abortTurn, commitTurn, commitBytes, consolidateTurn, consolidateBytes};
-ghost use Rattle.transaction_calls.specs.Calls.{checkpointTurn, checkpointBytes, writeTurn, writeBytes};
+ghost use Rattle.workbench.specs.Turns.{turn_at};
+ghost use Rattle.transaction_calls.specs.Calls.{begin_turn, begin_wide_turn, abort_turn, commit_turn, commit_bytes, consolidate_turn, consolidate_bytes};
+ghost use Rattle.transaction_calls.specs.Calls.{checkpoint_turn, checkpoint_bytes, write_turn, write_bytes};
 
 use call_turns::{answered, until_by};
 use state_words::Words;
@@ -13,7 +13,7 @@ use text::Line;
 use workbench::Said;
 
 pub fn begin(words: &mut Words, line: Line) -> Said
-    ensures { turnAt result words.new ≡ beginTurn (decoded words.old) line }
+    ensures { turn_at result words.new ≡ begin_turn (decoded words.old) line }
 {
     if line.count == 1 { // B,w
         let answer = call_begin::begin(words, line.numbers[0] as usize);
@@ -23,7 +23,7 @@ pub fn begin(words: &mut Words, line: Line) -> Said
 }
 
 pub fn begin_wide(words: &mut Words, line: Line) -> Said
-    ensures { turnAt result words.new ≡ beginWideTurn (decoded words.old) line }
+    ensures { turn_at result words.new ≡ begin_wide_turn (decoded words.old) line }
 {
     if line.count == 1 { // V,w
         let answer = call_begin::begin_wide(words, line.numbers[0] as usize);
@@ -33,7 +33,7 @@ pub fn begin_wide(words: &mut Words, line: Line) -> Said
 }
 
 pub fn abort(words: &mut Words, line: Line) -> Said
-    ensures { turnAt result words.new ≡ abortTurn (decoded words.old) line }
+    ensures { turn_at result words.new ≡ abort_turn (decoded words.old) line }
 {
     if line.count == 1 { // A,w
         let answer = call_begin::abort(words, line.numbers[0] as usize);
@@ -43,8 +43,8 @@ pub fn abort(words: &mut Words, line: Line) -> Said
 }
 
 pub fn commit(image: &mut [u8], words: &mut Words, line: Line, whole: bool) -> Said
-    ensures turn { turnAt result words.new ≡ commitTurn whole (decoded words.old) image.old line }
-    ensures bytes { image.new ≡ commitBytes whole (decoded words.old) image.old line }
+    ensures turn { turn_at result words.new ≡ commit_turn whole (decoded words.old) image.old line }
+    ensures bytes { image.new ≡ commit_bytes whole (decoded words.old) image.old line }
 {
     if line.count == 1 { // C,w
         let until = until_by(whole);
@@ -55,8 +55,8 @@ pub fn commit(image: &mut [u8], words: &mut Words, line: Line, whole: bool) -> S
 }
 
 pub fn consolidate(image: &mut [u8], words: &mut Words, line: Line, whole: bool) -> Said
-    ensures turn { turnAt result words.new ≡ consolidateTurn whole (decoded words.old) image.old line }
-    ensures bytes { image.new ≡ consolidateBytes whole (decoded words.old) image.old line }
+    ensures turn { turn_at result words.new ≡ consolidate_turn whole (decoded words.old) image.old line }
+    ensures bytes { image.new ≡ consolidate_bytes whole (decoded words.old) image.old line }
 {
     if line.count == 1 { // D,p
         let until = until_by(whole);
@@ -67,8 +67,8 @@ pub fn consolidate(image: &mut [u8], words: &mut Words, line: Line, whole: bool)
 }
 
 pub fn checkpoint(image: &mut [u8], words: &mut Words, line: Line, whole: bool) -> Said
-    ensures turn { turnAt result words.new ≡ checkpointTurn whole (decoded words.old) image.old line }
-    ensures bytes { image.new ≡ checkpointBytes whole (decoded words.old) image.old line }
+    ensures turn { turn_at result words.new ≡ checkpoint_turn whole (decoded words.old) image.old line }
+    ensures bytes { image.new ≡ checkpoint_bytes whole (decoded words.old) image.old line }
 {
     if line.count == 0 { // P
         let until = until_by(whole);
@@ -80,8 +80,8 @@ pub fn checkpoint(image: &mut [u8], words: &mut Words, line: Line, whole: bool) 
 
 // Five numbers, then at most 64 bytes.
 pub fn write(image: &mut [u8], words: &mut Words, line: Line, whole: bool) -> Said
-    ensures turn { turnAt result words.new ≡ writeTurn whole (decoded words.old) image.old line }
-    ensures bytes { image.new ≡ writeBytes whole (decoded words.old) image.old line }
+    ensures turn { turn_at result words.new ≡ write_turn whole (decoded words.old) image.old line }
+    ensures bytes { image.new ≡ write_bytes whole (decoded words.old) image.old line }
 {
     let count = line.count;
     if calling::has_data(count, &line.numbers) {

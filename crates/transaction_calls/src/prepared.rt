@@ -1,8 +1,8 @@
 // A slot made free, prepare, confirm and withdraw: X, I, J and Z. None makes a store.
 ghost use Rattle.std.specs.Prelude.{◌≡◌};
 ghost use Rattle.state_words.specs.Decoded.{decoded};
-ghost use Rattle.workbench.specs.Turns.{turnAt};
-ghost use Rattle.transaction_calls.specs.Calls.{freeTurn, prepareTurn, confirmTurn, withdrawTurn};
+ghost use Rattle.workbench.specs.Turns.{turn_at};
+ghost use Rattle.transaction_calls.specs.Calls.{free_turn, prepare_turn, confirm_turn, withdraw_turn};
 
 use call_turns::answered;
 use op_stores::Until;
@@ -11,7 +11,7 @@ use text::Line;
 use workbench::Said;
 
 pub fn free_slot(image: &mut [u8], words: &mut Words, line: Line) -> Said
-    ensures turn { turnAt result words.new ≡ freeTurn (decoded words.old) image.old line }
+    ensures turn { turn_at result words.new ≡ free_turn (decoded words.old) image.old line }
     ensures bytes { image.new ≡ image.old }
 {
     if line.count == 0 { // X
@@ -22,7 +22,7 @@ pub fn free_slot(image: &mut [u8], words: &mut Words, line: Line) -> Said
 }
 
 pub fn prepare(image: &mut [u8], words: &mut Words, line: Line) -> Said
-    ensures turn { turnAt result words.new ≡ prepareTurn (decoded words.old) image.old line }
+    ensures turn { turn_at result words.new ≡ prepare_turn (decoded words.old) image.old line }
     ensures bytes { image.new ≡ image.old }
 {
     if line.count == 1 { // I,w
@@ -33,7 +33,7 @@ pub fn prepare(image: &mut [u8], words: &mut Words, line: Line) -> Said
 }
 
 pub fn confirm(image: &mut [u8], words: &mut Words, line: Line) -> Said
-    ensures turn { turnAt result words.new ≡ confirmTurn (decoded words.old) image.old line }
+    ensures turn { turn_at result words.new ≡ confirm_turn (decoded words.old) image.old line }
     ensures bytes { image.new ≡ image.old }
 {
     if line.count == 1 { // J,w
@@ -44,7 +44,7 @@ pub fn confirm(image: &mut [u8], words: &mut Words, line: Line) -> Said
 }
 
 pub fn withdraw(image: &[u8], words: &mut Words, line: Line) -> Said
-    ensures { turnAt result words.new ≡ withdrawTurn (decoded words.old) image.now line }
+    ensures { turn_at result words.new ≡ withdraw_turn (decoded words.old) image.now line }
 {
     if line.count == 1 { // Z,w
         let answer = call_prepare::withdraw(image, words, line.numbers[0] as usize);

@@ -9,25 +9,25 @@ use lib.ListN.{length, get_or, replicate}
 use lib.Seq.{get_or-set_same, get_or-set_other}
 use borrow.Author.Tests.{eqb-true, eqb-false, eq-eqb, leb-false, le-ltb}
 use Rattle.bounded.proofs.Rows.{row-none, none-apply}
-use Rattle.bounded.proofs.Tests.{caseOn, contradicts}
+use Rattle.bounded.proofs.Tests.{case_on, contradicts}
 use Rattle.layout.specs.declared.Sizes.{Sizes}
-use Rattle.layout.specs.Layout.{imageLength}
+use Rattle.layout.specs.Layout.{image_length}
 use Rattle.journal.specs.declared.Slot.{Slot}
-use Rattle.journal.specs.Slots.{noPage}
+use Rattle.journal.specs.Slots.{no_page}
 use Rattle.state.specs.State.{State, Wide}
 use Rattle.state.specs.declared.Op.{Op}
 use Rattle.state.specs.declared.Op.TheVariants.{Write, Commit, Consolidate, Checkpoint}
-use Rattle.state.specs.Held.{isOpen}
-use Rattle.state.specs.Slots.{freeAt, freeAfter}
+use Rattle.state.specs.Held.{is_open}
+use Rattle.state.specs.Slots.{free_at, free_after}
 use Rattle.state.specs.Wide.{is_wide}
-use Rattle.operations.specs.Operations.{isIdle, slotFor, needs}
+use Rattle.operations.specs.Operations.{is_idle, slot_for, needs}
 use Rattle.operations.proofs.Taken.{consolidate-taken}
-use Rattle.validity.specs.Validity.{stateOk}
+use Rattle.validity.specs.Validity.{state_ok}
 use Rattle.refinement.specs.Stores.{World, completed, left}
-use Rattle.refinement.specs.Freeing.{freedSlot, freedPage}
-use Rattle.refinement.specs.Consolidate.{freeingRecord, consolidateTable}
-use Rattle.refinement.specs.Commit.{closedWriter, commitRecordOf}
-use Rattle.refinement.specs.Calls.{withPending, worldOf, asked, finishedLine, changesNothing, beginOf, abortOf, writeOf, commitOp, commitOf, freeCallRows, freeOf, checkpointOf, stepRow, stepRows, run_of}
+use Rattle.refinement.specs.Freeing.{freed_slot, freed_page}
+use Rattle.refinement.specs.Consolidate.{freeing_record, consolidate_table}
+use Rattle.refinement.specs.Commit.{closed_writer, commit_record_of}
+use Rattle.refinement.specs.Calls.{with_pending, world_of, asked, finished_line, changes_nothing, begin_of, abort_of, write_of, commit_op, commit_of, free_call_rows, free_of, checkpoint_of, step_row, step_rows, run_of}
 use Rattle.refinement.specs.Run.{Call, Result, result, begin, abort, commit, free, checkpoint, write, run, exec}
 use Rattle.refinement.specs.Reference.{Reference, turn}
 use Rattle.refinement.specs.Statement.{Lent}
@@ -47,18 +47,18 @@ use Rattle.trial_laws.proofs.Standing.{through}
 -- ---- a run
 
 -- with nothing pending it changes nothing
-idle-run : (n : ℕ) (u : World) → isIdle u.st.pending.op ≡ true → (exec (run n) u).world ≡ u
+idle-run : (n : ℕ) (u : World) → is_idle u.st.pending.op ≡ true → (exec (run n) u).world ≡ u
 unfolding exec run_of
-idle-run n u e = (refused-unchanged (run n) u (λ z. contradicts e (none-apply (stepRows u.st u.image) (omega arith) z).1.1.0)).world
+idle-run n u e = (refused-unchanged (run n) u (λ z. contradicts e (none-apply (step_rows u.st u.image) (omega arith) z).1.1.0)).world
 
 -- of all stores that are left
-run_ends : (n : ℕ) (u : World) → stateOk u.st ≡ true
-    → imageLength u.st.sizes ≤ length u.image → isIdle u.st.pending.op ≡ false → left u.st ≤ n
+run_ends : (n : ℕ) (u : World) → state_ok u.st ≡ true
+    → image_length u.st.sizes ≤ length u.image → is_idle u.st.pending.op ≡ false → left u.st ≤ n
     → (exec (run n) u).world.st ≡ completed u.st u.st.pending.op
 unfolding exec run_of
 run_ends n u valid fits busy enough =
-    let long = le-ltb (length u.image) (imageLength u.st.sizes) fits in
-    let row : 0 ≡ stepRow u.st u.image = row-none (stepRows u.st u.image) (ap not valid, (long, (busy, tt))) in
+    let long = le-ltb (length u.image) (image_length u.st.sizes) fits in
+    let row : 0 ≡ step_row u.st u.image = row-none (step_rows u.st u.image) (ap not valid, (long, (busy, tt))) in
     let low = (pends u.st u.st.pending.op valid refl busy).made-low in
     let m : min n (left u.st) ≡ left u.st = omega arith in
     rw (← row, m) (run-all u busy (omega arith))
@@ -74,7 +74,7 @@ module _ {z : Sizes} {past : List ℕ} {mine : Bool} {v : World} (a : Alone z pa
   asked-reached = reached-next c lent v a.machine a.reached
 
   -- what holds at the end
-  after : {mine' : Bool} → isIdle (through c v).st.pending.op ≡ true → Only mine' (through c v).st → Alone z past mine' (through c v)
+  after : {mine' : Bool} → is_idle (through c v).st.pending.op ≡ true → Only mine' (through c v).st → Alone z past mine' (through c v)
   after i o =
       let e = exec (run d.stores) d.world in
       record {
@@ -85,21 +85,21 @@ module _ {z : Sizes} {past : List ℕ} {mine : Bool} {v : World} (a : Alone z pa
       }
 
   -- no store is needed
-  pub at_once : {mine' : Bool} → isIdle d.world.st.pending.op ≡ true → Only mine' d.world.st → Alone z past mine' (through c v)
+  pub at_once : {mine' : Bool} → is_idle d.world.st.pending.op ≡ true → Only mine' d.world.st → Alone z past mine' (through c v)
   at_once i o =
       let e = idle-run d.stores d.world i in
       after (rw e i) (rw e o)
 
   -- an operation is asked for, and all its stores are made
-  pub by-run : (st : State) (op : Op) (line : List ℕ) → isIdle op ≡ false
-      → d.world ≡ worldOf (withPending st op line) v.image → d.stores ≡ needs st op
-      → (through c v).st ≡ completed (withPending st op line) op
+  pub by-run : (st : State) (op : Op) (line : List ℕ) → is_idle op ≡ false
+      → d.world ≡ world_of (with_pending st op line) v.image → d.stores ≡ needs st op
+      → (through c v).st ≡ completed (with_pending st op line) op
   by-run st op line busy e n =
       let s = standing-of d.world asked-machine asked-reached.related in
       let long = viewed-fits d.world.st d.world.image asked-machine s.viewed in
-      let u = worldOf (withPending st op line) v.image in
-      let ok : stateOk u.st ≡ true = subst (λ (w : World). stateOk w.st ≡ true) e s.valid in
-      let fits : imageLength u.st.sizes ≤ length u.image = subst (λ (w : World). imageLength w.st.sizes ≤ length w.image) e long in
+      let u = world_of (with_pending st op line) v.image in
+      let ok : state_ok u.st ≡ true = subst (λ (w : World). state_ok w.st ≡ true) e s.valid in
+      let fits : image_length u.st.sizes ≤ length u.image = subst (λ (w : World). image_length w.st.sizes ≤ length w.image) e long in
       ap (λ (w : World). (exec (run d.stores) w).world.st) e
       ∙ run_ends d.stores u ok fits busy (omega (arith, needs-asked st line op op, n))
 
@@ -110,16 +110,16 @@ module _ {z : Sizes} {past : List ℕ} {mine : Bool} {v : World} (a : Alone z pa
       at_once (rw e a.idle) (rw e a.only)
 
   -- it is taken, by the operation op, which leaves nothing pending
-  module _ (op : Op) (row : ℕ) (e : d ≡ result (asked row v.st op (replicate 8 0)) v.image) (taken : row ≡ 0) (busy : isIdle op ≡ false)
-      (idle : isIdle (completed v.st op).pending.op ≡ true) (same : completed (withPending v.st op (replicate 8 0)) op ≡ completed v.st op) where
+  module _ (op : Op) (row : ℕ) (e : d ≡ result (asked row v.st op (replicate 8 0)) v.image) (taken : row ≡ 0) (busy : is_idle op ≡ false)
+      (idle : is_idle (completed v.st op).pending.op ≡ true) (same : completed (with_pending v.st op (replicate 8 0)) op ≡ completed v.st op) where
     pub asked-ends : (through c v).st ≡ completed v.st op
     asked-ends =
-        caseOn (eqb (needs v.st op) 0)
+        case_on (eqb (needs v.st op) 0)
         (λ t.
-        let w : d.world ≡ worldOf (completed v.st op) v.image = ap (λ (r : Result). r.world) e ∙ rw (taken, t) in
+        let w : d.world ≡ world_of (completed v.st op) v.image = ap (λ (r : Result). r.world) e ∙ rw (taken, t) in
         ap (λ (u : World). u.st) (idle-run d.stores d.world (rw w idle) ∙ w))
         (λ t.
-        let w : d.world ≡ worldOf (withPending v.st op (replicate 8 0)) v.image = ap (λ (r : Result). r.world) e ∙ rw (taken, t) in
+        let w : d.world ≡ world_of (with_pending v.st op (replicate 8 0)) v.image = ap (λ (r : Result). r.world) e ∙ rw (taken, t) in
         by-run v.st op (replicate 8 0) busy w (ap (λ (r : Result). r.stores) e ∙ rw taken) ∙ same)
 
     pub asked-alone : {mine' : Bool} → Only mine' (completed v.st op) → Alone z past mine' (through c v)
@@ -129,7 +129,7 @@ module _ {z : Sizes} {past : List ℕ} {mine : Bool} {v : World} (a : Alone z pa
 
 module _ {z : Sizes} {past : List ℕ} {v : World} where
   pub begin-alone : Alone z past false v → (exec (begin 0) v).number ≡ 0 → Alone z past true (through (begin 0) v)
-  unfolding exec beginOf
+  unfolding exec begin_of
   begin-alone a n =
       let four = (standing-of v a.machine a.reached.related).four in
       at_once a (begin 0) tt (rw n a.idle)
@@ -143,8 +143,8 @@ module _ {z : Sizes} {past : List ℕ} {v : World} where
 
   -- a writer closed
   closed-only : Alone z past true v
-      → let opened = (closedWriter v.st.sizes v.st.writers 0).opened in (isOpen opened 0 ≡ false) × ((w : ℕ) → 0 < w → w < 4 → isOpen opened w ≡ false)
-  unfolding closedWriter
+      → let opened = (closed_writer v.st.sizes v.st.writers 0).opened in (is_open opened 0 ≡ false) × ((w : ℕ) → 0 < w → w < 4 → is_open opened w ≡ false)
+  unfolding closed_writer
   closed-only a =
       let four = (standing-of v a.machine a.reached.related).four in (
         get_or-set_same v.st.writers.opened 0 false false (omega (arith, four)),
@@ -152,7 +152,7 @@ module _ {z : Sizes} {past : List ℕ} {v : World} where
       )
 
   pub abort-alone : Alone z past true v → (exec (abort 0) v).number ≡ 0 → Alone z past false (through (abort 0) v)
-  unfolding exec abortOf closedWriter
+  unfolding exec abort_of closed_writer
   abort-alone a n =
       let shut = closed-only a in
       at_once a (abort 0) tt (rw n a.idle)
@@ -165,56 +165,56 @@ module _ {z : Sizes} {past : List ℕ} {v : World} where
         → Only true (completed v.st op)
     settled_only op e f g =
         record {
-          opened = ap (λ (l : List Bool). isOpen l 0) e ∙ a.only.opened;
-          others = λ w l h. ap (λ (o : List Bool). isOpen o w) e ∙ a.only.others w l h;
+          opened = ap (λ (l : List Bool). is_open l 0) e ∙ a.only.opened;
+          others = λ w l h. ap (λ (o : List Bool). is_open o w) e ∙ a.only.others w l h;
           unprepared = f ∙ a.only.unprepared;
           narrow = ap (λ (x : Wide). x.writer) g ∙ a.only.narrow;
         }
 
     pub checkpoint-ends : (exec checkpoint v).number ≡ 0 → (through checkpoint v).st ≡ completed v.st Checkpoint
-    unfolding exec checkpointOf
+    unfolding exec checkpoint_of
     checkpoint-ends n = asked-ends a checkpoint tt Checkpoint _ refl n refl refl refl
 
     pub checkpoint-alone : (exec checkpoint v).number ≡ 0 → Alone z past true (through checkpoint v)
-    unfolding exec checkpointOf
+    unfolding exec checkpoint_of
     checkpoint-alone n = asked-alone a checkpoint tt Checkpoint _ refl n refl refl refl (settled_only Checkpoint refl refl refl)
 
-    free-ends : (exec free v).number ≡ 0 → (through free v).st ≡ completed v.st (Consolidate (freedPage v.st))
-    unfolding exec freeOf freeingRecord
-    free-ends n = asked-ends a free tt (Consolidate (freedPage v.st)) _ refl n refl refl refl
+    free-ends : (exec free v).number ≡ 0 → (through free v).st ≡ completed v.st (Consolidate (freed_page v.st))
+    unfolding exec free_of freeing_record
+    free-ends n = asked-ends a free tt (Consolidate (freed_page v.st)) _ refl n refl refl refl
 
     free-taken-alone : (exec free v).number ≡ 0 → Alone z past true (through free v)
-    unfolding exec freeOf freeingRecord
+    unfolding exec free_of freeing_record
     free-taken-alone n =
-        let op = Consolidate (freedPage v.st) in
+        let op = Consolidate (freed_page v.st) in
         asked-alone a free tt op _ refl n refl refl refl (settled_only op refl refl refl)
 
     pub free-alone : Alone z past true (through free v)
     free-alone =
-        caseOn (eqb (exec free v).number 0)
+        case_on (eqb (exec free v).number 0)
         (λ t. free-taken-alone (eqb-true (exec free v).number 0 t))
         (λ t. refused-alone a free tt (eqb-false (exec free v).number 0 t))
 
     pub commit-alone : (exec (commit 0) v).number ≡ 0 → Alone z past false (through (commit 0) v)
-    unfolding exec commitOf commitRecordOf closedWriter
+    unfolding exec commit_of commit_record_of closed_writer
     commit-alone n =
         let shut = closed-only a in
-        let op : commitOp v.st 0 ≡ Commit 0 = rw a.only.narrow in
+        let op : commit_op v.st 0 ≡ Commit 0 = rw a.only.narrow in
         let e = ap (λ (o : Op). result (asked (exec (commit 0) v).number v.st o (replicate 8 0)) v.image) op in
         asked-alone a (commit 0) tt (Commit 0) _ e n refl refl refl (record { opened = shut.0; others = shut.1; unprepared = refl; narrow = a.only.narrow })
 
     write-taken-alone : (p x : ℕ) → Lent (write 0 p 0 0 1 (x ∷ [])) → (exec (write 0 p 0 0 1 (x ∷ [])) v).number ≡ 0
         → Alone z past true (through (write 0 p 0 0 1 (x ∷ [])) v)
-    unfolding exec writeOf needs
+    unfolding exec write_of needs
     write-taken-alone p x lent n =
         let c = write 0 p 0 0 1 (x ∷ []) in
         let wide : is_wide v.st.wide 0 ≡ false = rw a.only.narrow in
-        caseOn (changesNothing v.st v.image 0 p 0 0 1 (x ∷ []))
+        case_on (changes_nothing v.st v.image 0 p 0 0 1 (x ∷ []))
         (λ t. at_once a c lent (rw (n, t) a.idle) (rw (n, t) a.only))
         (λ t.
-        let line = finishedLine v.st v.image 0 p 0 0 1 (x ∷ []) in
+        let line = finished_line v.st v.image 0 p 0 0 1 (x ∷ []) in
         let op = Write 0 p 0 0 1 in
-        let e : (through c v).st ≡ completed (withPending v.st op line) op =
+        let e : (through c v).st ≡ completed (with_pending v.st op line) op =
         by-run a c lent v.st op line refl (rw (n, t, wide)) (rw (n, t, wide)) in
         after a c lent (rw e)
         (rw e (record { opened = a.only.opened; others = a.only.others; unprepared = a.only.unprepared; narrow = a.only.narrow })))
@@ -222,22 +222,22 @@ module _ {z : Sizes} {past : List ℕ} {v : World} where
     pub write_alone : (p x : ℕ) → Lent (write 0 p 0 0 1 (x ∷ [])) → Alone z past true (through (write 0 p 0 0 1 (x ∷ [])) v)
     write_alone p x lent =
         let c = write 0 p 0 0 1 (x ∷ []) in
-        caseOn (eqb (exec c v).number 0)
+        case_on (eqb (exec c v).number 0)
         (λ t. write-taken-alone p x lent (eqb-true (exec c v).number 0 t))
         (λ t. refused-alone a c lent (eqb-false (exec c v).number 0 t))
 
     -- after the freeing of a slot one is free
-    pub free-some : (exec free v).number ≡ 0 → let s = (through free v).st in freeAfter s.sizes s.table.page s.next < s.sizes.slots
-    unfolding exec freeOf
+    pub free-some : (exec free v).number ≡ 0 → let s = (through free v).st in free_after s.sizes s.table.page s.next < s.sizes.slots
+    unfolding exec free_of
     free-some n =
         let st = v.st in
-        let p = freedPage st in
-        let h = none-apply (freeCallRows st v.image) (omega arith) n in
-        let low = leb-false st.sizes.slots (freedSlot st) h.1.1.1.1.0 in
+        let p = freed_page st in
+        let h = none-apply (free_call_rows st v.image) (omega arith) n in
+        let low = leb-false st.sizes.slots (freed_slot st) h.1.1.1.1.0 in
         let own = own-slot st (ok a) low in
         let full = (standing-of v a.machine a.reached.related).sixteen in
         let page = ap (λ (s : Slot). s.page) (freed-same st p (ok a) full (consolidate-taken st p (free-rows st v.image n))) in
-        let t = (consolidateTable st p).page in
-        let free : freeAt t (freedSlot st) ≡ true = ap (freeAt t) (sym own) ∙ eq-eqb (get_or t (slotFor st p) 0) noPage page in
-        subst (λ (s : State). freeAfter s.sizes s.table.page s.next < s.sizes.slots) (sym (free-ends n))
-        (free-found st.sizes t st.next (freedSlot st) (valid st (ok a)).next_low low free)
+        let t = (consolidate_table st p).page in
+        let free : free_at t (freed_slot st) ≡ true = ap (free_at t) (sym own) ∙ eq-eqb (get_or t (slot_for st p) 0) no_page page in
+        subst (λ (s : State). free_after s.sizes s.table.page s.next < s.sizes.slots) (sym (free-ends n))
+        (free-found st.sizes t st.next (freed_slot st) (valid st (ok a)).next_low low free)

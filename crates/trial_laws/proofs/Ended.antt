@@ -9,19 +9,19 @@ use lib.Dec.{ltb, eqb}
 use lib.ListN.{length, take, drop, get_or-replicate}
 use borrow.Author.Tests.{eqb-true, eqb-false, ne_eqb, ltb-false, not-false}
 use Rattle.bounded.proofs.Rows.{none-apply}
-use Rattle.bounded.proofs.Tests.{caseOn, contradicts, row_keeps}
+use Rattle.bounded.proofs.Tests.{case_on, contradicts, row_keeps}
 use Rattle.layout.specs.declared.Sizes.{Sizes}
-use Rattle.layout.specs.Layout.{sizesOk, imageLength}
+use Rattle.layout.specs.Layout.{sizes_ok, image_length}
 use Rattle.words.specs.Words.{Bytes}
-use Rattle.state.specs.Slots.{freeAfter}
-use Rattle.fresh.specs.Fresh.{formatRows}
-use Rattle.refinement.specs.Mount.{formatCall}
-use Rattle.refinement.specs.Run.{commit, formattedWorld}
+use Rattle.state.specs.Slots.{free_after}
+use Rattle.fresh.specs.Fresh.{format_rows}
+use Rattle.refinement.specs.Mount.{format_call}
+use Rattle.refinement.specs.Run.{commit, formatted_world}
 use Rattle.refinement.specs.Reference.{blank}
 use Rattle.refinement.proofs.Reached.{reached-first}
 use Rattle.trials.specs.declared.Ask.TheVariants.{Begin, Write, Free, Checkpoint, Commit, Abort}
-use Rattle.trials.specs.Trials.{Tried, made, withRoom, put, put_all, committed, asDone, asAbandoned, played}
-use Rattle.trial_lines.specs.Lines.{Work, first, numbersOf, sizesOf, isRound, withRound, acted, act}
+use Rattle.trials.specs.Trials.{Tried, made, with_room, put, put_all, committed, as_done, as_abandoned, played}
+use Rattle.trial_lines.specs.Lines.{Work, first, numbers_of, sizes_of, is_round, with_round, acted, act}
 use Rattle.trial_laws.specs.Pages.{after}
 use Rattle.trial_laws.specs.Ends.{last_of, Stopped, by-write, by-freeing, Ends, RoundsEnd}
 use Rattle.trial_laws.proofs.Alone.{Alone, begin-taken, abort-taken, checkpoint-taken, commit-known, commit-room, free-known, free-room, write_known, write-outside, write-inside, write-taken}
@@ -31,19 +31,19 @@ use Rattle.trial_laws.proofs.Theorem.{fresh, first_taken}
 
 -- a number that is one of two or three
 one_of_two : (n k : ℕ) → not (eqb n 0 || eqb n k) ≡ false → eqb n k ≡ false → n ≡ 0
-one_of_two n k e f = caseOn (eqb n 0) (λ t. eqb-true n 0 t) (λ t. let z : not false ≡ false = rw (t, f) at e in contradicts refl z)
+one_of_two n k e f = case_on (eqb n 0) (λ t. eqb-true n 0 t) (λ t. let z : not false ≡ false = rw (t, f) at e in contradicts refl z)
 
 one_of_three : (n j k : ℕ) → not (eqb n 0 || (eqb n j || eqb n k)) ≡ false → eqb n j ≡ false → (n ≡ 0) ⊎ (n ≡ k)
 one_of_three n j k e f =
-    caseOn (eqb n 0)
+    case_on (eqb n 0)
     (λ t. inl (eqb-true n 0 t))
     (λ t.
-    caseOn (eqb n k)
+    case_on (eqb n k)
     (λ u. inr (eqb-true n k u))
     (λ u. let z : not false ≡ false = rw (t, f, u) at e in contradicts refl z))
 
 abbrev SomeFree : Tried → Type 0
-SomeFree t = let s = t.world.st in freeAfter s.sizes s.table.page s.next < s.sizes.slots
+SomeFree t = let s = t.world.st in free_after s.sizes s.table.page s.next < s.sizes.slots
 
 module _ (z : Sizes) (past : List ℕ) where
   abbrev At : Bool → Tried → Type 0
@@ -86,8 +86,8 @@ module _ (z : Sizes) (past : List ℕ) where
   unfolding made
   free-fits t a e = free-room a e
 
-  room-free : (t : Tried) → At true t → Freed (withRoom Free t)
-  unfolding withRoom
+  room-free : (t : Tried) → At true t → Freed (with_room Free t)
+  unfolding with_room
   room-free t a =
       let u = made Free t in
       let w = made Checkpoint u in
@@ -112,8 +112,8 @@ module _ (z : Sizes) (past : List ℕ) where
   unfolding made
   commit-number t a e = one_of_two (made Commit t).number 19 (commit-known a) e
 
-  room-commit : (t : Tried) → At true t → ((withRoom Commit t).number ≡ 0) × At false (withRoom Commit t)
-  unfolding withRoom
+  room-commit : (t : Tried) → At true t → ((with_room Commit t).number ≡ 0) × At false (with_room Commit t)
+  unfolding with_room
   room-commit t a =
       let u = made Commit t in
       let w = made Checkpoint u in
@@ -158,7 +158,7 @@ module _ (z : Sizes) (past : List ℕ) where
     unfolding put
     put-goes p t a =
         let u = made (Write p b) t in
-        let f = withRoom Free u in
+        let f = with_room Free u in
         let g = room-free u (made-write p t a) in
         row-splits Goes (eqb u.number 15) (cond (eqb f.number 0) (made (Write p b) f) f) u
         (λ e.
@@ -192,7 +192,7 @@ module _ (z : Sizes) (past : List ℕ) where
         let begun = made-begin t a in
         let u = put_all b ps (made Begin t) in
         let g = all-goes ps (made Begin t) begun.1 begun.0 in
-        row-splits (λ (x : Tried). ((x.number ≡ 0) × At false x) ⊎ (Stopped z.pages b x × At true x)) (eqb u.number 0) (withRoom Commit u) u
+        row-splits (λ (x : Tried). ((x.number ≡ 0) × At false x) ⊎ (Stopped z.pages b x × At true x)) (eqb u.number 0) (with_room Commit u) u
         (λ e. inl (room-commit u g.alone))
         (λ e. ⊎_elim (λ n. absurd (eqb-false u.number 0 e n)) (λ s. inr (s, g.alone)) g.last)
 
@@ -209,7 +209,7 @@ module _ (z : Sizes) (past : List ℕ) where
     stopped-some (by-freeing u e n) m = omega arith
 
     played-closed : (ps : List ℕ) (t : Tried) → At false t → At false (played ps b t)
-    unfolding played asDone asAbandoned
+    unfolding played as_done as_abandoned
     played-closed ps t a =
         let u = last_of ps b t in
         ⊎_elim
@@ -219,21 +219,21 @@ module _ (z : Sizes) (past : List ℕ) where
 
   -- ---- lines
 
-  line-closed : (w : Work) (line : List ℕ) → At false w.tried → At false (withRound (numbersOf line) w).tried
-  unfolding withRound asAbandoned
+  line-closed : (w : Work) (line : List ℕ) → At false w.tried → At false (with_round (numbers_of line) w).tried
+  unfolding with_round as_abandoned
   line-closed w line a =
-      let q = numbersOf line in
-      row_keeps (At false) (isRound q) (played (take q.count q.numbers) (w.lines % 256) w.tried) (asAbandoned w.tried)
+      let q = numbers_of line in
+      row_keeps (At false) (is_round q) (played (take q.count q.numbers) (w.lines % 256) w.tried) (as_abandoned w.tried)
       (played-closed (w.lines % 256) (omega arith) (take q.count q.numbers) w.tried a) a
 
   -- past the first line a setting stands
   act-closed : (w : Work) (line : List ℕ) → 1 ≤ w.lines → At false w.tried → (1 ≤ (act w line).lines) × At false (act w line).tried
-  unfolding acted withRound
+  unfolding acted with_round
   act-closed w line some a =
-      let q = numbersOf line in
+      let q = numbers_of line in
       let k : eqb w.lines 0 ≡ false = ne_eqb w.lines 0 (λ e. omega arith) in
       rw k
-      (row_keeps (λ (u : Work). (1 ≤ u.lines) × At false u.tried) (not w.set || ltb 1000 w.lines) w (withRound q w)
+      (row_keeps (λ (u : Work). (1 ≤ u.lines) × At false u.tried) (not w.set || ltb 1000 w.lines) w (with_round q w)
       (some, a) (omega arith, line-closed w line a))
 
   after-closed : (lines : List (List ℕ)) (w : Work) → 1 ≤ w.lines → At false w.tried → At false (after lines w).tried
@@ -242,23 +242,23 @@ module _ (z : Sizes) (past : List ℕ) where
   after-closed (line ∷ lines) w some a = let n = act-closed w line some a in after-closed lines (act w line) n.0 n.1
 
 -- a format that is taken
-format-alone : (z : Sizes) (buffer : List ℕ) → Bytes buffer → (formatCall z buffer).number ≡ 0
-    → Alone z (drop (imageLength z) buffer) false (formattedWorld z buffer)
-unfolding formatCall
+format-alone : (z : Sizes) (buffer : List ℕ) → Bytes buffer → (format_call z buffer).number ≡ 0
+    → Alone z (drop (image_length z) buffer) false (formatted_world z buffer)
+unfolding format_call
 format-alone z buffer bytes e =
-    let none = none-apply (formatRows z (length buffer)) (omega arith, (omega arith, tt)) e in
+    let none = none-apply (format_rows z (length buffer)) (omega arith, (omega arith, tt)) e in
     record {
       machine = blank;
-      reached = reached-first z (not-false (sizesOk z) none.0) buffer bytes (ltb-false (length buffer) (imageLength z) none.1.0);
+      reached = reached-first z (not-false (sizes_ok z) none.0) buffer bytes (ltb-false (length buffer) (image_length z) none.1.0);
       idle = rw e;
       only = rw e (record { opened = refl; others = λ w l h. get_or-replicate 4 w false false h; unprepared = refl; narrow = refl });
     }
 
 pub rounds-end : RoundsEnd
 rounds-end buffer setting rounds bytes taken ps b low =
-    let z = sizesOf (numbersOf setting) in
+    let z = sizes_of (numbers_of setting) in
     let t = first_taken buffer setting taken in
     let w = fresh z buffer in
-    let past = drop (imageLength z) buffer in
+    let past = drop (image_length z) buffer in
     let a = after-closed z past rounds w (omega arith) (format-alone z buffer bytes t.number) in
     subst (λ (u : Work). Ends z.pages ps b (after rounds u).tried) (sym t.same) (round-ends z past b low ps (after rounds w).tried a)

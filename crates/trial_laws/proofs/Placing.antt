@@ -6,14 +6,14 @@ use mathlib.Core.Path.{◌≡◌, refl, sym, subst}
 use native.Mathlib.Omega.{arith}
 use lib.Dec.{ltb}
 use borrow.Author.Tests.{ltb-true, ltb-false}
-use Rattle.bounded.proofs.Tests.{caseOn}
+use Rattle.bounded.proofs.Tests.{case_on}
 use Rattle.layout.specs.declared.Sizes.{Sizes}
 use Rattle.layout.specs.Layout.{Legal}
 use Rattle.state.specs.State.{State}
 use Rattle.state.specs.declared.Op.TheVariants.{Write, Commit, Consolidate, Checkpoint}
 use Rattle.operations.specs.Operations.{needs}
-use Rattle.refinement.specs.Stores.{storeAt}
-use Rattle.placing.specs.Placing.{InJournal, recordsOf, recordedIn, copiesOf, Placed as Placing}
+use Rattle.refinement.specs.Stores.{store_at}
+use Rattle.placing.specs.Placing.{InJournal, records_of, recorded_in, copies_of, Placed as Placing}
 use Rattle.placing.proofs.Placed.{each_placed}
 use Rattle.trial_laws.specs.Places.{OfFrames, OfJournal, OfTables, StoresPlaced}
 
@@ -28,36 +28,36 @@ module _ (st : State) (legal : Legal st.sizes) where
   placed : Placing st []
   placed = each_placed st [] legal
 
-  commit-placed : (w i : ℕ) → OfJournal z (storeAt st (Commit w) i)
+  commit-placed : (w i : ℕ) → OfJournal z (store_at st (Commit w) i)
   commit-placed w i =
-      caseOn (ltb i (4 * recordsOf st w))
-      (λ t. of-journal z (storeAt st (Commit w) i) (placed.records w i (ltb-true i (4 * recordsOf st w) t)))
-      (λ t. inl (placed.head w i (ltb-false i (4 * recordsOf st w) t)))
+      case_on (ltb i (4 * records_of st w))
+      (λ t. of-journal z (store_at st (Commit w) i) (placed.records w i (ltb-true i (4 * records_of st w) t)))
+      (λ t. inl (placed.head w i (ltb-false i (4 * records_of st w) t)))
 
-  checkpoint-placed : (i : ℕ) → OfTables z (storeAt st Checkpoint i)
+  checkpoint-placed : (i : ℕ) → OfTables z (store_at st Checkpoint i)
   checkpoint-placed i =
-      caseOn (ltb i (3 * recordedIn st))
-      (λ t. let h = placed.slots i (ltb-true i (3 * recordedIn st) t) in inr (omega (arith, h.from), h.below))
-      (λ t. inl (placed.tail i (ltb-false i (3 * recordedIn st) t)))
+      case_on (ltb i (3 * recorded_in st))
+      (λ t. let h = placed.slots i (ltb-true i (3 * recorded_in st) t) in inr (omega (arith, h.from), h.below))
+      (λ t. inl (placed.tail i (ltb-false i (3 * recorded_in st) t)))
 
   -- a consolidation copies before its last six stores
-  needed : (p : ℕ) → needs st (Consolidate p) ≡ 8 * copiesOf st p + 6
+  needed : (p : ℕ) → needs st (Consolidate p) ≡ 8 * copies_of st p + 6
   unfolding needs
   needed p = refl
 
-  copies-placed : (p i : ℕ) → i + 6 < needs st (Consolidate p) → OfFrames z (storeAt st (Consolidate p) i)
+  copies-placed : (p i : ℕ) → i + 6 < needs st (Consolidate p) → OfFrames z (store_at st (Consolidate p) i)
   copies-placed p i h = omega (arith, placed.copies p i (omega (arith, needed p)))
 
-  page-placed : (p i : ℕ) → i + 6 ≡ needs st (Consolidate p) → p < z.pages → OfTables z (storeAt st (Consolidate p) i)
+  page-placed : (p i : ℕ) → i + 6 ≡ needs st (Consolidate p) → p < z.pages → OfTables z (store_at st (Consolidate p) i)
   page-placed p i h low =
       let e = placed.page p i (omega (arith, needed p)) in
       inr (omega (arith, e), omega (arith, e))
 
-  freeing-placed : (p i : ℕ) → needs st (Consolidate p) < i + 6 → OfJournal z (storeAt st (Consolidate p) i)
+  freeing-placed : (p i : ℕ) → needs st (Consolidate p) < i + 6 → OfJournal z (store_at st (Consolidate p) i)
   freeing-placed p i h =
-      let c = 8 * copiesOf st p in
-      caseOn (ltb i (c + 5))
-      (λ t. of-journal z (storeAt st (Consolidate p) i) (placed.freeing p i (omega (arith, needed p)) (ltb-true i (c + 5) t)))
+      let c = 8 * copies_of st p in
+      case_on (ltb i (c + 5))
+      (λ t. of-journal z (store_at st (Consolidate p) i) (placed.freeing p i (omega (arith, needed p)) (ltb-true i (c + 5) t)))
       (λ t. inl (placed.freed p i (ltb-false i (c + 5) t)))
 
 pub stores-placed : StoresPlaced

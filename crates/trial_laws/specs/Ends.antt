@@ -3,7 +3,7 @@ use Rattle.std.specs.Prelude.{ℕ, ◌<◌, ◌≤◌, true, List, ◌⊎◌, �
 use Rattle.words.specs.Words.{Bytes}
 use Rattle.trials.specs.declared.Ask.TheVariants.{Begin, Write, Free, Abort}
 use Rattle.trials.specs.Trials.{Tried, made, put_all, committed}
-use Rattle.trial_lines.specs.Lines.{first, numbersOf, sizesOf, act}
+use Rattle.trial_lines.specs.Lines.{first, numbers_of, sizes_of, act}
 use Rattle.trial_laws.specs.Pages.{after}
 
 -- what a round's calls came to, an abort apart (trials, `played`): 0 is the number of its commit
@@ -24,4 +24,4 @@ pub record Ends (pages : ℕ) (ps : List ℕ) (b : ℕ) (t : Tried) : Type 0 whe
 abbrev pub RoundsEnd : Type 0
 RoundsEnd =
     (buffer setting : List ℕ) (rounds : List (List ℕ)) → Bytes buffer → (act (first buffer) setting).set ≡ true
-    → (ps : List ℕ) (b : ℕ) → b < 256 → Ends (sizesOf (numbersOf setting)).pages ps b (after rounds (act (first buffer) setting)).tried
+    → (ps : List ℕ) (b : ℕ) → b < 256 → Ends (sizes_of (numbers_of setting)).pages ps b (after rounds (act (first buffer) setting)).tried

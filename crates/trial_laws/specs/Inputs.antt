@@ -3,7 +3,7 @@ use Rattle.std.specs.Prelude.{ℕ, ◌<◌, true, cond, List, [], ◌∷◌, ◌
 use Rattle.words.specs.Words.{Bytes}
 use Rattle.cutting.specs.Feeding.{fed, ended}
 use Rattle.trial_lines.specs.Lines.{Work, first, act}
-use Rattle.trial_laws.specs.Pages.{lineShown, Has}
+use Rattle.trial_laws.specs.Pages.{line_shown, Has}
 
 -- what an input comes to, with this buffer at first (try_sizes, `Responds`)
 abbrev pub worked : List ℕ → List ℕ → Work
@@ -17,8 +17,8 @@ lines_from begun (b ∷ bytes) = cond (eqb b 10) (begun ∷ lines_from [] bytes)
 abbrev pub setting_of : List ℕ → List ℕ
 setting_of input = get_or (lines_from [] input) 0 []
 
-abbrev pub roundsOf : List ℕ → List (List ℕ)
-roundsOf input = take 1000 (drop 1 (lines_from [] input))
+abbrev pub rounds_of : List ℕ → List (List ℕ)
+rounds_of input = take 1000 (drop 1 (lines_from [] input))
 
 -- an input whose setting is taken, in a buffer of bytes, and of whose rounds none is abandoned
 pub record GivenInput (buffer input : List ℕ) : Type 0 where
@@ -29,6 +29,6 @@ pub record GivenInput (buffer input : List ℕ) : Type 0 where
 -- two such inputs with equal rounds, whatever their settings: equal bytes in the pages that both have
 abbrev pub EqualInputs : Type 0
 EqualInputs =
-    (buffer buffer' input input' : List ℕ) → GivenInput buffer input → GivenInput buffer' input' → roundsOf input ≡ roundsOf input'
+    (buffer buffer' input input' : List ℕ) → GivenInput buffer input → GivenInput buffer' input' → rounds_of input ≡ rounds_of input'
     → (p l : ℕ) → Has (setting_of input) p → Has (setting_of input') p → l < 64
-    → lineShown (worked buffer input).tried.world p l ≡ lineShown (worked buffer' input').tried.world p l
+    → line_shown (worked buffer input).tried.world p l ≡ line_shown (worked buffer' input').tried.world p l

@@ -5,11 +5,11 @@ use Rattle.bounded.specs.Tab.{tab}
 use Rattle.words.specs.Words.{Bytes}
 use Rattle.refinement.specs.Stores.{World}
 use Rattle.refinement.specs.Run.{recall, exec}
-use Rattle.trial_lines.specs.Lines.{Work, first, numbersOf, sizesOf, act}
+use Rattle.trial_lines.specs.Lines.{Work, first, numbers_of, sizes_of, act}
 
 -- the 64 bytes of line l of page p, as a recall shows them: it mounts
-unfoldable pub lineShown : World → ℕ → ℕ → List ℕ
-lineShown v p l = (exec (recall p l (replicate 64 0)) v).target
+unfoldable pub line_shown : World → ℕ → ℕ → List ℕ
+line_shown v p l = (exec (recall p l (replicate 64 0)) v).target
 
 -- lines taken one after the other
 unfoldable pub after : List (List ℕ) → Work → Work
@@ -17,21 +17,21 @@ after [] w = w
 after (line ∷ lines) w = after lines (act w line)
 
 -- the pages that a line lists
-abbrev pub pagesOf : List ℕ → List ℕ
-pagesOf line = take (numbersOf line).count (numbersOf line).numbers
+abbrev pub pages_of : List ℕ → List ℕ
+pages_of line = take (numbers_of line).count (numbers_of line).numbers
 
-unfoldable pub isListed : List ℕ → ℕ → Bool
-isListed [] p = false
-isListed (q ∷ qs) p = eqb p q || isListed qs p
+unfoldable pub is_listed : List ℕ → ℕ → Bool
+is_listed [] p = false
+is_listed (q ∷ qs) p = eqb p q || is_listed qs p
 
 -- bytes by page, line and offset, in which byte 0 of line 0 of each page listed becomes b
 abbrev pub marked : List ℕ → ℕ → (ℕ → ℕ → ℕ → ℕ) → ℕ → ℕ → ℕ → ℕ
-marked ps b f p l i = cond (isListed ps p && eqb l 0 && eqb i 0) b (f p l i)
+marked ps b f p l i = cond (is_listed ps p && eqb l 0 && eqb i 0) b (f p l i)
 
 -- rounds numbered from n on
-unfoldable pub leftBy : ℕ → List (List ℕ) → (ℕ → ℕ → ℕ → ℕ) → ℕ → ℕ → ℕ → ℕ
-leftBy n [] f = f
-leftBy n (line ∷ lines) f = leftBy (n + 1) lines (marked (pagesOf line) (n % 256) f)
+unfoldable pub left_by : ℕ → List (List ℕ) → (ℕ → ℕ → ℕ → ℕ) → ℕ → ℕ → ℕ → ℕ
+left_by n [] f = f
+left_by n (line ∷ lines) f = left_by (n + 1) lines (marked (pages_of line) (n % 256) f)
 
 -- pages are at first zero
 abbrev pub zeros : ℕ → ℕ → ℕ → ℕ
@@ -49,17 +49,17 @@ abbrev pub end_of : List ℕ → List ℕ → List (List ℕ) → World
 end_of buffer setting rounds = (after rounds (act (first buffer) setting)).tried.world
 
 abbrev pub Has : List ℕ → ℕ → Type 0
-Has setting p = p < (sizesOf (numbersOf setting)).pages
+Has setting p = p < (sizes_of (numbers_of setting)).pages
 
 -- what is shown is what the rounds write
 abbrev pub ShownByRounds : Type 0
 ShownByRounds =
     (buffer setting : List ℕ) (rounds : List (List ℕ)) → Given buffer setting rounds
-    → (p l : ℕ) → Has setting p → l < 64 → lineShown (end_of buffer setting rounds) p l ≡ tab 64 (leftBy 1 rounds zeros p l)
+    → (p l : ℕ) → Has setting p → l < 64 → line_shown (end_of buffer setting rounds) p l ≡ tab 64 (left_by 1 rounds zeros p l)
 
 -- whatever the settings
 abbrev pub EqualBytes : Type 0
 EqualBytes =
     (buffer buffer' setting setting' : List ℕ) (rounds : List (List ℕ)) → Given buffer setting rounds → Given buffer' setting' rounds
     → (p l : ℕ) → Has setting p → Has setting' p → l < 64
-    → lineShown (end_of buffer setting rounds) p l ≡ lineShown (end_of buffer' setting' rounds) p l
+    → line_shown (end_of buffer setting rounds) p l ≡ line_shown (end_of buffer' setting' rounds) p l

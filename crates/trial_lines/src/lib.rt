@@ -3,7 +3,7 @@ pub mod output;
 
 ghost use Rattle.std.specs.Prelude.{◌≡◌, List, ℕ, ◌≤◌, replicate};
 ghost use Rattle.text.specs.Fields.{parsed};
-ghost use Rattle.trial_lines.specs.Lines.{workOf, first, withSetting, withRound, acted};
+ghost use Rattle.trial_lines.specs.Lines.{work_of, first, with_setting, with_round, acted};
 
 use layout::Sizes;
 use state_words::Words;
@@ -19,7 +19,7 @@ pub struct Session {
 
 // No line is read yet, and the words are 0.
 pub fn start() -> Session
-    ensures { (img : List ℕ) → workOf result (replicate 1280 0) img ≡ first img }
+    ensures { (img : List ℕ) → work_of result (replicate 1280 0) img ≡ first img }
 {
     let trial = trials::nothing_tried();
     Session {
@@ -31,8 +31,8 @@ pub fn start() -> Session
 
 // The first line.
 fn take_setting(s: Session, image: &mut [u8], words: &mut Words, text: &[u8]) -> Session
-    ensures { workOf result words.new image.new
-        ≡ withSetting (parsed 9 text.now) (workOf s words.old image.old) }
+    ensures { work_of result words.new image.new
+        ≡ with_setting (parsed 9 text.now) (work_of s words.old image.old) }
 {
     let q = text::parse::parse(text, 9);
     let mut next = s;
@@ -57,8 +57,8 @@ fn take_setting(s: Session, image: &mut [u8], words: &mut Words, text: &[u8]) ->
 // Another line.
 fn take_round(s: Session, image: &mut [u8], words: &mut Words, text: &[u8]) -> Session
     requires { s.lines ≤ 1000 }
-    ensures { workOf result words.new image.new
-        ≡ withRound (parsed 9 text.now) (workOf s words.old image.old) }
+    ensures { work_of result words.new image.new
+        ≡ with_round (parsed 9 text.now) (work_of s words.old image.old) }
 {
     let q = text::parse::parse(text, 9);
     let mut next = s;
@@ -77,8 +77,8 @@ fn take_round(s: Session, image: &mut [u8], words: &mut Words, text: &[u8]) -> S
 
 // One line more, which stands after a letter and a comma.
 pub fn take_line(s: Session, image: &mut [u8], words: &mut Words, text: &[u8]) -> Session
-    ensures { workOf result words.new image.new
-        ≡ acted (parsed 9 text.now) (workOf s words.old image.old) }
+    ensures { work_of result words.new image.new
+        ≡ acted (parsed 9 text.now) (work_of s words.old image.old) }
 {
     if s.lines == 0 {
         return take_setting(s, image, words, text);

@@ -1,7 +1,7 @@
 // What try_sizes prints of a setting: the rounds done and abandoned, and the stores by what they were for.
 ghost use Rattle.std.specs.Prelude.{◌+◌, ◌≤◌, length};
 ghost use Rattle.number_text.specs.Text.{Put};
-ghost use Rattle.trial_lines.specs.Lines.{spentText, PutCounts, PutResponse};
+ghost use Rattle.trial_lines.specs.Lines.{spent_text, PutCounts, PutResponse};
 
 use crate::Session;
 use number_text::put_after;
@@ -10,7 +10,7 @@ use trials::{Spent, Trial};
 // The stores by what they were for.
 fn put_spent(out: &mut [u8], at: usize, s: Spent) -> usize
     requires { at + 84 ≤ length out.old }
-    ensures { Put out.old at (spentText s) out.new result }
+    ensures { Put out.old at (spent_text s) out.new result }
 {
     let next = put_after(out, at, b',', s.written);
     let next = put_after(out, next, b',', s.journal);

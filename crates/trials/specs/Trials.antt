@@ -1,13 +1,13 @@
 -- Rounds tried on a store of one setting (request L11): each round is one transaction by writer 0, made of document 01's calls, each run to its end.
 use Rattle.std.specs.Prelude.{◌≡◌, ℕ, ◌+◌, ◌-◌, ◌%◌, ◌^◌, cond, List, [], ◌∷◌, ◌==◌, nat_lt}
 use Rattle.layout.specs.declared.Sizes.{Sizes}
-use Rattle.fresh.specs.Fresh.{formatBytes}
+use Rattle.fresh.specs.Fresh.{format_bytes}
 use Rattle.refinement.specs.Stores.{World}
-use Rattle.refinement.specs.Calls.{worldOf}
-use Rattle.refinement.specs.Mount.{formatCall}
+use Rattle.refinement.specs.Calls.{world_of}
+use Rattle.refinement.specs.Mount.{format_call}
 use Rattle.refinement.specs.Run.{Call, checkpoint, free, begin, abort, commit, run, write, Result, result, exec}
 use Rattle.answers.specs.declared.Answer.{Answer}
-use Rattle.answers.specs.Answers.{answeredAt}
+use Rattle.answers.specs.Answers.{answered_at}
 use Rattle.state_words.specs.Decoded.{decoded}
 use Rattle.call_mount.specs.Replacing.{replacing}
 use Rattle.trials.specs.declared.Ask.{Ask}
@@ -25,12 +25,12 @@ call_of Commit = commit 0
 call_of Abort = abort 0
 
 -- a call with all the stores that it needs made
-abbrev pub toEnd : Result → Result
-toEnd d = record { number = d.number; stores = d.stores; world = (exec (run d.stores) d.world).world; target = d.target }
+abbrev pub to_end : Result → Result
+to_end d = record { number = d.number; stores = d.stores; world = (exec (run d.stores) d.world).world; target = d.target }
 
 -- that an answer, with the words and the image after it, is what such a call comes to
 abbrev pub Finishes : Call → List ℕ → List ℕ → Answer → List ℕ → List ℕ → Type 0
-Finishes c words img a words' img' = result (answeredAt a (decoded words')) img' ≡ toEnd (exec c (worldOf (decoded words) img))
+Finishes c words img a words' img' = result (answered_at a (decoded words')) img' ≡ to_end (exec c (world_of (decoded words) img))
 
 -- ---- stores by what they are for
 
@@ -40,13 +40,13 @@ nothing = record { written = 0; journal = 0; copies = 0; tables = 0 }
 -- n stores of a call that is run to its end (a refused one has none). A write's are data. A commit's are its records and head: journal. Of a
 -- consolidation's 8c + 6 the first 8c copy lines, one is the page table's, and the freeing record's four with head are the journal's. A
 -- checkpoint's are the slot table's and tail
-unfoldable pub storesFor : Ask → ℕ → Spent
-storesFor Begin n = nothing
-storesFor (Write p b) n = record { written = n; journal = 0; copies = 0; tables = 0 }
-storesFor Free n = cond (nat_lt n 6) nothing (record { written = 0; journal = 5; copies = n - 6; tables = 1 })
-storesFor Checkpoint n = record { written = 0; journal = 0; copies = 0; tables = n }
-storesFor Commit n = record { written = 0; journal = n; copies = 0; tables = 0 }
-storesFor Abort n = nothing
+unfoldable pub stores_for : Ask → ℕ → Spent
+stores_for Begin n = nothing
+stores_for (Write p b) n = record { written = n; journal = 0; copies = 0; tables = 0 }
+stores_for Free n = cond (nat_lt n 6) nothing (record { written = 0; journal = 5; copies = n - 6; tables = 1 })
+stores_for Checkpoint n = record { written = 0; journal = 0; copies = 0; tables = n }
+stores_for Commit n = record { written = 0; journal = n; copies = 0; tables = 0 }
+stores_for Abort n = nothing
 
 -- a count is a machine word
 abbrev pub sum : ℕ → ℕ → ℕ
@@ -73,9 +73,9 @@ pub record Tried : Type 0 where
   pub abandoned : ℕ
 
 -- the code keeps the state's words and the image apart
-abbrev pub trialOf : Trial → List ℕ → List ℕ → Tried
-trialOf t words img =
-    record { world = worldOf (decoded words) img; number = t.number; spent = t.spent; done = t.done; abandoned = t.abandoned }
+abbrev pub trial_of : Trial → List ℕ → List ℕ → Tried
+trial_of t words img =
+    record { world = world_of (decoded words) img; number = t.number; spent = t.spent; done = t.done; abandoned = t.abandoned }
 
 -- before the first call
 abbrev pub untried : World → Tried
@@ -84,9 +84,9 @@ untried v = record { world = v; number = 0; spent = nothing; done = 0; abandoned
 -- a format; its stores are not counted. Where it is refused the world stays
 unfoldable pub formatted : Sizes → World → Tried
 formatted z v =
-    let o = formatCall z v.image in
+    let o = format_call z v.image in
     record {
-      world = worldOf (replacing v.st o).state (formatBytes z v.image);
+      world = world_of (replacing v.st o).state (format_bytes z v.image);
       number = o.number;
       spent = nothing;
       done = 0;
@@ -96,18 +96,18 @@ formatted z v =
 -- one call, and all the stores that it needs
 unfoldable pub made : Ask → Tried → Tried
 made a t =
-    let d = toEnd (exec (call_of a) t.world) in
+    let d = to_end (exec (call_of a) t.world) in
     record {
       world = d.world;
       number = d.number;
-      spent = plus t.spent (storesFor a d.stores);
+      spent = plus t.spent (stores_for a d.stores);
       done = t.done;
       abandoned = t.abandoned;
     }
 
 -- on 19 a checkpoint, and the call again
-unfoldable pub withRoom : Ask → Tried → Tried
-withRoom a t = let u = made a t in cond (u.number == 19) (made a (made Checkpoint u)) u
+unfoldable pub with_room : Ask → Tried → Tried
+with_room a t = let u = made a t in cond (u.number == 19) (made a (made Checkpoint u)) u
 
 -- ---- a round
 
@@ -115,7 +115,7 @@ withRoom a t = let u = made a t in cond (u.number == 19) (made a (made Checkpoin
 unfoldable pub put : ℕ → ℕ → Tried → Tried
 put b p t =
     let u = made (Write p b) t in
-    let f = withRoom Free u in
+    let f = with_room Free u in
     cond (u.number == 15) (cond (f.number == 0) (made (Write p b) f) f) u
 
 -- the pages one after the other, as long as each is written
@@ -125,22 +125,22 @@ put_all b (p ∷ ps) t = let u = put b p t in cond (u.number == 0) (put_all b ps
 
 -- all of them written, a commit
 unfoldable pub committed : Tried → Tried
-committed t = cond (t.number == 0) (withRoom Commit t) t
+committed t = cond (t.number == 0) (with_room Commit t) t
 
 -- rounds are counted up to 1,000: there are no more
 abbrev pub counted : ℕ → ℕ
 counted n = cond (nat_lt n 1000) (n + 1) n
 
-unfoldable pub asDone : Tried → Tried
-asDone t =
+unfoldable pub as_done : Tried → Tried
+as_done t =
     record { world = t.world; number = t.number; spent = t.spent; done = counted t.done; abandoned = t.abandoned }
 
-unfoldable pub asAbandoned : Tried → Tried
-asAbandoned t =
+unfoldable pub as_abandoned : Tried → Tried
+as_abandoned t =
     record { world = t.world; number = t.number; spent = t.spent; done = t.done; abandoned = counted t.abandoned }
 
 -- the round is done, or what came last was refused (a write 11, the freeing of a slot 22) and it is abandoned by abort
 unfoldable pub played : List ℕ → ℕ → Tried → Tried
 played ps b t =
     let u = committed (put_all b ps (made Begin t)) in
-    cond (u.number == 0) (asDone u) (asAbandoned (made Abort u))
+    cond (u.number == 0) (as_done u) (as_abandoned (made Abort u))

@@ -1,12 +1,12 @@
 // Stores by what they are for, and rounds.
 ghost use Rattle.std.specs.Prelude.{◌≡◌};
-ghost use Rattle.trials.specs.Trials.{storesFor, plus, counted};
+ghost use Rattle.trials.specs.Trials.{stores_for, plus, counted};
 
 use crate::{Ask, Spent};
 
 // What the n stores of a call are for.
 pub fn stores_for(a: Ask, n: u64) -> Spent
-    ensures { result ≡ storesFor a n }
+    ensures { result ≡ stores_for a n }
 {
     let mut s = Spent {
         written: 0,

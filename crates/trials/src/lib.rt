@@ -4,9 +4,9 @@ mod counts;
 pub mod rounds;
 
 ghost use Rattle.std.specs.Prelude.{◌≡◌, ℕ, List};
-ghost use Rattle.refinement.specs.Calls.{worldOf};
+ghost use Rattle.refinement.specs.Calls.{world_of};
 ghost use Rattle.state_words.specs.Decoded.{decoded};
-ghost use Rattle.trials.specs.Trials.{trialOf, untried, formatted, asAbandoned};
+ghost use Rattle.trials.specs.Trials.{trial_of, untried, formatted, as_abandoned};
 
 use layout::Sizes;
 use state_words::Words;
@@ -42,7 +42,7 @@ pub struct Trial {
 
 // No call is made yet.
 pub fn nothing_tried() -> Trial
-    ensures { (words img : List ℕ) → trialOf result words img ≡ untried (worldOf (decoded words) img) }
+    ensures { (words img : List ℕ) → trial_of result words img ≡ untried (world_of (decoded words) img) }
 {
     let spent = Spent {
         written: 0,
@@ -60,7 +60,7 @@ pub fn nothing_tried() -> Trial
 
 // A store of these sizes, formatted; where format refuses them, its number, and the words stay.
 pub fn start(image: &mut [u8], words: &mut Words, z: Sizes) -> Trial
-    ensures { trialOf result words.new image.new ≡ formatted z (worldOf (decoded words.old) image.old) }
+    ensures { trial_of result words.new image.new ≡ formatted z (world_of (decoded words.old) image.old) }
 {
     let answer = call_mount::format_whole(image, words, z);
     let mut t = nothing_tried();
@@ -70,7 +70,7 @@ pub fn start(image: &mut [u8], words: &mut Words, z: Sizes) -> Trial
 
 // A round that is abandoned unbegun.
 pub fn abandon(t: Trial) -> Trial
-    ensures { (words img : List ℕ) → trialOf result words img ≡ asAbandoned (trialOf t words img) }
+    ensures { (words img : List ℕ) → trial_of result words img ≡ as_abandoned (trial_of t words img) }
 {
     let mut next = t;
     next.abandoned = counts::one_more(t.abandoned);

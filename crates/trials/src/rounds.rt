@@ -1,13 +1,13 @@
 // A round: its pages are written, and then it is committed, or abandoned by abort.
 ghost use Rattle.std.specs.Prelude.{◌≡◌};
-ghost use Rattle.trials.specs.Trials.{trialOf, made, withRoom, put, put_all, committed, played};
+ghost use Rattle.trials.specs.Trials.{trial_of, made, with_room, put, put_all, committed, played};
 
 use crate::{Ask, Trial, calls, counts};
 use state_words::Words;
 
 // One call, and all the stores that it needs.
 fn make(t: Trial, image: &mut [u8], words: &mut Words, a: Ask) -> Trial
-    ensures { trialOf result words.new image.new ≡ made a (trialOf t words.old image.old) }
+    ensures { trial_of result words.new image.new ≡ made a (trial_of t words.old image.old) }
 {
     let answer = calls::call(image, words, a);
     let number = answers::number_of(answer);
@@ -23,7 +23,7 @@ fn make(t: Trial, image: &mut [u8], words: &mut Words, a: Ask) -> Trial
 
 // A call; where the journal is full, a checkpoint and the call again.
 fn make_with_room(t: Trial, image: &mut [u8], words: &mut Words, a: Ask) -> Trial
-    ensures { trialOf result words.new image.new ≡ withRoom a (trialOf t words.old image.old) }
+    ensures { trial_of result words.new image.new ≡ with_room a (trial_of t words.old image.old) }
 {
     let first = make(t, image, words, a);
     if first.number != 19 {
@@ -35,7 +35,7 @@ fn make_with_room(t: Trial, image: &mut [u8], words: &mut Words, a: Ask) -> Tria
 
 // A page is written; where no slot is free, one is made free and the page written again.
 fn put_page(t: Trial, image: &mut [u8], words: &mut Words, page: usize, byte: u8) -> Trial
-    ensures { trialOf result words.new image.new ≡ put byte page (trialOf t words.old image.old) }
+    ensures { trial_of result words.new image.new ≡ put byte page (trial_of t words.old image.old) }
 {
     let first = make(t, image, words, Ask::Write { page, byte });
     if first.number != 15 {
@@ -50,8 +50,8 @@ fn put_page(t: Trial, image: &mut [u8], words: &mut Words, page: usize, byte: u8
 
 // The pages, as long as each is written.
 fn put_pages(t: Trial, image: &mut [u8], words: &mut Words, pages: &[u64], byte: u8) -> Trial
-    ensures { trialOf result words.new image.new
-        ≡ put_all byte pages.now (trialOf t words.old image.old) }
+    ensures { trial_of result words.new image.new
+        ≡ put_all byte pages.now (trial_of t words.old image.old) }
 {
     let mut t = t;
     let mut i = 0;
@@ -67,7 +67,7 @@ fn put_pages(t: Trial, image: &mut [u8], words: &mut Words, pages: &[u64], byte:
 
 // A commit, where all pages are written.
 fn commit_written(t: Trial, image: &mut [u8], words: &mut Words) -> Trial
-    ensures { trialOf result words.new image.new ≡ committed (trialOf t words.old image.old) }
+    ensures { trial_of result words.new image.new ≡ committed (trial_of t words.old image.old) }
 {
     if t.number != 0 {
         return t;
@@ -77,8 +77,8 @@ fn commit_written(t: Trial, image: &mut [u8], words: &mut Words) -> Trial
 
 // A round that writes this byte to these pages.
 pub fn play(t: Trial, image: &mut [u8], words: &mut Words, pages: &[u64], byte: u8) -> Trial
-    ensures { trialOf result words.new image.new
-        ≡ played pages.now byte (trialOf t words.old image.old) }
+    ensures { trial_of result words.new image.new
+        ≡ played pages.now byte (trial_of t words.old image.old) }
 {
     let begun = make(t, image, words, Ask::Begin);
     let written = put_pages(begun, image, words, pages, byte);

@@ -9,7 +9,7 @@ use lib.ListN.{length, take, get_or, set, replicate, length-append, length-set}
 use lib.Seq.{take_all, take-take, take-append-le, take-suc, take-suc-set}
 use borrow.Author.Tests.{eq-eqb, ne_eqb}
 use Rattle.cutting.specs.Buffers.{Holds}
-use Rattle.cutting.specs.Feeding.{Fed, fedByte, fed, ended}
+use Rattle.cutting.specs.Feeding.{Fed, fed_byte, fed, ended}
 use Rattle.cutting.proofs.Buffers.{holds-length}
 use Rattle.cutting.proofs.Feeding.{fed-append}
 use Rattle.text.specs.declared.Line.{Line}
@@ -17,9 +17,9 @@ use Rattle.text.specs.Fields.{parsed}
 use Rattle.text.proofs.LongLine.{cut_line}
 use Rattle.number_text.proofs.Puts.{put_as}
 use Rattle.trial_lines.specs.declared.Session.{Session}
-use Rattle.trial_lines.specs.Lines.{Work, workOf, first, prefixed, numbersOf, acted, act, response, PutResponse}
+use Rattle.trial_lines.specs.Lines.{Work, work_of, first, prefixed, numbers_of, acted, act, response, PutResponse}
 use Rattle.try_sizes.specs.declared.Reading.{Reading}
-use Rattle.try_sizes.specs.Program.{nothingRead, Shows, Takes, TakesSome, Closes, Responds}
+use Rattle.try_sizes.specs.Program.{nothing_read, Shows, Takes, TakesSome, Closes, Responds}
 
 -- ---- the line buffer
 
@@ -64,21 +64,21 @@ module _ {line : List ℕ} {kept : ℕ} {begun : List ℕ} (h : Holds line kept 
       }
 
   -- a long line is read by its start
-  line-told : parsed 9 (take kept line) ≡ numbersOf begun
+  line-told : parsed 9 (take kept line) ≡ numbers_of begun
   line-told = ap (parsed 9) h.bytes ∙ rw size (cut_line 9 1024 (prefixed begun) (omega arith))
 
 module _ {s : Reading} {ws img line : List ℕ} (size : length line ≡ 1024) where
   -- a line that ends is taken by what the buffer has of it
-  acts : (r : Session) (ws' img' : List ℕ) → workOf r ws' img' ≡ acted (parsed 9 (take s.kept line)) (workOf s.session ws img)
-      → (f : Fed Work) → Shows s ws img line f → workOf r ws' img' ≡ act f.done f.begun
-  acts r ws' img' e f shows = e ∙ ap (λ (q : Line). acted q (workOf s.session ws img)) (line-told shows.next size) ∙ rw shows.done
+  acts : (r : Session) (ws' img' : List ℕ) → work_of r ws' img' ≡ acted (parsed 9 (take s.kept line)) (work_of s.session ws img)
+      → (f : Fed Work) → Shows s ws img line f → work_of r ws' img' ≡ act f.done f.begun
+  acts r ws' img' e f shows = e ∙ ap (λ (q : Line). acted q (work_of s.session ws img)) (line-told shows.next size) ∙ rw shows.done
 
 -- ---- a byte
 
 module _ {s : Reading} {ws img line : List ℕ} (size : length line ≡ 1024) (b : ℕ) where
-  pub takes-newline : b ≡ 10 → (r : Session) (ws' img' : List ℕ) → workOf r ws' img' ≡ acted (parsed 9 (take s.kept line)) (workOf s.session ws img)
+  pub takes-newline : b ≡ 10 → (r : Session) (ws' img' : List ℕ) → work_of r ws' img' ≡ acted (parsed 9 (take s.kept line)) (work_of s.session ws img)
       → Takes s ws img line (b ∷ []) (record { session = r; kept = 2; more = s.more }) ws' img' line
-  unfolding fed fedByte
+  unfolding fed fed_byte
   takes-newline n r ws' img' e =
       record {
         shows = λ f shows. rw n (record { done = acts size r ws' img' e f shows; next = holds-again shows.next size });
@@ -86,7 +86,7 @@ module _ {s : Reading} {ws img line : List ℕ} (size : length line ≡ 1024) (b
       }
 
   pub takes-full : (b ≡ 10 → ⊥) → 1024 ≤ s.kept → s.kept ≤ 1024 → Takes s ws img line (b ∷ []) s ws img line
-  unfolding fed fedByte
+  unfolding fed fed_byte
   takes-full n full fits =
       record {
         shows = λ f shows. rw (ne_eqb b 10 n) (record { done = shows.done; next = holds-full b shows.next (omega arith) });
@@ -94,7 +94,7 @@ module _ {s : Reading} {ws img line : List ℕ} (size : length line ≡ 1024) (b
       }
 
   pub takes-byte : (b ≡ 10 → ⊥) → s.kept < 1024 → Takes s ws img line (b ∷ []) (record { session = s.session; kept = s.kept + 1; more = s.more }) ws img (set line s.kept b)
-  unfolding fed fedByte
+  unfolding fed fed_byte
   takes-byte n some =
       record {
         shows = λ f shows. rw (ne_eqb b 10 n) (record { done = shows.done; next = holds-byte b shows.next (omega arith) });
@@ -142,7 +142,7 @@ module _ {s : Reading} {ws img line : List ℕ} (size : length line ≡ 1024) wh
             rw (eq-eqb (length f.begun) 0 none) shows.done;
       }
 
-  pub closes-some : 2 < s.kept → (r : Session) (ws' img' : List ℕ) → workOf r ws' img' ≡ acted (parsed 9 (take s.kept line)) (workOf s.session ws img)
+  pub closes-some : 2 < s.kept → (r : Session) (ws' img' : List ℕ) → work_of r ws' img' ≡ acted (parsed 9 (take s.kept line)) (work_of s.session ws img)
       → Closes s ws img line r ws' img'
   unfolding ended
   closes-some h r ws' img' e =
@@ -151,14 +151,14 @@ module _ {s : Reading} {ws img line : List ℕ} (size : length line ≡ 1024) wh
             rw (ne_eqb (length f.begun) 0 (λ none. omega (arith, holds-length shows.next))) (acts size r ws' img' e f shows);
       }
 
-pub shows_first : (s : Session) (img line : List ℕ) (more : Bool) → length line ≡ 1024 → workOf s (replicate 1280 0) img ≡ first img
-    → Shows (record { session = s; kept = 2; more = more }) (replicate 1280 0) img (set (set line 0 82) 1 44) (nothingRead img)
+pub shows_first : (s : Session) (img line : List ℕ) (more : Bool) → length line ≡ 1024 → work_of s (replicate 1280 0) img ≡ first img
+    → Shows (record { session = s; kept = 2; more = more }) (replicate 1280 0) img (set (set line 0 82) 1 44) (nothing_read img)
 shows_first s img line more size e = record { done = e; next = holds-first line size }
 
-pub responds : {s q : Reading} {r : Session} {ws₁ img line₁ ws₂ img₂ line₂ ws₃ img₃ out out' : List ℕ} {n : ℕ} → Shows s ws₁ img line₁ (nothingRead img)
+pub responds : {s q : Reading} {r : Session} {ws₁ img line₁ ws₂ img₂ line₂ ws₃ img₃ out out' : List ℕ} {n : ℕ} → Shows s ws₁ img line₁ (nothing_read img)
     → TakesSome s ws₁ img line₁ q ws₂ img₂ line₂ → Closes q ws₂ img₂ line₂ r ws₃ img₃ → PutResponse r out out' n → Responds img out out' n
 responds {img = img} {ws₃ = ws₃} {img₃ = img₃} shows reads ends put =
     record {
       input = reads.bytes;
-      text = put_as (ap response (ends.done (fed act (nothingRead img) reads.bytes) (reads.goes.shows (nothingRead img) shows))) (put.text ws₃ img₃);
+      text = put_as (ap response (ends.done (fed act (nothing_read img) reads.bytes) (reads.goes.shows (nothing_read img) shows))) (put.text ws₃ img₃);
     }

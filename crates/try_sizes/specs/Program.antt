@@ -4,21 +4,21 @@ use Rattle.cutting.specs.Buffers.{Holds}
 use Rattle.cutting.specs.Feeding.{Fed, fed, ended}
 use Rattle.number_text.specs.Text.{Put}
 use Rattle.trial_lines.specs.declared.Session.{Session}
-use Rattle.trial_lines.specs.Lines.{Work, workOf, first, prefixed, act, response}
+use Rattle.trial_lines.specs.Lines.{Work, work_of, first, prefixed, act, response}
 use Rattle.try_sizes.specs.declared.Reading.{Reading}
 
 -- before the first byte
-abbrev pub nothingRead : List ℕ → Fed Work
-nothingRead image = record { done = first image; begun = [] }
+abbrev pub nothing_read : List ℕ → Fed Work
+nothing_read image = record { done = first image; begun = [] }
 
 -- whether a line more would be read: none is after a refused setting, nor past the last round
-abbrev pub readsOn : ℕ → Bool → Bool
-readsOn lines set = eqb lines 0 || (set && leb lines 1000)
+abbrev pub reads_on : ℕ → Bool → Bool
+reads_on lines set = eqb lines 0 || (set && leb lines 1000)
 
 -- that a program and its buffers are what the bytes so far came to: the line buffer has a letter, a comma and what has come of the next
 -- line, as much as fits
 pub record Shows (s : Reading) (words image line : List ℕ) (f : Fed Work) : Type 0 where
-  pub done : workOf s.session words image ≡ f.done
+  pub done : work_of s.session words image ≡ f.done
   pub next : Holds line s.kept (prefixed f.begun)
 
 -- that these bytes bring the one to the other; no more is kept than the buffer holds
@@ -31,7 +31,7 @@ pub record Takes (s : Reading) (words image line bytes : List ℕ) (r : Reading)
 pub record Reads (s : Reading) (words image line input : List ℕ) (r : Reading) (words' image' line' : List ℕ) : Type 0 where
   pub count : ℕ
   pub goes : Takes s words image line (take count input) r words' image' line'
-  pub more : r.more ≡ ltb 0 count && readsOn r.session.lines r.session.set
+  pub more : r.more ≡ ltb 0 count && reads_on r.session.lines r.session.set
 
 -- some bytes do
 pub record TakesSome (s : Reading) (words image line : List ℕ) (r : Reading) (words' image' line' : List ℕ) : Type 0 where
@@ -40,15 +40,15 @@ pub record TakesSome (s : Reading) (words image line : List ℕ) (r : Reading) (
 
 -- the input's end does: a last line that no newline ends is taken too
 pub record Closes (s : Reading) (words image line : List ℕ) (r : Session) (words' image' : List ℕ) : Type 0 where
-  pub done : (f : Fed Work) → Shows s words image line f → workOf r words' image' ≡ ended act f
+  pub done : (f : Fed Work) → Shows s words image line f → work_of r words' image' ≡ ended act f
 
 -- the bytes that the reads gave, whichever they were, have the response to them put at the start of a buffer, with this image at first
 pub record Responds (image out out' : List ℕ) (n : ℕ) : Type 0 where
   pub input : List ℕ
-  pub text : Put out 0 (response (ended act (fed act (nothingRead image) input))) out' n
+  pub text : Put out 0 (response (ended act (fed act (nothing_read image) input))) out' n
 
 -- what is not read would change nothing
 abbrev pub NotRead : Type 0
 NotRead =
-    (s : Session) (words image : List ℕ) → readsOn s.lines s.set ≡ false
-    → (begun bytes : List ℕ) → ended act (fed act (record { done = workOf s words image; begun = begun }) bytes) ≡ workOf s words image
+    (s : Session) (words image : List ℕ) → reads_on s.lines s.set ≡ false
+    → (begun bytes : List ℕ) → ended act (fed act (record { done = work_of s words image; begun = begun }) bytes) ≡ work_of s words image

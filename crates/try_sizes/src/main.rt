@@ -1,7 +1,7 @@
 // Program try_sizes: a setting `P,S,J` and rounds as lines of standard input; the rounds done and abandoned and the stores by what they were
 // for as one line of standard output (request L11). What a line does is trial_lines'. Here the input is cut into lines.
 ghost use Rattle.std.specs.Prelude.{◌≡◌, List, [], ◌∷◌, ℕ, ◌≤◌, length, replicate};
-ghost use Rattle.try_sizes.specs.Program.{nothingRead, readsOn, Shows, Takes, Reads, TakesSome, Closes, Responds};
+ghost use Rattle.try_sizes.specs.Program.{nothing_read, reads_on, Shows, Takes, Reads, TakesSome, Closes, Responds};
 
 use libc::{STDIN_FILENO, STDOUT_FILENO};
 use state_words::{WORD_COUNT, Words};
@@ -21,7 +21,7 @@ struct Reading {
 fn begin(line: &mut [u8]) -> Reading
     requires { length line.old ≡ 1024 }
     ensures fits { result.kept ≤ 1024 }
-    ensures shows { (image : List ℕ) → Shows result (replicate 1280 0) image line.new (nothingRead image) }
+    ensures shows { (image : List ℕ) → Shows result (replicate 1280 0) image line.new (nothing_read image) }
 {
     line[0] = b'R';
     line[1] = b',';
@@ -79,7 +79,7 @@ fn take_piece(
 
 // Whether a line more would be read: none is after a refused setting, nor past the last round.
 fn reads_on(lines: usize, set: bool) -> bool
-    ensures { result ≡ readsOn lines set }
+    ensures { result ≡ reads_on lines set }
 {
     (lines == 0) | set & (lines <= 1000)
 }

@@ -1,31 +1,31 @@
 -- How many of the first n stores go to a part, and how many line copies of a frame are whole with them.
 use Rattle.std.proofs.Common.{◌≡◌, ℕ, zero, suc, ◌+◌, ◌-◌, ◌*◌, ◌/◌, ◌%◌, ◌^◌, ◌<◌, ◌≤◌, min, Bool, true, false, cond, not, ◌&&◌, eqb, ltb, leb, List, get_or, set, sym, refl, ap, ◌∙◌, ap₂, arith, ltb-false, ltb-true, le-ltb, lt-ltb, eq-eqb, ne_eqb, eqb-true, le-leb, leb-false, leb-true}
 use borrow.Author.Tests.{eqb-false}
-use Rattle.bounded.specs.Below.{one, countBelow}
+use Rattle.bounded.specs.Below.{one, count_below}
 use Rattle.bounded.specs.Tab.{filled}
 use Rattle.bounded.proofs.Below.{count-ext}
-use Rattle.bounded.proofs.Tab.{filled-turn, getD-filled-past}
-use Rattle.bounded.proofs.Tests.{caseOn}
+use Rattle.bounded.proofs.Tab.{filled-turn, get_or-filled-past}
+use Rattle.bounded.proofs.Tests.{case_on}
 use Rattle.wear.specs.declared.shares.Ends.{Ends}
-use Rattle.wear.specs.Shares.{part_at, copy_at, wearAt, Rising}
+use Rattle.wear.specs.Shares.{part_at, copy_at, wear_at, Rising}
 
 -- ---- a test that is the same from a on and below b
 
-count_same : (f : ℕ → Bool) (c : Bool) (a m : ℕ) → ((i : ℕ) → a ≤ i → i < a + m → f i ≡ c) → countBelow (a + m) f ≡ countBelow a f + one c * m
-unfolding countBelow
-count_same f c a zero h = let e : a + 0 ≡ a = omega arith in ap (λ (k : ℕ). countBelow k f) e ∙ omega arith
+count_same : (f : ℕ → Bool) (c : Bool) (a m : ℕ) → ((i : ℕ) → a ≤ i → i < a + m → f i ≡ c) → count_below (a + m) f ≡ count_below a f + one c * m
+unfolding count_below
+count_same f c a zero h = let e : a + 0 ≡ a = omega arith in ap (λ (k : ℕ). count_below k f) e ∙ omega arith
 count_same f c a (suc m) h =
     let e : a + suc m ≡ suc (a + m) = omega arith in
     let ih = count_same f c a m (λ i p q. h i p (omega arith)) in
     let last : f (a + m) ≡ c = h (a + m) (omega arith) (omega arith) in
-    ap (λ (k : ℕ). countBelow k f) e ∙ rw last (omega (arith, ih))
+    ap (λ (k : ℕ). count_below k f) e ∙ rw last (omega (arith, ih))
 
 -- up to the smaller of n and each of two places
 count-part : (f : ℕ → Bool) (c : Bool) (n a b : ℕ) → a ≤ b → ((i : ℕ) → a ≤ i → i < b → f i ≡ c)
-    → countBelow (min n b) f ≡ countBelow (min n a) f + one c * (min n b - min n a)
+    → count_below (min n b) f ≡ count_below (min n a) f + one c * (min n b - min n a)
 count-part f c n a b h g =
     let e : min n a + (min n b - min n a) ≡ min n b = omega arith in
-    ap (λ (k : ℕ). countBelow k f) (sym e) ∙ count_same f c (min n a) (min n b - min n a) (λ i p q. g i (omega arith) (omega arith))
+    ap (λ (k : ℕ). count_below k f) (sym e) ∙ count_same f c (min n a) (min n b - min n a) (λ i p q. g i (omega arith) (omega arith))
 
 -- ---- sums over the eight runs of stores, of part 1, 2, 3, 4, 0, 2, 3 and 1
 
@@ -138,31 +138,31 @@ module _ (e : Ends) (up : Rising e) where
     abbrev share : ℕ → ℕ → ℕ → ℕ
     share part a b = one (eqb part j) * (min n b - a)
 
-    none : countBelow (min n 0) to ≡ 0
-    unfolding countBelow
-    none = let z : min n 0 ≡ 0 = omega arith in ap (λ (k : ℕ). countBelow k to) z
+    none : count_below (min n 0) to ≡ 0
+    unfolding count_below
+    none = let z : min n 0 ≡ 0 = omega arith in ap (λ (k : ℕ). count_below k to) z
 
     segment : (part a b : ℕ) → a ≤ b → ((i : ℕ) → a ≤ i → i < b → part_at e i ≡ part)
-        → countBelow (min n b) to ≡ countBelow (min n a) to + share part a b
+        → count_below (min n b) to ≡ count_below (min n a) to + share part a b
     segment part a b h g =
         let z : min n b - min n a ≡ min n b - a = omega arith in
         count-part to (eqb part j) n a b h (λ i p q. ap (λ (x : ℕ). eqb x j) (g i p q)) ∙ rw z
 
     -- past the last end all are the header's
-    rest : countBelow n to ≡ countBelow (min n e.records) to + share 1 e.records n
+    rest : count_below n to ≡ count_below (min n e.records) to + share 1 e.records n
     rest =
-        caseOn (leb n e.records)
+        case_on (leb n e.records)
         (λ t.
         let l = leb-true n e.records t in
         let z : min n e.records ≡ n = omega arith in
         let y : min n n - e.records ≡ 0 = omega arith in
-        rw y (ap (λ (k : ℕ). countBelow k to) (sym z) ∙ omega arith))
+        rw y (ap (λ (k : ℕ). count_below k to) (sym z) ∙ omega arith))
         (λ t.
         let l = leb-false n e.records t in
         let z : n ≡ min n n = omega arith in
-        ap (λ (k : ℕ). countBelow k to) z ∙ segment 1 e.records n (omega arith) (λ i p q. at_last i p))
+        ap (λ (k : ℕ). count_below k to) z ∙ segment 1 e.records n (omega arith) (λ i p q. at_last i p))
 
-    part_count : countBelow n to
+    part_count : count_below n to
         ≡ weighed j (min n e.header - 0) (min n e.tables - e.header) (min n e.journal - e.tables) (min n e.padding - e.journal)
         (min n e.frames - e.padding) (min n e.words - e.frames) (min n e.records - e.words) (min n n - e.records)
     part_count =
@@ -177,37 +177,37 @@ module _ (e : Ends) (up : Rising e) where
 
   -- the same part by part, as the code has them
   module _ (j n : ℕ) where
-    pub to-frames : (r : ℕ) → j ≡ 0 → r ≡ min n e.frames - e.padding → r ≡ countBelow n (λ i. eqb (part_at e i) j)
+    pub to-frames : (r : ℕ) → j ≡ 0 → r ≡ min n e.frames - e.padding → r ≡ count_below n (λ i. eqb (part_at e i) j)
     to-frames r q h = rw q (h ∙ sym (part_count 0 n ∙ weighed-0 _ _ _ _ _ _ _ _))
 
-    pub to-header : (r s : ℕ) → j ≡ 1 → r ≡ min n e.header - 0 → s ≡ min n n - e.records → r + s ≡ countBelow n (λ i. eqb (part_at e i) j)
+    pub to-header : (r s : ℕ) → j ≡ 1 → r ≡ min n e.header - 0 → s ≡ min n n - e.records → r + s ≡ count_below n (λ i. eqb (part_at e i) j)
     to-header r s q h k = rw q (ap₂ ◌+◌ h k ∙ sym (part_count 1 n ∙ weighed-1 _ _ _ _ _ _ _ _))
 
     pub to-tables : (r s : ℕ) → j ≡ 2 → r ≡ min n e.tables - e.header → s ≡ min n e.words - e.frames
-        → r + s ≡ countBelow n (λ i. eqb (part_at e i) j)
+        → r + s ≡ count_below n (λ i. eqb (part_at e i) j)
     to-tables r s q h k = rw q (ap₂ ◌+◌ h k ∙ sym (part_count 2 n ∙ weighed-2 _ _ _ _ _ _ _ _))
 
     pub to-journal : (r s : ℕ) → j ≡ 3 → r ≡ min n e.journal - e.tables → s ≡ min n e.records - e.words
-        → r + s ≡ countBelow n (λ i. eqb (part_at e i) j)
+        → r + s ≡ count_below n (λ i. eqb (part_at e i) j)
     to-journal r s q h k = rw q (ap₂ ◌+◌ h k ∙ sym (part_count 3 n ∙ weighed-3 _ _ _ _ _ _ _ _))
 
-    pub to-padding : (r : ℕ) → j ≡ 4 → r ≡ min n e.padding - e.journal → r ≡ countBelow n (λ i. eqb (part_at e i) j)
+    pub to-padding : (r : ℕ) → j ≡ 4 → r ≡ min n e.padding - e.journal → r ≡ count_below n (λ i. eqb (part_at e i) j)
     to-padding r q h = rw q (h ∙ sym (part_count 4 n ∙ weighed-4 _ _ _ _ _ _ _ _))
 
     -- no other number is a part's
-    pub to_none : (j ≡ 0 → ⊥) → (j ≡ 1 → ⊥) → (j ≡ 2 → ⊥) → (j ≡ 3 → ⊥) → (j ≡ 4 → ⊥) → 0 ≡ countBelow n (λ i. eqb (part_at e i) j)
+    pub to_none : (j ≡ 0 → ⊥) → (j ≡ 1 → ⊥) → (j ≡ 2 → ⊥) → (j ≡ 3 → ⊥) → (j ≡ 4 → ⊥) → 0 ≡ count_below n (λ i. eqb (part_at e i) j)
     to_none h₀ h₁ h₂ h₃ h₄ = sym (part_count j n ∙ weighed-none j h₀ h₁ h₂ h₃ h₄ _ _ _ _ _ _ _ _)
 
 -- ---- line copies
 
 -- a frame below the first that is stored to has none
-pub copies-none : (e : Ends) (f n : ℕ) → f < e.frame → countBelow n (λ i. copy_at e f i) ≡ 0
-unfolding one countBelow copy_at
+pub copies-none : (e : Ends) (f n : ℕ) → f < e.frame → count_below n (λ i. copy_at e f i) ≡ 0
+unfolding one count_below copy_at
 copies-none e f zero h = refl
 copies-none e f (suc n) h =
     let ih = copies-none e f n h in
     let no : eqb (e.frame + (n - e.padding) / 512) f ≡ false = ne_eqb (e.frame + (n - e.padding) / 512) f (λ q. omega (arith, q)) in
-    caseOn (leb e.padding n && ltb n e.frames)
+    case_on (leb e.padding n && ltb n e.frames)
     (λ t. rw (t, no) (omega (arith, ih)))
     (λ t. rw t (omega (arith, ih)))
 
@@ -219,21 +219,21 @@ none_more : (x y : ℕ) → y ≡ x / 8 → (x % 8 ≡ 7 → ⊥) → y + 0 ≡ 
 none_more x y e h = omega arith
 
 -- every eighth from a on and below b
-eighths : (n a b : ℕ) → countBelow n (λ i. (leb a i && ltb i b) && eqb ((i - a) % 8) 7) ≡ (min n b - a) / 8
-unfolding one countBelow
+eighths : (n a b : ℕ) → count_below n (λ i. (leb a i && ltb i b) && eqb ((i - a) % 8) 7) ≡ (min n b - a) / 8
+unfolding one count_below
 eighths zero a b = omega arith
 eighths (suc n) a b =
     let ih = eighths n a b in
-    caseOn (leb a n)
+    case_on (leb a n)
     (λ t.
-    caseOn (ltb n b)
+    case_on (ltb n b)
     (λ u.
     let p = leb-true a n t in
     let q = ltb-true n b u in
     let m : min (suc n) b - a ≡ suc (n - a) = omega arith in
     let k : min n b - a ≡ n - a = omega arith in
     let had = ih ∙ ap (λ (x : ℕ). x / 8) k in
-    caseOn (eqb ((n - a) % 8) 7)
+    case_on (eqb ((n - a) % 8) 7)
     (λ w. rw (t, u, w, m) (one_more (n - a) _ had (eqb-true ((n - a) % 8) 7 w)))
     (λ w. rw (t, u, w, m) (none_more (n - a) _ had (eqb-false ((n - a) % 8) 7 w))))
     (λ u. let m : min (suc n) b ≡ min n b = omega (arith, ltb-false n b u) in rw (t, u, m) (omega (arith, ih))))
@@ -248,9 +248,9 @@ module _ (e : Ends) (f d a b : ℕ) (past : f ≡ e.frame + d) (first : a ≡ e.
   other-frame : (i : ℕ) → ((e.padding ≤ i) → (i < e.frames) → (e.frame + (i - e.padding) / 512 ≡ f) → ⊥) → copy_at e f i ≡ false
   unfolding copy_at
   other-frame i not_in =
-      caseOn (leb e.padding i)
+      case_on (leb e.padding i)
       (λ t.
-      caseOn (ltb i e.frames)
+      case_on (ltb i e.frames)
       (λ u.
       rw (t, u, ne_eqb (e.frame + (i - e.padding) / 512) f (not_in (leb-true e.padding i t) (ltb-true i e.frames u))))
       (λ u. rw (t, u)))
@@ -259,10 +259,10 @@ module _ (e : Ends) (f d a b : ℕ) (past : f ≡ e.frame + d) (first : a ≡ e.
   copy-range : (i : ℕ) → copy_at e f i ≡ ((leb a i && ltb i b) && eqb ((i - a) % 8) 7)
   unfolding copy_at
   copy-range i =
-      caseOn (leb a i)
+      case_on (leb a i)
       (λ t.
       let p = leb-true a i t in
-      caseOn (ltb i b)
+      case_on (ltb i b)
       (λ u.
       let q = ltb-true i b u in
       let low : leb e.padding i ≡ true = le-leb e.padding i (omega arith) in
@@ -273,18 +273,18 @@ module _ (e : Ends) (f d a b : ℕ) (past : f ≡ e.frame + d) (first : a ≡ e.
       (λ u. let q = ltb-false i b u in rw (t, u) (other-frame i (λ x y z. omega arith))))
       (λ t. let p = leb-false a i t in rw t (other-frame i (λ x y z. omega arith)))
 
-  pub copies-count : (n : ℕ) → countBelow n (λ i. copy_at e f i) ≡ (min n b - a) / 8
+  pub copies-count : (n : ℕ) → count_below n (λ i. copy_at e f i) ≡ (min n b - a) / 8
   copies-count n = count-ext (λ i. copy_at e f i) (λ i. (leb a i && ltb i b) && eqb ((i - a) % 8) 7) n (λ i l. copy-range i) ∙ eighths n a b
 
 -- as the code has them
 module _ (e : Ends) (f n to end : ℕ) (h : e.frame ≤ f) (t : to ≡ min e.frames (e.padding + 512 * (f - e.frame) + 512)) (u : end ≡ min n to) where
-  pub copies-some : (end - (e.padding + 512 * (f - e.frame))) / 8 ≡ countBelow n (λ i. copy_at e f i)
+  pub copies-some : (end - (e.padding + 512 * (f - e.frame))) / 8 ≡ count_below n (λ i. copy_at e f i)
   copies-some =
       let d : f ≡ e.frame + (f - e.frame) = omega arith in
       let from = e.padding + 512 * (f - e.frame) in
       ap (λ (x : ℕ). (x - from) / 8) u ∙ sym (copies-count e f (f - e.frame) from to d refl t n)
 
-  pub copies-past : end ≤ e.padding + 512 * (f - e.frame) → 0 ≡ countBelow n (λ i. copy_at e f i)
+  pub copies-past : end ≤ e.padding + 512 * (f - e.frame) → 0 ≡ count_below n (λ i. copy_at e f i)
   copies-past l =
       let none : end - (e.padding + 512 * (f - e.frame)) ≡ 0 = omega arith in
       sym (ap (λ (x : ℕ). x / 8) none) ∙ copies-some
@@ -292,28 +292,28 @@ module _ (e : Ends) (f n to end : ℕ) (h : e.frame ≤ f) (t : to ≡ min e.fra
 -- ---- number k of the 22
 
 -- a test that is the same at each number
-count-const : (c : Bool) (n : ℕ) → cond c n 0 ≡ countBelow n (λ i. c)
-unfolding one countBelow
+count-const : (c : Bool) (n : ℕ) → cond c n 0 ≡ count_below n (λ i. c)
+unfolding one count_below
 count-const true zero = refl
 count-const true (suc n) = let ih = count-const true n in omega (arith, ih)
 count-const false zero = refl
 count-const false (suc n) = let ih = count-const false n in omega (arith, ih)
 
 module _ (e : Ends) (w : Bool) (n k : ℕ) where
-  pub wear-copies : (r : ℕ) → k < 15 → r ≡ countBelow n (λ i. copy_at e k i) → r ≡ countBelow n (λ i. wearAt e w i k)
-  unfolding wearAt
+  pub wear-copies : (r : ℕ) → k < 15 → r ≡ count_below n (λ i. copy_at e k i) → r ≡ count_below n (λ i. wear_at e w i k)
+  unfolding wear_at
   wear-copies r h q = rw (lt-ltb k 15 h) q
 
-  pub wear-parts : (r : ℕ) → 15 ≤ k → k < 20 → r ≡ countBelow n (λ i. eqb (part_at e i) (k - 15)) → r ≡ countBelow n (λ i. wearAt e w i k)
-  unfolding wearAt
+  pub wear-parts : (r : ℕ) → 15 ≤ k → k < 20 → r ≡ count_below n (λ i. eqb (part_at e i) (k - 15)) → r ≡ count_below n (λ i. wear_at e w i k)
+  unfolding wear_at
   wear-parts r l h q = rw (le-ltb k 15 l, lt-ltb k 20 h) q
 
-  pub wear-others : (r : ℕ) → k ≡ 20 → r ≡ cond (not w) n 0 → r ≡ countBelow n (λ i. wearAt e w i k)
-  unfolding wearAt
+  pub wear-others : (r : ℕ) → k ≡ 20 → r ≡ cond (not w) n 0 → r ≡ count_below n (λ i. wear_at e w i k)
+  unfolding wear_at
   wear-others r l q = rw l (q ∙ count-const (not w) n)
 
-  pub wear-writes : (r : ℕ) → 20 ≤ k → (k ≡ 20 → ⊥) → r ≡ cond w n 0 → r ≡ countBelow n (λ i. wearAt e w i k)
-  unfolding wearAt
+  pub wear-writes : (r : ℕ) → 20 ≤ k → (k ≡ 20 → ⊥) → r ≡ cond w n 0 → r ≡ count_below n (λ i. wear_at e w i k)
+  unfolding wear_at
   wear-writes r l h q = rw (le-ltb k 15 (omega arith), le-ltb k 20 l, ne_eqb k 20 h) (q ∙ count-const w n)
 
 -- ---- the loop over the 22
@@ -324,5 +324,5 @@ module _ (more : ℕ → ℕ) (l : List ℕ) where
 
   pub counted-turn : (m : List ℕ) (k r v : ℕ) → m ≡ filled k grown l → r ≡ more k → v ≡ (get_or m k 0 + r) % 2 ^ 64 → set m k v ≡ filled (k + 1) grown l
   counted-turn m k r v e h q =
-      let same : get_or m k 0 ≡ get_or l k 0 = ap (λ (x : List ℕ). get_or x k 0) e ∙ getD-filled-past k grown l k 0 (omega arith) in
+      let same : get_or m k 0 ≡ get_or l k 0 = ap (λ (x : List ℕ). get_or x k 0) e ∙ get_or-filled-past k grown l k 0 (omega arith) in
       filled-turn grown l m k v e (q ∙ ap₂ (λ (x y : ℕ). (x + y) % 2 ^ 64) same h)

@@ -1,7 +1,7 @@
 -- A line of powerhit's script performed, and what it adds to the 22 numbers counted. The code's counts are machine words.
 use Rattle.std.specs.Prelude.{◌≡◌, ℕ, ◌+◌, ◌%◌, ◌^◌, ◌<◌, true, List, slice_index}
 use Rattle.state.specs.State.{State}
-use Rattle.state.specs.Held.{noWriter}
+use Rattle.state.specs.Held.{no_writer}
 use Rattle.executing.specs.Called.{Machine, Turn}
 
 -- that counts are these sums
@@ -20,7 +20,7 @@ pub record Performs (t : Turn) (more : ℕ → ℕ) (counts : List ℕ) (m : Mac
 
 -- no writer is wide: powerhit has no line that begins a wide transaction
 abbrev pub Narrow : State → Type 0
-Narrow st = st.wide.writer ≡ noWriter
+Narrow st = st.wide.writer ≡ no_writer
 
 -- of a machine between two lines; before a taken format no line looks at the state
 abbrev pub NarrowMachine : Machine → Type 0

@@ -1,8 +1,8 @@
 // What the stores of an operation count for, by their numbers: no store is looked at by itself.
 ghost use Rattle.std.specs.Prelude.{◌≡◌, ◌-◌, ◌<◌, min, length, if◌then◌else◌, nat_eq};
-ghost use Rattle.bounded.specs.Below.{countBelow};
+ghost use Rattle.bounded.specs.Below.{count_below};
 ghost use Rattle.layout.specs.Layout.{Legal};
-ghost use Rattle.wear.specs.Shares.{part_at, copy_at, wearAt, Rising, formatEnds, ends_at, askedEnds, frame_of, counted};
+ghost use Rattle.wear.specs.Shares.{part_at, copy_at, wear_at, Rising, format_ends, ends_at, asked_ends, frame_of, counted};
 
 use forms::Ask;
 use layout::Sizes;
@@ -32,7 +32,7 @@ fn between(n: usize, a: usize, b: usize) -> usize
 // The stores among the first n that go to a part.
 fn stores_to(e: Ends, part: usize, n: usize) -> usize
     requires { Rising e }
-    ensures { result ≡ countBelow n (λ i. nat_eq (part_at e i) part) }
+    ensures { result ≡ count_below n (λ i. nat_eq (part_at e i) part) }
 {
     match part {
         0 => between(n, e.padding, e.frames),
@@ -47,7 +47,7 @@ fn stores_to(e: Ends, part: usize, n: usize) -> usize
 // The line copies of a frame that are whole with the first n.
 fn copies_to(e: Ends, frame: usize, n: usize) -> usize
     requires { Rising e × (frame < 15) }
-    ensures { result ≡ countBelow n (λ i. copy_at e frame i) }
+    ensures { result ≡ count_below n (λ i. copy_at e frame i) }
 {
     if frame < e.frame {
         return 0;
@@ -68,7 +68,7 @@ fn stores_if(test: bool, n: usize) -> usize
 // How many of the first n count for number k.
 fn worn(e: Ends, written: bool, n: usize, k: usize) -> usize
     requires { Rising e }
-    ensures { result ≡ countBelow n (λ i. wearAt e written i k) }
+    ensures { result ≡ count_below n (λ i. wear_at e written i k) }
 {
     if k < 15 {
         return copies_to(e, k, n);
@@ -112,7 +112,7 @@ pub fn frame_of(z: Sizes, at: usize) -> usize
 // A format's.
 pub fn format_ends(z: Sizes) -> Ends
     requires { Legal z }
-    ensures { result ≡ formatEnds z }
+    ensures { result ≡ format_ends z }
 {
     let end = layout::entry_word(z, z.entries);
     Ends {
@@ -145,7 +145,7 @@ fn ends_at(frame: usize, frames: usize, words: usize, records: usize) -> Ends
 
 // A call's that needs n stores, the first of them to this frame where it goes to one.
 pub fn asked_ends(a: Ask, n: usize, frame: usize) -> Ends
-    ensures { result ≡ askedEnds a n frame }
+    ensures { result ≡ asked_ends a n frame }
 {
     let last = left(n, 1);
     match a {

@@ -1,15 +1,15 @@
 // A line performed as powerhit performs it, and its stores counted.
 ghost use Rattle.std.specs.Prelude.{◌≡◌, true, false, length};
-ghost use Rattle.refinement.specs.Calls.{worldOf};
+ghost use Rattle.refinement.specs.Calls.{world_of};
 ghost use Rattle.refinement.specs.Mount.{format_of};
 ghost use Rattle.refinement.specs.Run.{exec};
 ghost use Rattle.state_words.specs.Decoded.{decoded};
 ghost use Rattle.call_mount.specs.Replacing.{replacing};
-ghost use Rattle.calling.specs.WriteLine.{hasData};
+ghost use Rattle.calling.specs.WriteLine.{has_data};
 ghost use Rattle.forms.specs.declared.Ask.TheVariants.{Write};
-ghost use Rattle.executing.specs.Called.{call_of, machineAt, worldAt, finished};
+ghost use Rattle.executing.specs.Called.{call_of, machine_at, world_at, finished};
 ghost use Rattle.script.specs.Turns.{formats, turn_of};
-ghost use Rattle.wear.specs.Wear.{isWrite, storesIn, wornBy, lineWear};
+ghost use Rattle.wear.specs.Wear.{is_write, stores_in, worn_by, line_wear};
 ghost use Rattle.wear.specs.Performs.{Performs, Narrow, NarrowMachine};
 
 use crate::shares;
@@ -23,7 +23,7 @@ use text::Line;
 
 // The stores that a printed line tells.
 fn stores_in(o: Output) -> usize
-    ensures { result ≡ storesIn o }
+    ensures { result ≡ stores_in o }
 {
     match o {
         Output::Answered {
@@ -38,7 +38,7 @@ fn stores_in(o: Output) -> usize
 
 // Whether a call is a W line's.
 fn is_write(a: Ask) -> bool
-    ensures { result ≡ isWrite a }
+    ensures { result ≡ is_write a }
 {
     match a {
         Ask::Begin => false,
@@ -54,9 +54,9 @@ fn is_write(a: Ask) -> bool
 // F: a format asked for, its stores made and counted.
 fn format_line(image: &mut [u8], words: &mut Words, m: Mode, counts: &mut [u64], z: Sizes) -> Mode
     requires { length counts.old ≡ 22 }
-    ensures { let t = formats (machineAt m words.old) image.old z in
-        let v = worldOf (replacing (decoded words.old) (format_of z image.old)).state image.old in
-        Performs t (wornBy v false (storesIn t.output)) counts.old (machineAt result words.new) image.new counts.new }
+    ensures { let t = formats (machine_at m words.old) image.old z in
+        let v = world_of (replacing (decoded words.old) (format_of z image.old)).state image.old in
+        Performs t (worn_by v false (stores_in t.output)) counts.old (machine_at result words.new) image.new counts.new }
 {
     let answer = call_mount::format(image, words, z, Until::Asked);
     let number = answers::number_of(answer);
@@ -79,12 +79,12 @@ fn ask_line(
     a: Ask,
     line: Line,
 ) -> Mode
-    requires numbers_value { a ≡ Write → hasData line.count line.numbers ≡ true }
+    requires numbers_value { a ≡ Write → has_data line.count line.numbers ≡ true }
     requires counts_len { length counts.old ≡ 22 }
     requires narrow { Narrow (decoded words.old) }
-    ensures { let d = exec (call_of a line.count line.numbers) (worldAt words.old image.old) in
+    ensures { let d = exec (call_of a line.count line.numbers) (world_at words.old image.old) in
         let t = finished line.letter m.cut d in
-        Performs t (wornBy d.world (isWrite a) (storesIn t.output)) counts.old (machineAt result words.new) image.new
+        Performs t (worn_by d.world (is_write a) (stores_in t.output)) counts.old (machine_at result words.new) image.new
         counts.new }
 {
     let cut = m.cut;
@@ -106,10 +106,10 @@ fn ask_line(
 // Performs a line, and adds what its stores count for. A read makes none and leaves the machine as it is.
 pub fn turn(image: &mut [u8], words: &mut Words, m: Mode, counts: &mut [u64], line: Line) -> Mode
     requires counts_len { length counts.old ≡ 22 }
-    requires narrow_machine { NarrowMachine (machineAt m words.old) }
-    ensures { Performs (turn_of (machineAt m words.old) image.old line)
-        (lineWear (machineAt m words.old) image.old line)
-        counts.old (machineAt result words.new) image.new counts.new }
+    requires narrow_machine { NarrowMachine (machine_at m words.old) }
+    ensures { Performs (turn_of (machine_at m words.old) image.old line)
+        (line_wear (machine_at m words.old) image.old line)
+        counts.old (machine_at result words.new) image.new counts.new }
 {
     let letter = line.letter;
     let count = line.count;

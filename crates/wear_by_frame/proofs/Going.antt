@@ -9,20 +9,20 @@ use lib.Dec.{leb}
 use lib.ListN.{length, take, get_or, set, replicate, length-append, length-set, get_or-replicate}
 use lib.Seq.{take_all, take-append-le, take-suc, take-suc-set, length-take-le}
 use borrow.Author.Tests.{leb-true, leb-false, eq-eqb, ne_eqb}
-use Rattle.bounded.proofs.Tests.{caseOn, contradicts}
+use Rattle.bounded.proofs.Tests.{case_on, contradicts}
 use Rattle.cutting.specs.Buffers.{Holds}
-use Rattle.cutting.specs.Feeding.{Fed, fedByte, fed, ended}
+use Rattle.cutting.specs.Feeding.{Fed, fed_byte, fed, ended}
 use Rattle.cutting.proofs.Buffers.{holds-length}
 use Rattle.cutting.proofs.Feeding.{fed-append}
 use Rattle.text.proofs.LongLine.{cut_line}
 use Rattle.executing.specs.declared.Mode.{Mode}
-use Rattle.executing.specs.Called.{Machine, machineAt}
+use Rattle.executing.specs.Called.{Machine, machine_at}
 use Rattle.script.specs.Performed.{started}
 use Rattle.wear.specs.Performs.{NarrowMachine}
 use Rattle.wear_lines.specs.Lines.{Work, opening, first, act}
 use Rattle.wear_lines.specs.Stands.{Stands, Acts, PutResponse}
 use Rattle.wear_by_frame.specs.declared.Reading.{Reading}
-use Rattle.wear_by_frame.specs.Program.{nothingRead, Shows, Sound, Takes, TakesSome, Closes, Responds}
+use Rattle.wear_by_frame.specs.Program.{nothing_read, Shows, Sound, Takes, TakesSome, Closes, Responds}
 
 -- ---- the line buffer
 
@@ -55,7 +55,7 @@ holds-none line = record { within = omega arith; bytes = sym (take_all (length l
 cut-act : (w : Work) (line : List ℕ) → act w (take 1024 line) ≡ act w line
 unfolding act
 cut-act w line =
-    caseOn (leb (length line) 1024)
+    case_on (leb (length line) 1024)
     (λ t. ap (act w) (take_all 1024 line (leb-true (length line) 1024 t)))
     (λ t.
     let l : 1024 < length line = leb-false (length line) 1024 t in
@@ -75,9 +75,9 @@ module _ {m : Machine} {img counts line : List ℕ} (size : length line ≡ 1024
 
 module _ {s : Reading} {ws img counts line : List ℕ} (size : length line ≡ 1024) (b : ℕ) where
   pub takes-newline : b ≡ 10 → (r : Mode) (ws' img' counts' : List ℕ)
-      → Acts (machineAt s.mode ws) img counts (take s.kept line) (machineAt r ws') img' counts'
+      → Acts (machine_at s.mode ws) img counts (take s.kept line) (machine_at r ws') img' counts'
       → Takes s ws img counts line (b ∷ []) (record { mode = r; kept = 0; more = s.more }) ws' img' counts' line
-  unfolding fed fedByte
+  unfolding fed fed_byte
   takes-newline n r ws' img' counts' a =
       record {
         shows = λ f shows. rw n (record { done = acts size s.kept a f shows.done shows.next; next = holds-none line });
@@ -85,7 +85,7 @@ module _ {s : Reading} {ws img counts line : List ℕ} (size : length line ≡ 1
       }
 
   pub takes-full : (b ≡ 10 → ⊥) → 1024 ≤ s.kept → Sound s ws → Takes s ws img counts line (b ∷ []) s ws img counts line
-  unfolding fed fedByte
+  unfolding fed fed_byte
   takes-full n full sound =
       record {
         shows = λ f shows. rw (ne_eqb b 10 n) (record { done = shows.done; next = holds-full b shows.next (omega arith) });
@@ -94,7 +94,7 @@ module _ {s : Reading} {ws img counts line : List ℕ} (size : length line ≡ 1
 
   pub takes-byte : (b ≡ 10 → ⊥) → s.kept < 1024 → Sound s ws
       → Takes s ws img counts line (b ∷ []) (record { mode = s.mode; kept = s.kept + 1; more = s.more }) ws img counts (set line s.kept b)
-  unfolding fed fedByte
+  unfolding fed fed_byte
   takes-byte n some sound =
       record {
         shows = λ f shows. rw (ne_eqb b 10 n) (record { done = shows.done; next = holds-byte b shows.next (omega arith) });
@@ -143,7 +143,7 @@ module _ {s : Reading} {ws img counts line : List ℕ} (size : length line ≡ 1
       }
 
   pub closes-some : (s.kept ≡ 0 → ⊥) → (r : Mode) (ws' img' counts' : List ℕ)
-      → Acts (machineAt s.mode ws) img counts (take s.kept line) (machineAt r ws') img' counts' → Closes s ws img counts line r ws' img' counts'
+      → Acts (machine_at s.mode ws) img counts (take s.kept line) (machine_at r ws') img' counts' → Closes s ws img counts line r ws' img' counts'
   unfolding ended
   closes-some h r ws' img' counts' a =
       record {
@@ -153,14 +153,14 @@ module _ {s : Reading} {ws img counts line : List ℕ} (size : length line ≡ 1
 
 -- ---- before the first byte
 
-module _ (m : Mode) (more : Bool) (ws img img' : List ℕ) (e : machineAt m ws ≡ started) (q : img' ≡ replicate (length img) 0) where
+module _ (m : Mode) (more : Bool) (ws img img' : List ℕ) (e : machine_at m ws ≡ started) (q : img' ≡ replicate (length img) 0) where
   abbrev begins : Reading
   begins = record { mode = m; kept = 0; more = more }
 
   pub sound-first : Sound begins ws
   sound-first = record { fits = omega arith; narrow = subst NarrowMachine (sym e) (λ f. contradicts f refl) }
 
-  pub shows_first : (line : List ℕ) → Shows begins ws img' (replicate 22 0) line (nothingRead (length img))
+  pub shows_first : (line : List ℕ) → Shows begins ws img' (replicate 22 0) line (nothing_read (length img))
   unfolding opening
   shows_first line =
       record {
@@ -169,11 +169,11 @@ module _ (m : Mode) (more : Bool) (ws img img' : List ℕ) (e : machineAt m ws �
       }
 
 pub responds : {size : ℕ} {s q : Reading} {r : Mode} {ws₁ img₁ counts₁ line₁ ws₂ img₂ counts₂ line₂ ws₃ img₃ counts₃ out out' : List ℕ} {n : ℕ}
-    → Shows s ws₁ img₁ counts₁ line₁ (nothingRead size) → TakesSome s ws₁ img₁ counts₁ line₁ q ws₂ img₂ counts₂ line₂
+    → Shows s ws₁ img₁ counts₁ line₁ (nothing_read size) → TakesSome s ws₁ img₁ counts₁ line₁ q ws₂ img₂ counts₂ line₂
     → Closes q ws₂ img₂ counts₂ line₂ r ws₃ img₃ counts₃ → PutResponse counts₃ out out' n → Responds size out out' n
 responds {size = size} {r = r} {ws₃ = ws₃} {img₃ = img₃} shows reads ends put =
     record {
       input = reads.bytes;
-      text = put.text (machineAt r ws₃) img₃ (ended act (fed act (nothingRead size) reads.bytes))
-          (ends.done (fed act (nothingRead size) reads.bytes) (reads.goes.shows (nothingRead size) shows));
+      text = put.text (machine_at r ws₃) img₃ (ended act (fed act (nothing_read size) reads.bytes))
+          (ends.done (fed act (nothing_read size) reads.bytes) (reads.goes.shows (nothing_read size) shows));
     }

@@ -4,25 +4,25 @@ use Rattle.cutting.specs.Buffers.{Holds}
 use Rattle.cutting.specs.Feeding.{Fed, fed, ended}
 use Rattle.number_text.specs.Text.{Put}
 use Rattle.executing.specs.declared.Mode.{Mode}
-use Rattle.executing.specs.Called.{machineAt}
+use Rattle.executing.specs.Called.{machine_at}
 use Rattle.wear.specs.Performs.{NarrowMachine}
 use Rattle.wear_lines.specs.Lines.{Work, first, act, response}
 use Rattle.wear_lines.specs.Stands.{Stands}
 use Rattle.wear_by_frame.specs.declared.Reading.{Reading}
 
 -- before the first byte, with a buffer of so many bytes
-abbrev pub nothingRead : ℕ → Fed Work
-nothingRead size = record { done = first size; begun = [] }
+abbrev pub nothing_read : ℕ → Fed Work
+nothing_read size = record { done = first size; begun = [] }
 
 -- that a program and its buffers are what the bytes so far came to: the line buffer has what has come of the next line, as much as fits
 pub record Shows (s : Reading) (words image counts line : List ℕ) (f : Fed Work) : Type 0 where
-  pub done : Stands (machineAt s.mode words) image counts f.done
+  pub done : Stands (machine_at s.mode words) image counts f.done
   pub next : Holds line s.kept f.begun
 
 -- what holds between two bytes: no more is kept than the buffer holds, and no writer is wide
 pub record Sound (s : Reading) (words : List ℕ) : Type 0 where
   pub fits : s.kept ≤ 1024
-  pub narrow : NarrowMachine (machineAt s.mode words)
+  pub narrow : NarrowMachine (machine_at s.mode words)
 
 -- that these bytes bring the one to the other
 pub record Takes (s : Reading) (words image counts line bytes : List ℕ) (r : Reading) (words' image' counts' line' : List ℕ) : Type 0 where
@@ -42,9 +42,9 @@ pub record TakesSome (s : Reading) (words image counts line : List ℕ) (r : Rea
 
 -- the input's end does: a last line that no newline ends is taken too
 pub record Closes (s : Reading) (words image counts line : List ℕ) (r : Mode) (words' image' counts' : List ℕ) : Type 0 where
-  pub done : (f : Fed Work) → Shows s words image counts line f → Stands (machineAt r words') image' counts' (ended act f)
+  pub done : (f : Fed Work) → Shows s words image counts line f → Stands (machine_at r words') image' counts' (ended act f)
 
 -- the bytes that the reads gave, whichever they were, have the response to them put at the start of a buffer
 pub record Responds (size : ℕ) (out out' : List ℕ) (n : ℕ) : Type 0 where
   pub input : List ℕ
-  pub text : Put out 0 (response (ended act (fed act (nothingRead size) input))) out' n
+  pub text : Put out 0 (response (ended act (fed act (nothing_read size) input))) out' n

@@ -1,7 +1,7 @@
 // Program wear_by_frame: inputs of powerhit, parted by lines `=`, as standard input; over all of them the line copies of each frame and the
 // stores by where they went as 22 lines of standard output (request L12). What a line does is wear_lines'. Here the input is cut into lines.
 ghost use Rattle.std.specs.Prelude.{◌≡◌, List, [], ◌∷◌, ℕ, ◌≤◌, length, replicate};
-ghost use Rattle.wear_by_frame.specs.Program.{nothingRead, Shows, Sound, Takes, Reads, TakesSome, Closes, Responds};
+ghost use Rattle.wear_by_frame.specs.Program.{nothing_read, Shows, Sound, Takes, Reads, TakesSome, Closes, Responds};
 
 use executing::Mode;
 use libc::{STDIN_FILENO, STDOUT_FILENO};
@@ -22,7 +22,7 @@ struct Reading {
 fn begin(image: &mut [u8], words: &mut Words) -> Reading
     ensures sound { Sound result words.new }
     ensures shows { (line : List ℕ)
-        → Shows result words.new image.new (replicate 22 0) line (nothingRead (length image.old)) }
+        → Shows result words.new image.new (replicate 22 0) line (nothing_read (length image.old)) }
 {
     let mode = wear_lines::open_input(image, words);
     Reading {

@@ -4,8 +4,8 @@ use mathlib.Core.Bool.{Bool, true, false, cond}
 use mathlib.Core.List.{List, [], ◌∷◌, ◌++◌}
 use lib.Dec.{eqb}
 use lib.ListN.{length}
-use Rattle.bounded.proofs.Tests.{caseOn}
-use Rattle.cutting.specs.Feeding.{Fed, fedByte, fed, ended}
+use Rattle.bounded.proofs.Tests.{case_on}
+use Rattle.cutting.specs.Feeding.{Fed, fed_byte, fed, ended}
 
 module _ {A B C : Type 0} (f : A → List ℕ → A) (g : B → List ℕ → B) (h : C → List ℕ → C) (Keeps : A → B → C → Type 0)
     (line : (a : A) (b : B) (c : C) (l : List ℕ) → Keeps a b c → Keeps (f a l) (g b l) (h c l)) where
@@ -19,8 +19,8 @@ module _ {A B C : Type 0} (f : A → List ℕ → A) (g : B → List ℕ → B) 
 
   pub three : (bytes begun : List ℕ) (a : A) (b : B) (c : C) → Keeps a b c
       → Ends bytes (record { done = a; begun = begun }) (record { done = b; begun = begun }) (record { done = c; begun = begun })
-  unfolding fed fedByte ended
-  three [] begun a b c k = caseOn (eqb (length begun) 0) (λ t. rw t k) (λ t. rw t (line a b c begun k))
+  unfolding fed fed_byte ended
+  three [] begun a b c k = case_on (eqb (length begun) 0) (λ t. rw t k) (λ t. rw t (line a b c begun k))
   three (x ∷ bytes) begun a b c k =
       by_byte (eqb x 10) bytes _ _ _ _ _ _ (three bytes [] (f a begun) (g b begun) (h c begun) (line a b c begun k)) (three bytes (begun ++ (x ∷ [])) a b c k)
 

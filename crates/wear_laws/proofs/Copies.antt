@@ -7,13 +7,13 @@ use mathlib.Core.Path.{◌≡◌, refl, sym, ap, subst}
 use native.Mathlib.Omega.{arith}
 use lib.Dec.{eqb}
 use borrow.Author.Tests.{eqb-true, eqb-false}
-use Rattle.bounded.proofs.Tests.{caseOn, contradicts, row_keeps}
+use Rattle.bounded.proofs.Tests.{case_on, contradicts, row_keeps}
 use Rattle.layout.specs.Layout.{Legal}
 use Rattle.state.specs.State.{State}
 use Rattle.state.specs.declared.Op.TheVariants.{Write}
 use Rattle.operations.specs.Operations.{needs}
 use Rattle.refinement.specs.Stores.{World, left}
-use Rattle.refinement.specs.Calls.{worldOf, commitOf, consolidateOf, checkpointOf, writeOf}
+use Rattle.refinement.specs.Calls.{world_of, commit_of, consolidate_of, checkpoint_of, write_of}
 use Rattle.refinement.specs.Mount.{format_of}
 use Rattle.refinement.specs.Run.{Result, result, exec}
 use Rattle.refinement.proofs.FormatAsked.{formatting, format-left}
@@ -30,9 +30,9 @@ use Rattle.forms.specs.Forms.{has, form_of}
 use Rattle.printing.specs.declared.Output.TheVariants.{Answered}
 use Rattle.executing.specs.declared.Cut.{Cut}
 use Rattle.executing.specs.Called.{call_of, Machine, Turn, turn, finished}
-use Rattle.script.specs.Turns.{sizesIn, formats, turnBy, turn_of}
+use Rattle.script.specs.Turns.{sizes_in, formats, turn_by, turn_of}
 use Rattle.wear.specs.Performs.{Narrow, NarrowMachine}
-use Rattle.wear.specs.Wear.{word_of, pendingBy, storesIn}
+use Rattle.wear.specs.Wear.{word_of, pending_by, stores_in}
 use Rattle.wear.proofs.Pending.{Pends}
 use Rattle.wear.proofs.Asked.{no-stores-begin, no-stores-abort, no-stores-mount, commit-pends, write-pends, consolidate-pends, checkpoint-pends}
 use Rattle.wear.proofs.Performed.{none-shown}
@@ -40,7 +40,7 @@ use Rattle.wear.proofs.Narrow.{turn-narrow}
 use Rattle.wear.proofs.Made.{made-ran, format-legal, format-asks}
 use Rattle.wear_lines.specs.Lines.{Work, opening, first, turned, parts, act}
 use Rattle.wear_laws.specs.Inputs.{worked, number}
-use Rattle.wear_laws.specs.Copies.{madeIn, made, sizesAt, word_at, CopiesWhole}
+use Rattle.wear_laws.specs.Copies.{made_in, made, sizes_at, word_at, CopiesWhole}
 use Rattle.wear_laws.proofs.Beside.{alone}
 use Rattle.wear_laws.proofs.Runs.{Runs, whole}
 use Rattle.wear_laws.proofs.Operations.{none_made, write-runs, commit-runs, checkpoint-runs, consolidate-runs, format-runs}
@@ -58,7 +58,7 @@ eight v n w p l o c h = let e : needs v.st v.st.pending.op ≡ 8 = ap (needs v.s
 
 module _ (st : State) (img : List ℕ) (narrow : Narrow st) where
   abbrev called : Ask → ℕ → List ℕ → Result
-  called a count numbers = exec (call_of a count numbers) (worldOf st img)
+  called a count numbers = exec (call_of a count numbers) (world_of st img)
 
   asked-runs : (a : Ask) (count : ℕ) (numbers : List ℕ) (n : ℕ) → (let d = called a count numbers in
       (d.stores ≡ 0 → ⊥) → Legal d.world.st.sizes → n ≤ left d.world.st → RunsIn d.world n)
@@ -68,22 +68,22 @@ module _ (st : State) (img : List ℕ) (narrow : Narrow st) where
   asked-runs Mount count numbers n some legal few = absurd (some (no-stores-mount img))
   asked-runs Commits count numbers n some legal few =
       let w = num numbers 0 in
-      let o = commitOf st img w in
-      commit-runs (worldOf o.state img) o.stores legal w n (commit-pends st img narrow w some)
+      let o = commit_of st img w in
+      commit-runs (world_of o.state img) o.stores legal w n (commit-pends st img narrow w some)
   asked-runs Writes count numbers n some legal few =
       let k = num numbers in
-      let o = writeOf st img (k 0) (k 1) (k 2) (k 3) (k 4) (data_of count numbers) in
-      let v = worldOf o.state img in
+      let o = write_of st img (k 0) (k 1) (k 2) (k 3) (k 4) (data_of count numbers) in
+      let v = world_of o.state img in
       let h = write-pends st img narrow (k 0) (k 1) (k 2) (k 3) (k 4) (data_of count numbers) some in
       write-runs v o.stores legal (k 0) (k 1) (k 2) (k 3) (k 4) n h (omega (arith, few, eight v o.stores (k 0) (k 1) (k 2) (k 3) (k 4) h))
   asked-runs Consolidates count numbers n some legal few =
       let p = num numbers 0 in
-      let o = consolidateOf st img p in
+      let o = consolidate_of st img p in
       let h = consolidate-pends st img p some in
-      consolidate-runs (worldOf o.state img) o.stores legal p n h.0 h.1
+      consolidate-runs (world_of o.state img) o.stores legal p n h.0 h.1
   asked-runs Checkpoints count numbers n some legal few =
-      let o = checkpointOf st img in
-      checkpoint-runs (worldOf o.state img) o.stores legal n (checkpoint-pends st img some)
+      let o = checkpoint_of st img in
+      checkpoint-runs (world_of o.state img) o.stores legal n (checkpoint-pends st img some)
 
 -- ---- a line
 
@@ -97,25 +97,25 @@ taken P true x y p q = p refl
 taken P false x y p q = q
 
 finished-runs : (letter : ℕ) (cut : Cut) (d : Result) → AskedRuns d
-    → RunsIn d.world (storesIn (finished letter cut d).output)
+    → RunsIn d.world (stores_in (finished letter cut d).output)
 finished-runs letter cut d f =
-    let n = storesIn (finished letter cut d).output in
-    caseOn (eqb n 0)
+    let n = stores_in (finished letter cut d).output in
+    case_on (eqb n 0)
     (λ t. none_made d.world.st.sizes (word_of d.world) n (eqb-true n 0 t))
     (λ t. let h = made-ran letter cut d (eqb-false n 0 t) in f n h.0 h.1.legal h.1.few)
 
 module _ (m : Machine) (img : List ℕ) (line : Line) where
   -- the stores that a line of a form makes
   abbrev Made : Form → Type 0
-  Made f = RunsIn (pendingBy f m img line) (storesIn (turnBy f m img line).output)
+  Made f = RunsIn (pending_by f m img line) (stores_in (turn_by f m img line).output)
 
   format-made : Made Formats
   unfolding formats
   format-made =
-      let z = sizesIn line.numbers in
+      let z = sizes_in line.numbers in
       let o = replacing m.st (format_of z img) in
-      let v = worldOf o.state img in
-      taken (λ (t : Turn). RunsIn v (storesIn t.output)) (eqb o.number 0) (finished (code "F") m.cut (result o img))
+      let v = world_of o.state img in
+      taken (λ (t : Turn). RunsIn v (stores_in t.output)) (eqb o.number 0) (finished (code "F") m.cut (result o img))
       (turn m (Answered (code "F") o.number 0) img)
       (λ t.
       let row = eqb-true o.number 0 t in
@@ -131,7 +131,7 @@ module _ (m : Machine) (img : List ℕ) (line : Line) where
   form-made : Narrow m.st → (f : Form) → Made f
   form-made h Formats = format-made
   form-made h (Asks a) =
-      let d = exec (call_of a line.count line.numbers) (worldOf m.st img) in
+      let d = exec (call_of a line.count line.numbers) (world_of m.st img) in
       finished-runs line.letter m.cut d (asked-runs m.st img h a line.count line.numbers)
   form-made h Reads = none_made m.st.sizes _ _ (none-shown m.st img line.numbers)
   form-made h Cuts = none_made m.st.sizes _ 0 refl
@@ -142,10 +142,10 @@ module _ (m : Machine) (img : List ℕ) (line : Line) where
   unfolding form_of
   unformatted = row_keeps Made (has line "F" 3) Formats Other format-made (none_made m.st.sizes _ 0 refl)
 
-  pub line-runs : NarrowMachine m → RunsIn (madeIn m img line) (made m img line)
+  pub line-runs : NarrowMachine m → RunsIn (made_in m img line) (made m img line)
   unfolding turn_of
   line-runs h =
-      caseOn m.formatted
+      case_on m.formatted
       (λ t. form-made (h t) (form_of m.formatted line))
       (λ t. subst (λ (x : Bool). Made (form_of x line)) (sym t) unformatted)
 
@@ -179,4 +179,4 @@ copies_whole size before line f i l e =
     let m = w.machine in
     let img = w.image in
     let q = parsed 9 line in
-    whole (sizesAt m img q) (word_at m img q) (made m img q) (line-runs m img q (kept size before)) f i l e
+    whole (sizes_at m img q) (word_at m img q) (made m img q) (line-runs m img q (kept size before)) f i l e

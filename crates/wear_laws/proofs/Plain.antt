@@ -5,17 +5,17 @@ use mathlib.Core.List.{List, [], ◌∷◌, ◌++◌}
 use mathlib.Core.Path.{◌≡◌, refl, ap, ap₂}
 use native.Mathlib.Omega.{arith}
 use lib.ListN.{get_or}
-use Rattle.bounded.proofs.Tests.{caseOn}
-use Rattle.bounded.proofs.Tab.{getD-tab}
+use Rattle.bounded.proofs.Tests.{case_on}
+use Rattle.bounded.proofs.Tab.{get_or-tab}
 use Rattle.replay.proofs.Tables.{one_value}
-use Rattle.decimals.specs.Decimal.{decimalOf}
+use Rattle.decimals.specs.Decimal.{decimal_of}
 use Rattle.number_text.specs.Text.{each}
 use Rattle.text.specs.Fields.{parsed}
 use Rattle.printing.specs.declared.Output.{Output}
 use Rattle.printing.specs.declared.Output.TheVariants.{Answered, Shown, Unknown}
 use Rattle.script.specs.Turns.{turn_of}
-use Rattle.wear.specs.Wear.{storesIn, lineWear}
-use Rattle.wear_lines.specs.Lines.{Work, opening, first, turned, parts, act, numberLine, response}
+use Rattle.wear.specs.Wear.{stores_in, line_wear}
+use Rattle.wear_lines.specs.Lines.{Work, opening, first, turned, parts, act, number_line, response}
 use Rattle.wear_laws.specs.Inputs.{number}
 use Rattle.wear_laws.specs.Plain.{NumbersLow, PrintedPlain}
 use Rattle.wear_laws.proofs.Beside.{two}
@@ -23,7 +23,7 @@ use Rattle.wear_laws.proofs.Counted.{line_low}
 use Rattle.wear_laws.proofs.Turned.{Readable, turn-readable}
 
 -- a line's stores
-told-low : (o : Output) → Readable o → storesIn o ≤ 535161
+told-low : (o : Output) → Readable o → stores_in o ≤ 535161
 told-low (Answered letter number stores) h = h.1
 told-low (Shown byte) h = omega arith
 told-low Unknown h = omega arith
@@ -39,12 +39,12 @@ module _ (k : ℕ) (low : k < 22) where
       let q = parsed 9 line in
       let m = w.machine in
       let img = w.image in
-      let e = getD-tab 22 (λ (j : ℕ). get_or w.worn j 0 + lineWear m img q j) k 0 low in
+      let e = get_or-tab 22 (λ (j : ℕ). get_or w.worn j 0 + line_wear m img q j) k 0 low in
       omega (arith, e, line_low m img q k, told-low (turn_of m img q).output (turn-readable m img q), h)
 
   act-low : (w : Work) (n : ℕ) (line : List ℕ) → Low w n → Low (act w line) (n + 1)
   unfolding act opening
-  act-low w n line h = caseOn (parts line) (λ t. rw t (omega (arith, h))) (λ t. rw t (turned-low w n line h))
+  act-low w n line h = case_on (parts line) (λ t. rw t (omega (arith, h))) (λ t. rw t (turned-low w n line h))
 
   none-low : (size : ℕ) → Low (first size) 0
   unfolding opening
@@ -60,11 +60,11 @@ unfolding each
 each_same zero f g h = refl
 each_same (suc n) f g h = ap₂ ◌++◌ (each_same n f g (λ k l. h k (omega arith))) (h n (omega arith))
 
-same_number : (v : ℕ) → v < 2 ^ 64 → numberLine v ≡ decimalOf v ++ (code "\n" ∷ [])
-same_number v l = let e : v % 2 ^ 64 ≡ v = omega arith in ap (λ (x : ℕ). decimalOf x ++ (code "\n" ∷ [])) e
+same_number : (v : ℕ) → v < 2 ^ 64 → number_line v ≡ decimal_of v ++ (code "\n" ∷ [])
+same_number v l = let e : v % 2 ^ 64 ≡ v = omega arith in ap (λ (x : ℕ). decimal_of x ++ (code "\n" ∷ [])) e
 
 pub printed-plain : PrintedPlain
 unfolding response
 printed-plain size input few =
-    each_same 22 (λ k. numberLine (number size input k)) (λ k. decimalOf (number size input k) ++ (code "\n" ∷ []))
+    each_same 22 (λ k. number_line (number size input k)) (λ k. decimal_of (number size input k) ++ (code "\n" ∷ []))
     (λ k l. same_number (number size input k) (omega (arith, numbers-low size input k l)))

@@ -5,16 +5,16 @@ use mathlib.Core.Path.{◌≡◌, refl, sym, ap, ◌∙◌}
 use native.Mathlib.Omega.{arith}
 use lib.Dec.{leb, eqb}
 use borrow.Author.Tests.{leb-true, le-leb, eqb-true, eqb-false}
-use Rattle.bounded.specs.Below.{one, countBelow}
-use Rattle.bounded.proofs.Tests.{caseOn, contradicts, and_left, and_right}
+use Rattle.bounded.specs.Below.{one, count_below}
+use Rattle.bounded.proofs.Tests.{case_on, contradicts, and_left, and_right}
 use Rattle.layout.specs.declared.Sizes.{Sizes}
-use Rattle.layout.specs.Layout.{frameWord, lineWord}
-use Rattle.wear.specs.Wear.{endsCopy}
-use Rattle.wear_laws.specs.Copies.{Whole, inFrames, lastInLine, cutShort}
+use Rattle.layout.specs.Layout.{frame_word, line_word}
+use Rattle.wear.specs.Wear.{ends_copy}
+use Rattle.wear_laws.specs.Copies.{Whole, in_frames, last_in_line, cut_short}
 
 module _ (z : Sizes) (word : ℕ → ℕ) where
   abbrev b : ℕ
-  b = frameWord z
+  b = frame_word z
 
   -- a word's place in its line, and its frame
   abbrev place : ℕ → ℕ
@@ -50,8 +50,8 @@ module _ (z : Sizes) (word : ℕ → ℕ) where
       let u : word (i - suc j) + 1 ≡ a = ap (λ (x : ℕ). word x + 1) (sym e) ∙ t.1 in
       (omega (arith, t.0), omega arith)
 
-  pub whole : (n : ℕ) → Runs n → (f i : ℕ) → i < n → endsCopy z f (word i) ≡ true → Whole z f word i
-  unfolding endsCopy
+  pub whole : (n : ℕ) → Runs n → (f i : ℕ) → i < n → ends_copy z f (word i) ≡ true → Whole z f word i
+  unfolding ends_copy
   whole n r f i l e =
       let a = word i in
       let h : b ≤ a = leb-true b a (and_left (leb b a) (eqb (frame a) f && eqb (place a) 7) e) in
@@ -60,7 +60,7 @@ module _ (z : Sizes) (word : ℕ → ℕ) where
       let pl : place a ≡ 7 = eqb-true (place a) 7 (and_right (eqb (frame a) f) (eqb (place a) 7) rest) in
       let seven = back_by n r 7 i l h (omega arith) in
       let k = (a - b) % 512 / 8 in
-      let at : a ≡ lineWord z f k + 7 = omega arith in
+      let at : a ≡ line_word z f k + 7 = omega arith in
       record {
         line = k;
         low = omega arith;
@@ -75,22 +75,22 @@ module _ (z : Sizes) (word : ℕ → ℕ) where
 
   module _ (passes : ℕ → Bool) where
     abbrev cut : ℕ → ℕ
-    cut = cutShort z passes word
+    cut = cut_short z passes word
 
     abbrev to : ℕ → Bool
-    to = inFrames z passes
+    to = in_frames z passes
 
     passed : (a : ℕ) → to a ≡ true → (b ≤ a) × (passes (frame a) ≡ true)
-    unfolding inFrames
+    unfolding in_frames
     passed a e = (leb-true b a (and_left (leb b a) (passes (frame a)) e), and_right (leb b a) (passes (frame a)) e)
 
     passing : (a : ℕ) → b ≤ a → passes (frame a) ≡ true → to a ≡ true
-    unfolding inFrames
+    unfolding in_frames
     passing a h p = rw (le-leb b a h) p
 
     -- the next store goes on with it
     goes_on : (n : ℕ) → Runs (suc n) → b ≤ word n → 0 < place (word n) → passes (frame (word n)) ≡ true → cut n ≡ place (word n)
-    unfolding cutShort
+    unfolding cut_short
     goes_on zero r h p q = absurd (let x = (r.back 0 (omega arith) h p).0 in omega arith)
     goes_on (suc m) r h p q =
         let a = word (suc m) in
@@ -103,16 +103,16 @@ module _ (z : Sizes) (word : ℕ → ℕ) where
 
     -- or none has begun
     none-begun : (n : ℕ) → Runs (suc n) → (b ≤ word n → 0 < place (word n) → passes (frame (word n)) ≡ true → ⊥) → cut n ≡ 0
-    unfolding cutShort
+    unfolding cut_short
     none-begun zero r none = refl
     none-begun (suc m) r none =
         let a = word (suc m) in
         let c = word m in
-        caseOn (to c)
+        case_on (to c)
         (λ t.
         let u = passed c t in
         let h = u.0 in
-        caseOn (eqb (place c) 7)
+        case_on (eqb (place c) 7)
         (λ e. let pl = eqb-true (place c) 7 e in rw t (omega arith))
         (λ e.
         let pl = eqb-false (place c) 7 e in
@@ -123,28 +123,28 @@ module _ (z : Sizes) (word : ℕ → ℕ) where
         (λ t. rw t)
 
     cut-begun : (n : ℕ) → to (word n) ≡ true → cut (suc n) ≡ (word n - b + 1) % 8
-    unfolding cutShort
+    unfolding cut_short
     cut-begun n t = rw t
 
     cut-none : (n : ℕ) → to (word n) ≡ false → cut (suc n) ≡ 0
-    unfolding cutShort
+    unfolding cut_short
     cut-none n t = rw t
 
     cut-start : 0 ≡ 8 * 0 + cut 0
-    unfolding cutShort
+    unfolding cut_short
     cut-start = refl
 
-    pub eights : (n : ℕ) → Runs n → countBelow n (λ i. to (word i)) ≡ 8 * countBelow n (λ i. lastInLine z passes (word i)) + cut n
-    unfolding countBelow one
+    pub eights : (n : ℕ) → Runs n → count_below n (λ i. to (word i)) ≡ 8 * count_below n (λ i. last_in_line z passes (word i)) + cut n
+    unfolding count_below one
     eights zero r = cut-start
     eights (suc n) r =
         let a = word n in
         let ih = eights n (fewer n r) in
-        caseOn (to a)
+        case_on (to a)
         (λ t.
         let u = passed a t in
         let h = u.0 in
-        caseOn (eqb (place a) 0)
+        case_on (eqb (place a) 0)
         (λ e.
         let pl = eqb-true (place a) 0 e in
         let c = none-begun n r (λ x y s. omega arith) in
@@ -155,7 +155,7 @@ module _ (z : Sizes) (word : ℕ → ℕ) where
         let pl = eqb-false (place a) 0 e in
         let c = goes_on n r h (omega arith) u.1 in
         let next = cut-begun n t in
-        caseOn (eqb (place a) 7)
+        case_on (eqb (place a) 7)
         (λ s. let seven = eqb-true (place a) 7 s in rw (t, s) (omega (arith, ih, c, next)))
         (λ s. let other = eqb-false (place a) 7 s in rw (t, s) (omega (arith, ih, c, next)))))
         (λ t.

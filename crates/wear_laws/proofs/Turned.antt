@@ -12,15 +12,15 @@ use Rattle.bounded.specs.Rows.{refusal}
 use Rattle.bounded.proofs.Tests.{row_keeps, and_left}
 use Rattle.layout.specs.declared.Sizes.{Sizes}
 use Rattle.state.specs.State.{State}
-use Rattle.validity.specs.Validity.{stateOk}
+use Rattle.validity.specs.Validity.{state_ok}
 use Rattle.refinement.specs.Stores.{World, left}
-use Rattle.refinement.specs.Calls.{worldOf, stepRow, stepRows, run_of}
+use Rattle.refinement.specs.Calls.{world_of, step_row, step_rows, run_of}
 use Rattle.refinement.specs.Mount.{format_of}
 use Rattle.refinement.specs.Run.{Call, run, read, Result, result, exec}
 use Rattle.refinement.proofs.PastUntouched.{past-untouched}
 use Rattle.placing.proofs.Needed.{answered-low, taken-valid, needs-low}
 use Rattle.call_mount.specs.Replacing.{replacing}
-use Rattle.calling.specs.WriteLine.{num, hasData}
+use Rattle.calling.specs.WriteLine.{num, has_data}
 use Rattle.text.specs.declared.Line.{Line}
 use Rattle.forms.specs.declared.Form.{Form}
 use Rattle.forms.specs.declared.Form.TheVariants.{Formats, Asks, Reads, Cuts, Other}
@@ -29,7 +29,7 @@ use Rattle.printing.specs.declared.Output.{Output}
 use Rattle.printing.specs.declared.Output.TheVariants.{Answered, Shown, Unknown}
 use Rattle.executing.specs.declared.Cut.{Cut}
 use Rattle.executing.specs.Called.{call_of, Machine, Turn, budget, finished}
-use Rattle.script.specs.Turns.{sizesIn, formats, shown, turnBy, turn_of}
+use Rattle.script.specs.Turns.{sizes_in, formats, shown, turn_by, turn_of}
 
 -- ---- the letter
 
@@ -67,8 +67,8 @@ module _ (line : Line) where
       (row-lettered l (has line "B" 1) _ _ (of (code "B") 1 refl)
       (row-lettered l (has line "C" 1) _ _ (of (code "C") 1 refl)
       (row-lettered l (has line "A" 1) _ _ (of (code "A") 1 refl)
-      (row-lettered l (is line "W" && hasData line.count line.numbers) _ _
-      (λ e. byte (code "W") refl (and_left (is line "W") (hasData line.count line.numbers) e))
+      (row-lettered l (is line "W" && has_data line.count line.numbers) _ _
+      (λ e. byte (code "W") refl (and_left (is line "W") (has_data line.count line.numbers) e))
       (row-lettered l (has line "R" 4) Reads _ (λ e. tt)
       (row-lettered l (has line "D" 1) _ _ (of (code "D") 1 refl)
       (row-lettered l (has line "P" 0) _ _ (of (code "P") 0 refl)
@@ -79,9 +79,9 @@ module _ (line : Line) where
 run-low : (k : ℕ) (v : World) → (exec (run k) v).stores ≤ 535161
 unfolding exec run_of
 run-low k v =
-    answered-low (stepRow v.st v.image) (min k (left v.st)) 535161
+    answered-low (step_row v.st v.image) (min k (left v.st)) 535161
     (λ e.
-    let ok = taken-valid (stateOk v.st) (drop 1 (stepRows v.st v.image)) e in
+    let ok = taken-valid (state_ok v.st) (drop 1 (step_rows v.st v.image)) e in
     omega (arith, needs-low v.st ok v.st.pending.op))
 
 -- what can be read back from the line printed
@@ -104,14 +104,14 @@ formats-readable m img z =
 shown-readable : (st : State) (img : List ℕ) (w p l offset : ℕ) → Readable (shown st img w p l offset)
 unfolding shown
 shown-readable st img w p l offset =
-    let d = exec (read w p l (replicate 64 0)) (worldOf st img) in
+    let d = exec (read w p l (replicate 64 0)) (world_of st img) in
     let number = refusal ((not (eqb d.number 0), d.number) ∷ (ltb 63 offset, 11) ∷ []) in
     row_keeps Readable (eqb number 0) (Shown (get_or d.target offset 0)) (Answered (code "R") number 0) tt (refl, omega arith)
 
 module _ (m : Machine) (img : List ℕ) (line : Line) where
-  by-readable : (f : Form) → Lettered line.letter f → Readable (turnBy f m img line).output
-  by-readable Formats p = formats-readable m img (sizesIn line.numbers)
-  by-readable (Asks a) p = finished-readable line.letter m.cut (exec (call_of a line.count line.numbers) (worldOf m.st img)) p
+  by-readable : (f : Form) → Lettered line.letter f → Readable (turn_by f m img line).output
+  by-readable Formats p = formats-readable m img (sizes_in line.numbers)
+  by-readable (Asks a) p = finished-readable line.letter m.cut (exec (call_of a line.count line.numbers) (world_of m.st img)) p
   by-readable Reads p = let n = num line.numbers in shown-readable m.st img (n 0) (n 1) (n 2) (n 3)
   by-readable Cuts p = (refl, omega arith)
   by-readable Other p = tt
@@ -137,11 +137,11 @@ formats-long m img z =
     row_keeps (λ (t : Turn). length t.image ≡ length img) (eqb o.number 0) _ _ (finished-long (code "F") m.cut (result o img)) refl
 
 module _ (m : Machine) (img : List ℕ) (line : Line) where
-  by-long : (f : Form) → length (turnBy f m img line).image ≡ length img
-  by-long Formats = formats-long m img (sizesIn line.numbers)
+  by-long : (f : Form) → length (turn_by f m img line).image ≡ length img
+  by-long Formats = formats-long m img (sizes_in line.numbers)
   by-long (Asks a) =
       let c = call_of a line.count line.numbers in
-      let v = worldOf m.st img in
+      let v = world_of m.st img in
       finished-long line.letter m.cut (exec c v) ∙ exec-long c v
   by-long Reads = refl
   by-long Cuts = refl

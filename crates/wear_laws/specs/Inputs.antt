@@ -16,15 +16,15 @@ abbrev pub number : ℕ → List ℕ → ℕ → ℕ
 number size input k = get_or (worked size input).worn k 0
 
 -- the inputs that lines `=` part, each with its newlines: of the one that has begun `whole` are the lines, and `begun` is what has come of the next line
-unfoldable pub inputsFrom : List ℕ → List ℕ → List ℕ → List (List ℕ)
-inputsFrom whole begun [] = cond (parts begun) whole (whole ++ begun) ∷ []
-inputsFrom whole begun (b ∷ bytes) =
+unfoldable pub inputs_from : List ℕ → List ℕ → List ℕ → List (List ℕ)
+inputs_from whole begun [] = cond (parts begun) whole (whole ++ begun) ∷ []
+inputs_from whole begun (b ∷ bytes) =
     cond (eqb b 10)
-    (cond (parts begun) (whole ∷ inputsFrom [] [] bytes) (inputsFrom (whole ++ (begun ++ (10 ∷ []))) [] bytes))
-    (inputsFrom whole (begun ++ (b ∷ [])) bytes)
+    (cond (parts begun) (whole ∷ inputs_from [] [] bytes) (inputs_from (whole ++ (begun ++ (10 ∷ []))) [] bytes))
+    (inputs_from whole (begun ++ (b ∷ [])) bytes)
 
-abbrev pub inputsOf : List ℕ → List (List ℕ)
-inputsOf input = inputsFrom [] [] input
+abbrev pub inputs_of : List ℕ → List (List ℕ)
+inputs_of input = inputs_from [] [] input
 
 -- how many lines there are
 abbrev pub lines_of : List ℕ → ℕ

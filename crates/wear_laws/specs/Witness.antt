@@ -1,16 +1,16 @@
 -- A witness of the laws of this crate: two inputs, of which the first formats, stores one copy whole and one cut short.
 use Rattle.std.specs.Prelude.{ℕ, List, [], ◌∷◌, ◌≡◌}
 use Rattle.script.specs.Listing.{text}
-use Rattle.wear_laws.specs.Inputs.{worked, inputsOf}
-use Rattle.wear_laws.specs.Listings.{allTold}
+use Rattle.wear_laws.specs.Inputs.{worked, inputs_of}
+use Rattle.wear_laws.specs.Listings.{all_told}
 use Rattle.wear_laws.specs.Plain.{Few}
-use Rattle.wear_laws.specs.Copies.{cut_to, summed, anyFrame}
+use Rattle.wear_laws.specs.Copies.{cut_to, summed, any_frame}
 
 abbrev pub size : ℕ
 size = 8320
 
-abbrev pub formatLine : List ℕ
-formatLine = text "F,1,1,1"
+abbrev pub format_line : List ℕ
+format_line = text "F,1,1,1"
 
 abbrev pub others : List ℕ
 others = text "B,0\nW,0,0,0,0,1,165\nK,3\nW,0,0,1,0,1,165\n=\nB,0\n"
@@ -25,5 +25,5 @@ numbers = 64 ∷ 65 ∷ 0 ∷ 0 ∷ 0 ∷ 0 ∷ 0 ∷ 0 ∷ 0 ∷ 0 ∷ 0 ∷ 0 
 pub record CopyCut : Type 0 where
   pub worn : (worked size input).worn ≡ numbers
   pub few : Few input
-  pub told : allTold size (inputsOf input) ≡ 1052
-  pub cut : summed (cut_to anyFrame) size input ≡ 3
+  pub told : all_told size (inputs_of input) ≡ 1052
+  pub cut : summed (cut_to any_frame) size input ≡ 3

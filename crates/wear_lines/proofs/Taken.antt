@@ -10,8 +10,8 @@ use lib.Seq.{ext_get_or}
 use Rattle.bounded.specs.Tab.{tab, filled}
 use Rattle.bounded.proofs.Below.{ends}
 use Rattle.bounded.proofs.Tests.{contradicts}
-use Rattle.bounded.proofs.Tab.{length-filled, getD-filled, getD-tab}
-use Rattle.decimals.specs.Decimal.{decimalOf}
+use Rattle.bounded.proofs.Tab.{length-filled, get_or-filled, get_or-tab}
+use Rattle.decimals.specs.Decimal.{decimal_of}
 use Rattle.decimals.proofs.Printing.{decimal-le}
 use Rattle.number_text.specs.Text.{Put, each}
 use Rattle.number_text.proofs.Puts.{put-none, put_then, put_as, length-each}
@@ -20,10 +20,10 @@ use Rattle.text.specs.Fields.{parsed}
 use Rattle.executing.specs.Called.{Machine}
 use Rattle.script.specs.Performed.{started}
 use Rattle.script.specs.Turns.{turn_of}
-use Rattle.wear.specs.Wear.{lineWear}
+use Rattle.wear.specs.Wear.{line_wear}
 use Rattle.wear.specs.Performs.{Counts, Performs, NarrowMachine}
 use Rattle.wear.proofs.Narrow.{turn-narrow}
-use Rattle.wear_lines.specs.Lines.{Work, opening, turned, parts, act, ended, numberLine, response}
+use Rattle.wear_lines.specs.Lines.{Work, opening, turned, parts, act, ended, number_line, response}
 use Rattle.wear_lines.specs.Stands.{Stands, Acts, PutResponse}
 
 -- a loop that puts 0 in each place
@@ -34,7 +34,7 @@ cleared l =
     ext_get_or 0 (filled n (λ i. 0) l) (replicate n 0) (size ∙ sym (length-replicate n 0))
     (λ i p.
     let h : i < n = omega (arith, p, size) in
-    getD-filled n (λ i. 0) l i 0 h (omega arith) ∙ sym (get_or-replicate n i 0 0 h))
+    get_or-filled n (λ i. 0) l i 0 h (omega arith) ∙ sym (get_or-replicate n i 0 0 h))
 
 -- ---- a line
 
@@ -52,19 +52,19 @@ module _ (m : Machine) (img counts line : List ℕ) (m' : Machine) (img' : List 
       }
 
   pub acts-turn : (counts' : List ℕ) (q : Line) → parts line ≡ false → q ≡ parsed 9 line → NarrowMachine m
-      → Performs (turn_of m img q) (lineWear m img q) counts m' img' counts' → Acts m img counts line m' img' counts'
+      → Performs (turn_of m img q) (line_wear m img q) counts m' img' counts' → Acts m img counts line m' img' counts'
   unfolding act turned
   acts-turn counts' q t e narrow p =
       record {
         stands = λ w s.
-            let sums : ℕ → ℕ = λ k. get_or w.worn k 0 + lineWear w.machine w.image (parsed 9 line) k in
+            let sums : ℕ → ℕ = λ k. get_or w.worn k 0 + line_wear w.machine w.image (parsed 9 line) k in
             rw t (record {
               machine = p.machine ∙ rw (e, s.machine, s.image);
               image = p.image ∙ rw (e, s.machine, s.image);
               sums = λ k l.
                   p.adds.sums (λ k. get_or w.worn k 0) s.sums k l
                   ∙ ap (λ (x : ℕ). (get_or w.worn k 0 + x) % 2 ^ 64) (rw (e, s.machine, s.image))
-                  ∙ sym (ap (λ (x : ℕ). x % 2 ^ 64) (getD-tab 22 sums k 0 l));
+                  ∙ sym (ap (λ (x : ℕ). x % 2 ^ 64) (get_or-tab 22 sums k 0 l));
             });
         narrow = subst NarrowMachine (sym p.machine) (turn-narrow m img q narrow);
       }
@@ -81,7 +81,7 @@ abbrev pub listed : List ℕ → ℕ → List ℕ
 listed counts k = each k (λ j. ended (get_or counts j 0))
 
 ended-le : (v : ℕ) → length (ended v) ≤ 21
-ended-le v = omega (arith, length-append (decimalOf v) (10 ∷ []), decimal-le v)
+ended-le v = omega (arith, length-append (decimal_of v) (10 ∷ []), decimal-le v)
 
 pub listed-none : (out counts : List ℕ) → Put out 0 (listed counts 0) out 0
 unfolding each
@@ -100,5 +100,5 @@ unfolding response
 listed-end out out' counts k next h l p =
     record {
       text = λ m img w s.
-          put_as (ends (listed counts) 22 k h l ∙ each-ext (λ j. ended (get_or counts j 0)) (λ j. numberLine (get_or w.worn j 0)) 22 (λ j r. ap ended (s.sums j r))) p;
+          put_as (ends (listed counts) 22 k h l ∙ each-ext (λ j. ended (get_or counts j 0)) (λ j. number_line (get_or w.worn j 0)) 22 (λ j r. ap ended (s.sums j r))) p;
     }

@@ -4,12 +4,12 @@ use Prim.Native.Char.{code}
 use Rattle.bounded.specs.Tab.{tab}
 use Rattle.text.specs.declared.Line.{Line}
 use Rattle.text.specs.Fields.{parsed}
-use Rattle.decimals.specs.Decimal.{decimalOf}
+use Rattle.decimals.specs.Decimal.{decimal_of}
 use Rattle.number_text.specs.Text.{each}
 use Rattle.executing.specs.Called.{Machine}
 use Rattle.script.specs.Turns.{turn_of}
 use Rattle.script.specs.Performed.{started}
-use Rattle.wear.specs.Wear.{lineWear}
+use Rattle.wear.specs.Wear.{line_wear}
 
 -- what the lines so far came to: powerhit's machine and its buffer, and the 22 numbers over all inputs
 pub record Work : Type 0 where
@@ -32,7 +32,7 @@ turned line w =
     record {
       machine = t.machine;
       image = t.image;
-      worn = tab 22 (λ k. get_or w.worn k 0 + lineWear w.machine w.image line k);
+      worn = tab 22 (λ k. get_or w.worn k 0 + line_wear w.machine w.image line k);
     }
 
 -- a line that parts inputs is exactly `=`
@@ -46,10 +46,10 @@ act w line = cond (parts line) (opening (length w.image) w.worn) (turned (parsed
 -- ---- what is printed: the 22 numbers, one a line. A number is printed as a machine word
 
 abbrev pub ended : ℕ → List ℕ
-ended v = decimalOf v ++ (code "\n" ∷ [])
+ended v = decimal_of v ++ (code "\n" ∷ [])
 
-abbrev pub numberLine : ℕ → List ℕ
-numberLine v = ended (v % 2 ^ 64)
+abbrev pub number_line : ℕ → List ℕ
+number_line v = ended (v % 2 ^ 64)
 
 unfoldable pub response : Work → List ℕ
-response w = each 22 (λ k. numberLine (get_or w.worn k 0))
+response w = each 22 (λ k. number_line (get_or w.worn k 0))

@@ -2,7 +2,7 @@
 pub mod output;
 
 ghost use Rattle.std.specs.Prelude.{◌≡◌, length, replicate};
-ghost use Rattle.executing.specs.Called.{machineAt};
+ghost use Rattle.executing.specs.Called.{machine_at};
 ghost use Rattle.script.specs.Performed.{started};
 ghost use Rattle.wear.specs.Performs.{NarrowMachine};
 ghost use Rattle.wear_lines.specs.Lines.{parts};
@@ -26,7 +26,7 @@ fn clear(image: &mut [u8])
 
 // Before the first line of an input: no format is taken, no K waits, and the buffer is of zeros.
 pub fn open_input(image: &mut [u8], words: &mut Words) -> Mode
-    ensures machine { machineAt result words.new ≡ started }
+    ensures machine { machine_at result words.new ≡ started }
     ensures image { image.new ≡ replicate (length image.old) 0 }
 {
     clear(image);
@@ -52,9 +52,9 @@ pub fn take_line(
     line: &[u8],
 ) -> Mode
     requires counts_len { length counts.old ≡ 22 }
-    requires narrow_machine { NarrowMachine (machineAt m words.old) }
-    ensures { Acts (machineAt m words.old) image.old counts.old line.now
-        (machineAt result words.new) image.new counts.new }
+    requires narrow_machine { NarrowMachine (machine_at m words.old) }
+    ensures { Acts (machine_at m words.old) image.old counts.old line.now
+        (machine_at result words.new) image.new counts.new }
 {
     if is_parting(line) {
         return open_input(image, words);

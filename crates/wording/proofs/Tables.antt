@@ -7,7 +7,7 @@ use lib.ListN.{length, get_or, replicate, get_or-replicate}
 use Rattle.bytes.specs.Bytes.{index_of}
 use Rattle.number_text.specs.Text.{Put}
 use Rattle.number_text.proofs.Puts.{put_as}
-use Rattle.wording.specs.Words.{upToDot}
+use Rattle.wording.specs.Words.{up_to_dot}
 
 -- f of each row
 unfoldable pub mapped : {A : Type 0} → (List ℕ → A) → List (List ℕ) → List A
@@ -21,12 +21,12 @@ mapped_at f (x ∷ xs) zero = refl
 mapped_at f (x ∷ xs) (suc n) = mapped_at f xs n
 
 -- a table of texts, each up to its dot
-text_at : (table want : List (List ℕ)) (n : ℕ) → mapped upToDot table ≡ want → upToDot (get_or table n []) ≡ get_or want n []
-unfolding upToDot index_of
-text_at table want n e = sym (mapped_at upToDot table n) ∙ ap (λ (l : List (List ℕ)). get_or l n []) e
+text_at : (table want : List (List ℕ)) (n : ℕ) → mapped up_to_dot table ≡ want → up_to_dot (get_or table n []) ≡ get_or want n []
+unfolding up_to_dot index_of
+text_at table want n e = sym (mapped_at up_to_dot table n) ∙ ap (λ (l : List (List ℕ)). get_or l n []) e
 
-pub put-text-at : {l m : List ℕ} {a b : ℕ} (table want : List (List ℕ)) (n : ℕ) → Put l a (upToDot (get_or table n [])) m b
-    → mapped upToDot table ≡ want → Put l a (get_or want n []) m b
+pub put-text-at : {l m : List ℕ} {a b : ℕ} (table want : List (List ℕ)) (n : ℕ) → Put l a (up_to_dot (get_or table n [])) m b
+    → mapped up_to_dot table ≡ want → Put l a (get_or want n []) m b
 put-text-at table want n p e = put_as (text_at table want n e) p
 
 -- k rows of w bytes

@@ -7,11 +7,11 @@ use native.Mathlib.Omega.{arith}
 use lib.Dec.{leb, eqb}
 use lib.ListN.{length, get_or, get_or-append}
 use borrow.Author.Tests.{leb-true, eqb-true}
-use Rattle.bounded.specs.Below.{all_below, firstBelow}
+use Rattle.bounded.specs.Below.{all_below, first_below}
 use Rattle.bounded.proofs.Below.{all-at}
 use Rattle.bounded.proofs.Tests.{and_left, and_right}
-use Rattle.wording.specs.Calls.{callCount}
-use Rattle.wording.specs.Words.{codes, names, texts, name_of, text_of, callNamed, isDigit, printable, plain}
+use Rattle.wording.specs.Calls.{call_count}
+use Rattle.wording.specs.Words.{codes, names, texts, name_of, text_of, call_named, is_digit, printable, plain}
 
 -- each text of a table has at most m bytes and is plain
 unfoldable fitting : ℕ → List (List ℕ) → Bool
@@ -44,8 +44,8 @@ pub plain-printable : (t : List ℕ) → plain t ≡ true → printable t ≡ tr
 unfolding plain printable
 plain-printable [] e = refl
 plain-printable (b ∷ bs) e =
-    let h = and_left ((leb 32 b && leb b 126) && not (isDigit b)) (plain bs) e in
-    rw (and_left (leb 32 b && leb b 126) (not (isDigit b)) h, plain-printable bs (and_right ((leb 32 b && leb b 126) && not (isDigit b)) (plain bs) e))
+    let h = and_left ((leb 32 b && leb b 126) && not (is_digit b)) (plain bs) e in
+    rw (and_left (leb 32 b && leb b 126) (not (is_digit b)) h, plain-printable bs (and_right ((leb 32 b && leb b 126) && not (is_digit b)) (plain bs) e))
 
 pub printable-append : (s t : List ℕ) → printable s ≡ true → printable t ≡ true → printable (s ++ t) ≡ true
 unfolding printable
@@ -55,17 +55,17 @@ printable-append (b ∷ bs) t e f =
 
 -- ---- a name tells its call by its first three bytes
 
-own_name : (c : ℕ) → c < callCount → callNamed (get_or (name_of c) 0 0) (get_or (name_of c) 1 0) (get_or (name_of c) 2 0) ≡ c
-unfolding names codes callNamed firstBelow all_below
+own_name : (c : ℕ) → c < call_count → call_named (get_or (name_of c) 0 0) (get_or (name_of c) 1 0) (get_or (name_of c) 2 0) ≡ c
+unfolding names codes call_named first_below all_below
 own_name c h =
-    eqb-true _ c (all-at (λ k. eqb (callNamed (get_or (name_of k) 0 0) (get_or (name_of k) 1 0) (get_or (name_of k) 2 0)) k) callCount c h refl)
+    eqb-true _ c (all-at (λ k. eqb (call_named (get_or (name_of k) 0 0) (get_or (name_of k) 1 0) (get_or (name_of k) 2 0)) k) call_count c h refl)
 
-three-bytes : (c : ℕ) → c < callCount → 3 ≤ length (name_of c)
+three-bytes : (c : ℕ) → c < call_count → 3 ≤ length (name_of c)
 unfolding names codes all_below
-three-bytes c h = leb-true 3 (length (name_of c)) (all-at (λ k. leb 3 (length (name_of k))) callCount c h refl)
+three-bytes c h = leb-true 3 (length (name_of c)) (all-at (λ k. leb 3 (length (name_of k))) call_count c h refl)
 
 -- and so does a text that starts with it
-pub named : (c : ℕ) (rest : List ℕ) → c < callCount → (let t = name_of c ++ rest in callNamed (get_or t 0 0) (get_or t 1 0) (get_or t 2 0) ≡ c)
+pub named : (c : ℕ) (rest : List ℕ) → c < call_count → (let t = name_of c ++ rest in call_named (get_or t 0 0) (get_or t 1 0) (get_or t 2 0) ≡ c)
 named c rest h =
     let n = three-bytes c h in
     rw (get_or-append (name_of c) rest 0 0 (omega arith), get_or-append (name_of c) rest 0 1 (omega arith), get_or-append (name_of c) rest 0 2 (omega arith))

@@ -1,14 +1,14 @@
 -- The words: a name for each call and a text for each number. Neither has a digit in it.
 use Rattle.std.specs.Prelude.{ℕ, Bool, true, ◌&&◌, not, List, [], ◌∷◌, leb, eqb, get_or, take}
 use Prim.Native.Char.{code}
-use Prim.Native.String.{String, [] as endText, ◌∷◌ as ◌then◌}
-use Rattle.bounded.specs.Below.{firstBelow}
+use Prim.Native.String.{String, [] as end_text, ◌∷◌ as ◌then◌}
+use Rattle.bounded.specs.Below.{first_below}
 use Rattle.bytes.specs.Bytes.{index_of}
-use Rattle.wording.specs.Calls.{callCount}
+use Rattle.wording.specs.Calls.{call_count}
 
 -- the bytes of a text
 unfoldable pub codes : String → List ℕ
-codes endText = []
+codes end_text = []
 codes (c then s) = code c ∷ codes s
 
 -- `A confirm`, since the first three letters of `Confirm` are those of `Consolidate`, and `Wide begin`, since those of `Begin wide` are those of `Begin`
@@ -78,19 +78,19 @@ abbrev pub text_of : ℕ → List ℕ
 text_of n = get_or texts n []
 
 -- the call whose name starts with three bytes, the number of calls where none does
-abbrev pub startsWith : ℕ → ℕ → ℕ → ℕ → Bool
-startsWith a b d c = eqb (get_or (name_of c) 0 0) a && eqb (get_or (name_of c) 1 0) b && eqb (get_or (name_of c) 2 0) d
+abbrev pub starts_with : ℕ → ℕ → ℕ → ℕ → Bool
+starts_with a b d c = eqb (get_or (name_of c) 0 0) a && eqb (get_or (name_of c) 1 0) b && eqb (get_or (name_of c) 2 0) d
 
-unfoldable pub callNamed : ℕ → ℕ → ℕ → ℕ
-callNamed a b d = firstBelow callCount (startsWith a b d)
+unfoldable pub call_named : ℕ → ℕ → ℕ → ℕ
+call_named a b d = first_below call_count (starts_with a b d)
 
 -- what stands before the first dot
-unfoldable pub upToDot : List ℕ → List ℕ
-upToDot l = take (index_of 46 l) l
+unfoldable pub up_to_dot : List ℕ → List ℕ
+up_to_dot l = take (index_of 46 l) l
 
 -- whether a byte is a digit, and whether each byte of a text is printable, or printable and no digit
-abbrev pub isDigit : ℕ → Bool
-isDigit b = leb 48 b && leb b 57
+abbrev pub is_digit : ℕ → Bool
+is_digit b = leb 48 b && leb b 57
 
 unfoldable pub printable : List ℕ → Bool
 printable [] = true
@@ -98,4 +98,4 @@ printable (b ∷ bs) = (leb 32 b && leb b 126) && printable bs
 
 unfoldable pub plain : List ℕ → Bool
 plain [] = true
-plain (b ∷ bs) = ((leb 32 b && leb b 126) && not (isDigit b)) && plain bs
+plain (b ∷ bs) = ((leb 32 b && leb b 126) && not (is_digit b)) && plain bs

@@ -1,8 +1,8 @@
 // The words of a refusal: which numbers each call can return, the calls' names and the numbers' texts, each in a constant table.
 ghost use Rattle.std.specs.Prelude.{◌≡◌, ◌+◌, ◌<◌, ◌≤◌, length};
 ghost use Rattle.number_text.specs.Text.{Put};
-ghost use Rattle.wording.specs.Calls.{callCount, numberCount, canReturn, takesWriter, takesPage, takesLine, meetsWriter};
-ghost use Rattle.wording.specs.Words.{name_of, text_of, startsWith, callNamed, upToDot};
+ghost use Rattle.wording.specs.Calls.{call_count, number_count, can_return, takes_writer, takes_page, takes_line, meets_writer};
+ghost use Rattle.wording.specs.Words.{name_of, text_of, starts_with, call_named, up_to_dot};
 
 // The calls, as the service screen numbers them.
 pub const FORMAT: usize = 0;
@@ -143,7 +143,7 @@ const TEXTS: [[u8; 49]; NUMBERS] = [
 
 // Whether a call can return a number.
 pub fn can_return(call: usize, number: usize) -> bool
-    ensures { result ≡ canReturn call number }
+    ensures { result ≡ can_return call number }
 {
     if call >= CALLS {
         return false;
@@ -156,7 +156,7 @@ pub fn can_return(call: usize, number: usize) -> bool
 
 // Whether a call is given a writer.
 pub fn takes_writer(call: usize) -> bool
-    ensures { result ≡ takesWriter call }
+    ensures { result ≡ takes_writer call }
 {
     (call == BEGIN)
         | (call == BEGIN_WIDE)
@@ -171,21 +171,21 @@ pub fn takes_writer(call: usize) -> bool
 
 // Whether a call is given a page.
 pub fn takes_page(call: usize) -> bool
-    ensures { result ≡ takesPage call }
+    ensures { result ≡ takes_page call }
 {
     (call == RECALL) | (call == WRITE) | (call == CONSOLIDATE) | (call == READ)
 }
 
 // Whether a call is given a line.
 pub fn takes_line(call: usize) -> bool
-    ensures { result ≡ takesLine call }
+    ensures { result ≡ takes_line call }
 {
     (call == RECALL) | (call == WRITE) | (call == READ)
 }
 
 // Whether a number says that a writer stands in the way.
 pub fn meets_writer(number: usize) -> bool
-    ensures { result ≡ meetsWriter number }
+    ensures { result ≡ meets_writer number }
 {
     (number == 14) | (number == 18)
 }
@@ -203,7 +203,7 @@ pub fn put_text(out: &mut [u8], at: usize, text: &[u8]) -> usize
 // Puts the bytes of a table's row before its dot.
 fn put_row(out: &mut [u8], at: usize, row: &[u8]) -> usize
     requires { at + length row.now ≤ length out.old }
-    ensures { Put out.old at (upToDot row.now) out.new result }
+    ensures { Put out.old at (up_to_dot row.now) out.new result }
 {
     let n = bytes::scan::find(row, 0, row.len(), b'.');
     put_text(out, at, &row[..n])
@@ -211,7 +211,7 @@ fn put_row(out: &mut [u8], at: usize, row: &[u8]) -> usize
 
 // Puts the name of a call.
 pub fn put_name(out: &mut [u8], at: usize, call: usize) -> usize
-    requires { (call < callCount) × (at + 12 ≤ length out.old) }
+    requires { (call < call_count) × (at + 12 ≤ length out.old) }
     ensures { Put out.old at (name_of call) out.new result }
 {
     let row = NAMES[call];
@@ -220,7 +220,7 @@ pub fn put_name(out: &mut [u8], at: usize, call: usize) -> usize
 
 // Puts the text of a number.
 pub fn put_reason(out: &mut [u8], at: usize, number: usize) -> usize
-    requires { (number < numberCount) × (at + 49 ≤ length out.old) }
+    requires { (number < number_count) × (at + 49 ≤ length out.old) }
     ensures { Put out.old at (text_of number) out.new result }
 {
     let row = TEXTS[number];
@@ -229,15 +229,15 @@ pub fn put_reason(out: &mut [u8], at: usize, number: usize) -> usize
 
 // Whether the name of call c starts with three bytes.
 fn starts_with(a: u8, b: u8, d: u8, c: usize) -> bool
-    requires { c < callCount }
-    ensures { result ≡ startsWith a b d c }
+    requires { c < call_count }
+    ensures { result ≡ starts_with a b d c }
 {
     (NAMES[c][0] == a) & (NAMES[c][1] == b) & (NAMES[c][2] == d)
 }
 
 // The call whose name starts with three bytes, CALLS where none does.
 pub fn call_named(a: u8, b: u8, d: u8) -> usize
-    ensures { result ≡ callNamed a b d }
+    ensures { result ≡ call_named a b d }
 {
     let mut c = 0;
     while c < CALLS {

@@ -52,11 +52,11 @@ bytes_le (b ∷ l) h =
 
 -- ---- lists of bytes
 
-pub bytes-bytesOf : (n v : ℕ) → Bytes (bytes_of n v)
+pub bytes-bytes_of : (n v : ℕ) → Bytes (bytes_of n v)
 unfolding bytes_of
-bytes-bytesOf zero v i = omega arith
-bytes-bytesOf (suc n) v zero = omega arith
-bytes-bytesOf (suc n) v (suc i) = bytes-bytesOf n (v / 256) i
+bytes-bytes_of zero v i = omega arith
+bytes-bytes_of (suc n) v zero = omega arith
+bytes-bytes_of (suc n) v (suc i) = bytes-bytes_of n (v / 256) i
 
 pub bytes-append : (l m : List ℕ) → Bytes l → Bytes m → Bytes (l ++ m)
 bytes-append [] m h k i = k i

@@ -8,7 +8,7 @@ use lib.ListN.{length, take, drop, get_or, length-append, length-take, length-dr
 use lib.Seq.{length-take-le, take-length, take-add, drop_at, take_at, take-take, drop-drop, drop-append-le, take-append-le, drop-append-add, get_or-take, get_or-drop, ext_get_or}
 use lib.Dec.{ltb}
 use borrow.Author.Tests.{ltb-true, ltb-false}
-use Rattle.bounded.proofs.Tests.{caseOn}
+use Rattle.bounded.proofs.Tests.{case_on}
 use Rattle.words.specs.Words.{part, over, Bytes}
 use Rattle.words.proofs.Bytes.{bytes-append, bytes_take, bytes_drop}
 
@@ -94,15 +94,15 @@ module _ (l : List ℕ) (a : ℕ) (ys : List ℕ) (fits : a + length ys ≤ leng
   part-over-other b n (inr h) =
       part_end (over l a ys) b n (omega (arith, length_over)) ∙ ap (drop b) (take-over (b + n) h) ∙ sym (part_end l b n (omega arith))
 
-  pub getD-over-other : (i : ℕ) → (a + length ys ≤ i) ⊎ (i < a) → get_or (over l a ys) i 0 ≡ get_or l i 0
-  getD-over-other i (inl h) =
+  pub get_or-over-other : (i : ℕ) → (a + length ys ≤ i) ⊎ (i < a) → get_or (over l a ys) i 0 ≡ get_or l i 0
+  get_or-over-other i (inl h) =
       let e : i ≡ i + 0 = omega arith in
       ap (λ (k : ℕ). get_or (over l a ys) k 0) e
       ∙ sym (get_or-drop i (over l a ys) 0 0)
       ∙ ap (λ (t : List ℕ). get_or t 0 0) (drop-over-past i h)
       ∙ get_or-drop i l 0 0
       ∙ ap (λ (k : ℕ). get_or l k 0) (sym e)
-  getD-over-other i (inr h) =
+  get_or-over-other i (inr h) =
       sym (get_or-take a (over l a ys) i 0 h) ∙ ap (λ (t : List ℕ). get_or t i 0) (take-over a (omega arith)) ∙ get_or-take a l i 0 h
 
 -- ---- one laid over the other
@@ -153,9 +153,9 @@ over-over l a xs ys h =
 -- by where a place lies to the n places from a on
 pub placed : {X : Type 0} (a n i : ℕ) → (a ≤ i → i < a + n → X) → ((a + n ≤ i) ⊎ (i < a) → X) → X
 placed a n i f g =
-    caseOn (ltb i a)
+    case_on (ltb i a)
     (λ t. g (inr (ltb-true i a t)))
-    (λ t. caseOn (ltb i (a + n)) (λ u. f (ltb-false i a t) (ltb-true i (a + n) u)) (λ u. g (inl (ltb-false i (a + n) u))))
+    (λ t. case_on (ltb i (a + n)) (λ u. f (ltb-false i a t) (ltb-true i (a + n) u)) (λ u. g (inl (ltb-false i (a + n) u))))
 
 -- two that lie apart, in either order
 over-swap : (l : List ℕ) (a : ℕ) (xs : List ℕ) (b : ℕ) (ys : List ℕ) → a + length xs ≤ b → b + length ys ≤ length l
@@ -171,18 +171,18 @@ over-swap l a xs b ys d h =
     (λ i _.
     placed a (length xs) i
     (λ u v.
-    getD-over-other (over l a xs) b ys h' i (inr (omega arith))
+    get_or-over-other (over l a xs) b ys h' i (inr (omega arith))
     ∙ get_d_over l a xs f i u v
     ∙ sym (get_d_over (over l b ys) a xs f' i u v))
     (λ w.
     placed b (length ys) i
     (λ u v.
     get_d_over (over l a xs) b ys h' i u v
-    ∙ sym (getD-over-other (over l b ys) a xs f' i w ∙ get_d_over l b ys h i u v))
+    ∙ sym (get_or-over-other (over l b ys) a xs f' i w ∙ get_d_over l b ys h i u v))
     (λ v.
-    getD-over-other (over l a xs) b ys h' i v
-    ∙ getD-over-other l a xs f i w
-    ∙ sym (getD-over-other (over l b ys) a xs f' i w ∙ getD-over-other l b ys h i v))))
+    get_or-over-other (over l a xs) b ys h' i v
+    ∙ get_or-over-other l a xs f i w
+    ∙ sym (get_or-over-other (over l b ys) a xs f' i w ∙ get_or-over-other l b ys h i v))))
 
 pub over-comm : (l : List ℕ) (a : ℕ) (xs : List ℕ) (b : ℕ) (ys : List ℕ) → a + length xs ≤ length l → b + length ys ≤ length l
     → (a + length xs ≤ b) ⊎ (b + length ys ≤ a) → over (over l a xs) b ys ≡ over (over l b ys) a xs

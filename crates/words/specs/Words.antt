@@ -27,24 +27,24 @@ over l a ys = take a l ++ (ys ++ drop (length ys) (drop a l))
 unfoldable pub word_at : List ℕ → ℕ → ℕ
 word_at l a = le_of (part l a 8)
 
-unfoldable pub putWord : List ℕ → ℕ → ℕ → List ℕ
-putWord l a v = over l a (bytes_of 8 v)
+unfoldable pub put_word : List ℕ → ℕ → ℕ → List ℕ
+put_word l a v = over l a (bytes_of 8 v)
 
 -- word i of an image, at byte 8 i, and the image with v stored there
 abbrev pub word : List ℕ → ℕ → ℕ
 word l i = word_at l (8 * i)
 
 abbrev pub store : List ℕ → ℕ → ℕ → List ℕ
-store l i v = putWord l (8 * i) v
+store l i v = put_word l (8 * i) v
 
 -- the n words from byte a on, and l with the words vs put from byte a on, one after the other
-unfoldable pub wordsAt : List ℕ → ℕ → ℕ → List ℕ
-wordsAt l a zero = []
-wordsAt l a (suc n) = word_at l a ∷ wordsAt l (a + 8) n
+unfoldable pub words_at : List ℕ → ℕ → ℕ → List ℕ
+words_at l a zero = []
+words_at l a (suc n) = word_at l a ∷ words_at l (a + 8) n
 
-unfoldable pub putWords : List ℕ → ℕ → List ℕ → List ℕ
-putWords l a [] = l
-putWords l a (v ∷ vs) = putWords (putWord l a v) (a + 8) vs
+unfoldable pub put_words : List ℕ → ℕ → List ℕ → List ℕ
+put_words l a [] = l
+put_words l a (v ∷ vs) = put_words (put_word l a v) (a + 8) vs
 
 -- the bytes of words, one after the other
 unfoldable pub flat : List ℕ → List ℕ

@@ -1,6 +1,6 @@
 // Words of 8 bytes, little-endian.
 ghost use Rattle.std.specs.Prelude.{◌≡◌, ◌+◌, ◌*◌, ◌≤◌, length};
-ghost use Rattle.words.specs.Words.{le_of, bytes_of, word_at, putWord};
+ghost use Rattle.words.specs.Words.{le_of, bytes_of, word_at, put_word};
 
 // The number that 8 bytes make, the lowest first. A sum of bytes, each shifted once, is what the compiler makes one load of.
 fn join(b0: u8, b1: u8, b2: u8, b3: u8, b4: u8, b5: u8, b6: u8, b7: u8) -> u64
@@ -56,7 +56,7 @@ fn put_bytes(b: &mut [u8], v: u64)
 // Puts v at byte at.
 pub fn put_word(s: &mut [u8], at: usize, v: u64)
     requires { at + 8 ≤ length s.old }
-    ensures { s.new ≡ putWord s.old at v }
+    ensures { s.new ≡ put_word s.old at v }
 {
     put_bytes(&mut s[at..at + 8], v);
 }

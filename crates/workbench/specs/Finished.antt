@@ -3,15 +3,15 @@ use Rattle.std.specs.Prelude.{ℕ}
 use Rattle.state.specs.declared.Op.TheVariants.{Idle, Write, Commit, Consolidate, Checkpoint, Event, Prepare, Confirm, Log, Copy, Format}
 use Rattle.state.specs.declared.Op.{Op}
 
-abbrev pub finishedLines : Op → ℕ
-finishedLines Idle = 0
-finishedLines (Write w p l o n) = 1
-finishedLines (Commit w) = 0
-finishedLines (Consolidate p) = 0
-finishedLines Checkpoint = 0
-finishedLines (Event k m a) = 2
-finishedLines (Prepare w) = 0
-finishedLines (Confirm w) = 0
-finishedLines (Log p l o n) = 1
-finishedLines Copy = 0
-finishedLines Format = 0
+abbrev pub finished_lines : Op → ℕ
+finished_lines Idle = 0
+finished_lines (Write w p l o n) = 1
+finished_lines (Commit w) = 0
+finished_lines (Consolidate p) = 0
+finished_lines Checkpoint = 0
+finished_lines (Event k m a) = 2
+finished_lines (Prepare w) = 0
+finished_lines (Confirm w) = 0
+finished_lines (Log p l o n) = 1
+finished_lines Copy = 0
+finished_lines Format = 0

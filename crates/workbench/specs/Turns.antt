@@ -2,9 +2,9 @@
 use Rattle.std.specs.Prelude.{ℕ, Bool, false, cond, List, [], ◌∷◌, eqb, get_or, replicate}
 use Rattle.replay.specs.declared.Table.{Table}
 use Rattle.state.specs.State.{State}
-use Rattle.state.specs.Wide.{noWide}
-use Rattle.state.specs.Held.{noWriter}
-use Rattle.refinement.specs.Settled.{noPending}
+use Rattle.state.specs.Wide.{no_wide}
+use Rattle.state.specs.Held.{no_writer}
+use Rattle.refinement.specs.Settled.{no_pending}
 use Rattle.refinement.specs.Outcome.{Outcome}
 use Rattle.answers.specs.declared.Answer.{Answer}
 use Rattle.answers.specs.Answers.{number_of, stores_of}
@@ -14,21 +14,21 @@ use Rattle.workbench.specs.declared.Said.TheVariants.{OtherForm, Answered, Hash}
 use Rattle.workbench.specs.declared.Said.{Said}
 
 -- at first every number is 0, last positions and the map's entries too
-abbrev pub firstTable : Table
-firstTable = record { page = replicate 16 0; original = replicate 16 0; spare = replicate 16 0; bitmap = replicate 16 0; last = replicate 16 0 }
+abbrev pub first_table : Table
+first_table = record { page = replicate 16 0; original = replicate 16 0; spare = replicate 16 0; bitmap = replicate 16 0; last = replicate 16 0 }
 
-abbrev pub firstState : State
-firstState =
+abbrev pub first_state : State
+first_state =
     record {
       sizes = record { pages = 0; slots = 0; places = 0; entries = 0 };
       head = 0;
       tail = 0;
       next = 0;
-      table = firstTable;
+      table = first_table;
       map = replicate 1024 0;
-      writers = record { opened = replicate 4 false; held = replicate 64 0; prepared = noWriter };
-      wide = noWide;
-      pending = noPending;
+      writers = record { opened = replicate 4 false; held = replicate 64 0; prepared = no_writer };
+      wide = no_wide;
+      pending = no_pending;
     }
 
 -- what a line leaves and prints
@@ -37,8 +37,8 @@ pub record Turn : Type 0 where
   pub said : Said
 
 -- the code's: it prints `said` and leaves these words
-abbrev pub turnAt : Said → List ℕ → Turn
-turnAt said words = record { st = decoded words; said = said }
+abbrev pub turn_at : Said → List ℕ → Turn
+turn_at said words = record { st = decoded words; said = said }
 
 -- number i of a line
 abbrev pub arg : Line → ℕ → ℕ
@@ -56,8 +56,8 @@ abbrev pub shown : State → Said → Turn
 shown st s = record { st = st; said = s }
 
 -- what a line prints that has its letter's form; one of another form says so and leaves all as it was
-abbrev pub formedSaid : Bool → Said → Said
-formedSaid ok s = cond ok s OtherForm
+abbrev pub formed_said : Bool → Said → Said
+formed_said ok s = cond ok s OtherForm
 
 abbrev pub formed : Bool → State → Turn → Turn
 formed ok st t = cond ok t (shown st OtherForm)
@@ -68,8 +68,8 @@ choose letter [] d = d
 choose letter (r ∷ rs) d = cond (eqb letter r.0) r.1 (choose letter rs d)
 
 -- a call's answer and its stores, and the state that it leaves
-abbrev pub answerSaid : Answer → Said
-answerSaid a = Answered (number_of a) (stores_of a)
+abbrev pub answer_said : Answer → Said
+answer_said a = Answered (number_of a) (stores_of a)
 
 abbrev pub called : Outcome → Turn
 called o = record { st = o.state; said = Answered o.number o.stores }
@@ -79,5 +79,5 @@ abbrev pub replacing : State → Outcome → Turn
 replacing st o = record { st = cond (eqb o.number 0) o.state st; said = Answered o.number o.stores }
 
 -- a call that reads, with row 0 where it is taken: the hash of what it read, or its row
-abbrev pub hashedSaid : ℕ → ℕ → Said
-hashedSaid row h = cond (eqb row 0) (Hash h) (Answered row 0)
+abbrev pub hashed_said : ℕ → ℕ → Said
+hashed_said row h = cond (eqb row 0) (Hash h) (Answered row 0)

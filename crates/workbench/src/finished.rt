@@ -1,11 +1,11 @@
 // How many finished lines an operation has.
 ghost use Rattle.std.specs.Prelude.{◌≡◌};
-ghost use Rattle.workbench.specs.Finished.{finishedLines};
+ghost use Rattle.workbench.specs.Finished.{finished_lines};
 
 use state::Op;
 
 pub fn finished_lines(op: Op) -> usize
-    ensures { result ≡ finishedLines op }
+    ensures { result ≡ finished_lines op }
 {
     match op {
         Op::Idle => 0,

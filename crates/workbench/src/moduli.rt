@@ -1,6 +1,6 @@
 // The moduli that events are lent.
 ghost use Rattle.std.specs.Prelude.{◌≡◌};
-ghost use Rattle.workbench.specs.Moduli.{allLent, firstModuli};
+ghost use Rattle.workbench.specs.Moduli.{all_lent, first_moduli};
 
 // Where the table says how many of its first moduli an event is lent.
 pub const LENT: usize = 24;
@@ -9,7 +9,7 @@ pub type Moduli = [u64; 25];
 
 // The table becomes these moduli, all of them lent.
 pub fn lend_all(table: &mut Moduli, moduli: [u64; 24])
-    ensures { table.new ≡ allLent moduli }
+    ensures { table.new ≡ all_lent moduli }
 {
     let mut all = [24u64; 25];
     let mut i = 0;
@@ -22,7 +22,7 @@ pub fn lend_all(table: &mut Moduli, moduli: [u64; 24])
 
 // The table at first.
 pub fn put_first(table: &mut Moduli)
-    ensures { table.new ≡ firstModuli }
+    ensures { table.new ≡ first_moduli }
 {
     lend_all(table, meters::fixed_moduli());
 }

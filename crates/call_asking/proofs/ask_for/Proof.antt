@@ -4,9 +4,9 @@ use mathlib.Core.Path.{◌≡◌, refl, ap}
 use lib.ListN.{length}
 use Rattle.bounded.specs.Rows.{Row}
 use Rattle.state.specs.State.{State}
-use Rattle.operations.specs.Operations.{opRows}
-use Rattle.validity.specs.Validity.{isFresh}
-use Rattle.refinement.specs.Calls.{quietRows}
+use Rattle.operations.specs.Operations.{op_rows}
+use Rattle.validity.specs.Validity.{is_fresh}
+use Rattle.refinement.specs.Calls.{quiet_rows}
 use Rattle.answers.specs.Answers.{number_of}
 use Rattle.answers.proofs.AskKnown.{ask-known}
 use Rattle.op_stores.proofs.Starting.{started-refused}
@@ -19,21 +19,21 @@ abbrev st : tie.Start → State
 st s = decoded s.args.words.now
 
 abbrev own : tie.Start → List Row
-own s = opRows (st s) s.args.op
+own s = op_rows (st s) s.args.op
 
 returns : tie.Need-returns
 returns c =
     let r = c.before.before in
     let s = r.before.before.before.before.before.before.before in
     let n = length s.args.image.now in
-    (started-refused (st s) s.args.image.now s.args.until (quietRows (st s) n ++ own s) _ r.ask-row.ensures c.before.if1.true (rw r.ask-row.ensures (ask-known (st s) n s.args.op)) _ c.answer-of.ensures _ _, λ k. refl)
+    (started-refused (st s) s.args.image.now s.args.until (quiet_rows (st s) n ++ own s) _ r.ask-row.ensures c.before.if1.true (rw r.ask-row.ensures (ask-known (st s) n s.args.op)) _ c.answer-of.ensures _ _, λ k. refl)
 
 ask-requires : tie.Need-ask-requires
 ask-requires c κs =
     let e = c.before.before in
     let p = e.before.before.before in
     let s = p.before.before.before.before.before in
-    may-ask-for (st s) s.args.image.now (own s) _ e.before.ask-row.ensures e.if1.false s.args.op _ _ p.before.before.sizes-in.ensures p.places-in.ensures s.requires.0 (s.requires.1 (st s).wide.writer (isFresh (st s))) (λ h. h)
+    may-ask-for (st s) s.args.image.now (own s) _ e.before.ask-row.ensures e.if1.false s.args.op _ _ p.before.before.sizes-in.ensures p.places-in.ensures s.requires.0 (s.requires.1 (st s).wide.writer (is_fresh (st s))) (λ h. h)
 
 returns-2 : tie.Need-returns-2
 returns-2 c =

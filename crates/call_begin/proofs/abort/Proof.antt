@@ -5,7 +5,7 @@ use native.Mathlib.Omega.{arith}
 use Rattle.bounded.proofs.Rows.{row_at}
 use Rattle.bounded.proofs.Tests.{held}
 use Rattle.state.specs.State.{State}
-use Rattle.refinement.specs.Calls.{abortRows, abortOf}
+use Rattle.refinement.specs.Calls.{abort_rows, abort_of}
 use Rattle.refinement.proofs.Begun.{aborting}
 use Rattle.answers.specs.declared.Answer.TheVariants.{BadState}
 use Rattle.answers.proofs.Answered.{row-known, row-refused}
@@ -17,11 +17,11 @@ abbrev st : tie.Start → State
 st c = decoded c.args.words.now
 
 returns : tie.Need-returns
-unfolding abortOf
+unfolding abort_of
 returns c =
     let t = c.before in
     let s = t.before.before.before.before.before.before in
-    let rs = abortRows (st s) s.args.writer in
+    let rs = abort_rows (st s) s.args.writer in
     let e = row_at rs 0 (omega arith) tt (sym (ap not t.state-ok.ensures) ∙ c.if1.true) in
     (row-refused (st s) (aborting (st s) s.args.writer) rs 8 e BadState (λ q. omega arith) (row-known rs refl) refl, λ n. refl)
 

@@ -10,10 +10,10 @@ use Rattle.bounded.specs.Rows.{Row, refusal, Past}
 use Rattle.bounded.proofs.Rows.{row_at, row-none, rows-first, rows_then}
 use Rattle.state.specs.State.{State}
 use Rattle.state.specs.declared.Places.{Places}
-use Rattle.state.specs.Held.{isOpen}
-use Rattle.refinement.specs.Calls.{abortRows}
+use Rattle.state.specs.Held.{is_open}
+use Rattle.refinement.specs.Calls.{abort_rows}
 use Rattle.state_words.specs.Decoded.{decoded}
-use Rattle.call_begin.specs.First.{firstRows}
+use Rattle.call_begin.specs.First.{first_rows}
 use Rattle.call_begin.proofs.CallLaws.{first_past, first-low}
 use Rattle.call_begin.proofs.abort_row.Statement.{statement}
 use Rattle.call_begin.proofs.abort_row.Tie as tie
@@ -23,16 +23,16 @@ st s = decoded s.args.words.now
 
 -- its own rows
 abbrev rows : tie.Start → List Row
-rows s = (not (isOpen (st s).writers.opened s.args.writer), 13) ∷ (eqb (st s).writers.prepared s.args.writer, 23) ∷ []
+rows s = (not (is_open (st s).writers.opened s.args.writer), 13) ∷ (eqb (st s).writers.prepared s.args.writer, 23) ∷ []
 
 abbrev start : tie.Else1 → tie.Start
 start c = c.before.before
 
 -- the first of them is the first of all
-whole : (c : tie.Else1) (r : ℕ) → r ≡ refusal (rows (start c)) → r ≡ refusal (abortRows (st (start c)) (start c).args.writer)
+whole : (c : tie.Else1) (r : ℕ) → r ≡ refusal (rows (start c)) → r ≡ refusal (abort_rows (st (start c)) (start c).args.writer)
 whole c r h =
     let s = start c in
-    rows_then (firstRows (st s) s.args.writer) (rows s) r (first_past (st s) s.args.writer _ c.before.valid-row.ensures c.if1.false) h
+    rows_then (first_rows (st s) s.args.writer) (rows s) r (first_past (st s) s.args.writer _ c.before.valid-row.ensures c.if1.false) h
 
 -- the prepared writer as it was read
 prepared : (s : tie.Start) → s.args.at.prepared ≡ (st s).writers.prepared
@@ -44,7 +44,7 @@ past1 c = (sym (ap not c.before.open_at.ensures) ∙ c.if2.false, tt)
 returns : tie.Need-returns
 returns c =
     let s = c.before.before in
-    rows-first (firstRows (st s) s.args.writer) (rows s) _ c.before.valid-row.ensures c.if1.true
+    rows-first (first_rows (st s) s.args.writer) (rows s) _ c.before.valid-row.ensures c.if1.true
 
 open-at-requires : tie.Need-open-at-requires
 open-at-requires c κs = first-low (st (start c)) (start c).args.writer _ c.before.valid-row.ensures c.if1.false

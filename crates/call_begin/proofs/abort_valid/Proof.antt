@@ -3,7 +3,7 @@ use mathlib.Core.Path.{◌≡◌, refl, sym, ap, ◌∙◌}
 use native.Mathlib.Omega.{arith}
 use Rattle.state.specs.State.{State}
 use Rattle.state.specs.declared.Places.{Places}
-use Rattle.refinement.specs.Calls.{abortRows, abortOf}
+use Rattle.refinement.specs.Calls.{abort_rows, abort_of}
 use Rattle.refinement.proofs.Begun.{AbortTaken, abort-taken, aborting}
 use Rattle.refinement.proofs.Going.{ranges-of}
 use Rattle.answers.proofs.Answered.{row-known, row-refused, row-taken}
@@ -26,11 +26,11 @@ may : (c : tie.Else1) → AbortTaken (st (start c.before)) (start c.before).args
 may c = let s = start c.before in abort-taken (st s) s.args.writer (sym c.before.abort-row.ensures ∙ c.if1.false)
 
 returns : tie.Need-returns
-unfolding abortOf
+unfolding abort_of
 returns c =
     let r = c.before.before in
     let s = start r in
-    let rs = abortRows (st s) s.args.writer in
+    let rs = abort_rows (st s) s.args.writer in
     (row-refused (st s) (aborting (st s) s.args.writer) rs _ r.abort-row.ensures _ c.before.if1.true (row-known rs refl) c.answer-of.ensures, λ n. refl)
 
 put-open-requires : tie.Need-put-open-requires
@@ -43,20 +43,20 @@ let-go-requires c κs =
     rw s.pre.0 ((ranges-of (st s) (may e).is-valid).legal, (may e).writer-low)
 
 returns-2 : tie.Need-returns-2
-unfolding abortOf
+unfolding abort_of
 returns-2 c =
     let l = c.before.before in
     let o = l.before.before in
     let e = o.before.before in
     let r = e.before in
     let s = start r in (
-      row-taken (st s) (aborting (st s) s.args.writer) (abortRows (st s) s.args.writer) _ r.abort-row.ensures _ e.if1.false
+      row-taken (st s) (aborting (st s) s.args.writer) (abort_rows (st s) s.args.writer) _ r.abort-row.ensures _ e.if1.false
           (narrow-aborted (st s) _ _ _ s.args.writer s.pre.0 o.put-open.ensures.0 l.let_go.ensures (λ q. c.if2.true (wide r ∙ q))),
       λ n. absurd (n refl),
     )
 
 returns-3 : tie.Need-returns-3
-unfolding abortOf
+unfolding abort_of
 returns-3 c =
     let i = c.before.before in
     let l = i.before.before in
@@ -64,7 +64,7 @@ returns-3 c =
     let e = o.before.before in
     let r = e.before in
     let s = start r in (
-      row-taken (st s) (aborting (st s) s.args.writer) (abortRows (st s) s.args.writer) _ r.abort-row.ensures _ e.if1.false
+      row-taken (st s) (aborting (st s) s.args.writer) (abort_rows (st s) s.args.writer) _ r.abort-row.ensures _ e.if1.false
           (wide-aborted (st s) _ _ _ s.args.writer s.pre.0 o.put-open.ensures.0 l.let_go.ensures _ (sym (wide r) ∙ i.if2.false) c.put-no-wide.ensures),
       λ n. absurd (n refl),
     )

@@ -5,14 +5,14 @@ use native.Mathlib.Omega.{arith}
 use Rattle.bounded.proofs.Rows.{row_at}
 use Rattle.bounded.proofs.Tests.{held}
 use Rattle.state_words.specs.Decoded.{decoded}
-use Rattle.call_begin.specs.First.{firstRows}
+use Rattle.call_begin.specs.First.{first_rows}
 use Rattle.call_begin.proofs.first_row.Statement.{statement}
 use Rattle.call_begin.proofs.first_row.Tie as tie
 
 returns : tie.Need-returns
 returns c =
     let s = c.before.before in
-    row_at (firstRows (decoded s.args.words.now) s.args.writer) 0 (omega arith) tt (sym (ap not c.before.state-ok.ensures) ∙ c.if1.true)
+    row_at (first_rows (decoded s.args.words.now) s.args.writer) 0 (omega arith) tt (sym (ap not c.before.state-ok.ensures) ∙ c.if1.true)
 
 valid-row-requires : tie.Need-valid-row-requires
 valid-row-requires c κs = held _ _ c.before.state-ok.ensures c.if1.false

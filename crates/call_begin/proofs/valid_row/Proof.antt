@@ -7,12 +7,12 @@ use borrow.Author.Tests.{lt-ltb, le-ltb}
 use Rattle.bounded.specs.Rows.{Row, Past}
 use Rattle.bounded.proofs.Rows.{row_at, row-none}
 use Rattle.state_words.specs.Decoded.{decoded}
-use Rattle.call_begin.specs.First.{firstRows}
+use Rattle.call_begin.specs.First.{first_rows}
 use Rattle.call_begin.proofs.valid_row.Statement.{statement}
 use Rattle.call_begin.proofs.valid_row.Tie as tie
 
 abbrev rows : tie.Start → List Row
-rows s = firstRows (decoded s.args.words.now) s.args.writer
+rows s = first_rows (decoded s.args.words.now) s.args.writer
 
 past1 : (s : tie.Start) → Past (rows s) 1
 past1 s = (ap not s.requires, tt)

@@ -9,10 +9,10 @@ use Rattle.bounded.specs.Rows.{Row, refusal, Past}
 use Rattle.bounded.proofs.Rows.{row_at, row-none, rows-first, rows_then}
 use Rattle.layout.specs.declared.Sizes.{Sizes}
 use Rattle.state.specs.State.{State}
-use Rattle.state.specs.Wide.{someOpen}
-use Rattle.refinement.specs.Calls.{beginWideRows}
+use Rattle.state.specs.Wide.{some_open}
+use Rattle.refinement.specs.Calls.{begin_wide_rows}
 use Rattle.state_words.specs.Decoded.{decoded}
-use Rattle.call_begin.specs.First.{firstRows}
+use Rattle.call_begin.specs.First.{first_rows}
 use Rattle.call_begin.proofs.CallLaws.{first_past}
 use Rattle.call_begin.proofs.wide_row.Statement.{statement}
 use Rattle.call_begin.proofs.wide_row.Tie as tie
@@ -22,16 +22,16 @@ st s = decoded s.args.words.now
 
 -- its own rows
 abbrev rows : tie.Start → List Row
-rows s = (eqb (st s).sizes.entries 0, 28) ∷ (someOpen (st s).writers.opened, 29) ∷ []
+rows s = (eqb (st s).sizes.entries 0, 28) ∷ (some_open (st s).writers.opened, 29) ∷ []
 
 abbrev start : tie.Else1 → tie.Start
 start c = c.before.before.before.before
 
 -- the first of them is the first of all
-whole : (c : tie.Else1) (r : ℕ) → r ≡ refusal (rows (start c)) → r ≡ refusal (beginWideRows (st (start c)) (start c).args.writer)
+whole : (c : tie.Else1) (r : ℕ) → r ≡ refusal (rows (start c)) → r ≡ refusal (begin_wide_rows (st (start c)) (start c).args.writer)
 whole c r h =
     let s = start c in
-    rows_then (firstRows (st s) s.args.writer) (rows s) r (first_past (st s) s.args.writer _ c.before.first-row.ensures c.if1.false) h
+    rows_then (first_rows (st s) s.args.writer) (rows s) r (first_past (st s) s.args.writer _ c.before.first-row.ensures c.if1.false) h
 
 -- how many entries there are, as it was read
 entries : (c : tie.Else1) → c.before.before.before.sizes-in.result.entries ≡ (st (start c)).sizes.entries
@@ -43,7 +43,7 @@ past1 c = (ne_eqb _ _ (λ q. c.if2.false (entries c.before.before ∙ q)), tt)
 returns : tie.Need-returns
 returns c =
     let s = c.before.before.before.before in
-    rows-first (firstRows (st s) s.args.writer) (rows s) _ c.before.first-row.ensures c.if1.true
+    rows-first (first_rows (st s) s.args.writer) (rows s) _ c.before.first-row.ensures c.if1.true
 
 returns-2 : tie.Need-returns-2
 returns-2 c = let e = c.before.before in whole e _ (row_at (rows (start e)) 0 (omega arith) tt (eq-eqb _ _ (sym (entries e) ∙ c.if2.true)))

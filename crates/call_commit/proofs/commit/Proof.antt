@@ -5,7 +5,7 @@ use native.Mathlib.Omega.{arith}
 use Rattle.bounded.proofs.Rows.{row_at}
 use Rattle.bounded.proofs.Tests.{held}
 use Rattle.state.specs.State.{State}
-use Rattle.refinement.specs.Calls.{commitCallRows}
+use Rattle.refinement.specs.Calls.{commit_call_rows}
 use Rattle.answers.specs.declared.Answer.TheVariants.{BadState}
 use Rattle.state_words.specs.Decoded.{decoded}
 use Rattle.call_commit.proofs.Calls.{refused}
@@ -19,7 +19,7 @@ returns : tie.Need-returns
 returns c =
     let t = c.before in
     let s = t.before.before.before.before.before.before.before in
-    let e = row_at (commitCallRows (st s) s.args.image.now s.args.writer) 0 (omega arith) tt (sym (ap not t.state-ok.ensures) ∙ c.if1.true) in
+    let e = row_at (commit_call_rows (st s) s.args.image.now s.args.writer) 0 (omega arith) tt (sym (ap not t.state-ok.ensures) ∙ c.if1.true) in
     (refused (st s) s.args.image.now s.args.writer 8 e s.args.until (λ q. omega arith) BadState refl, λ n. refl)
 
 commit-valid-requires : tie.Need-commit-valid-requires

@@ -6,10 +6,10 @@ use lib.ListN.{replicate}
 use Rattle.state.specs.State.{State}
 use Rattle.state.specs.declared.Op.TheVariants.{Commit}
 use Rattle.state.proofs.Numbers.{held-le}
-use Rattle.operations.specs.Operations.{rules as needsOf}
+use Rattle.operations.specs.Operations.{rules as needs_of}
 use Rattle.answers.specs.declared.Answer.TheVariants.{Taken}
 use Rattle.state_words.specs.Decoded.{decoded}
-use Rattle.op_stores.proofs.Allowing.{withoutLines}
+use Rattle.op_stores.proofs.Allowing.{without_lines}
 use Rattle.op_stores.proofs.Starting.{put-valid, started-done}
 use Rattle.call_commit.proofs.Committing.{commit-counted, counts, completes, asks, goes_on, went}
 use Rattle.call_commit.proofs.commit_narrow.Statement.{statement}
@@ -27,7 +27,7 @@ commit-needs-requires c κs =
     omega (arith, held-le _ _ _ _ c.held-count.ensures, (counts s.args.z s.args.at (st s) s.args.w s.requires.0).0)
 
 -- the stores as they were counted
-all : (c : tie.After-commit-needs) → let s = c.before.before.before.before in c.commit-needs.result ≡ needsOf (st s) (Commit s.args.w)
+all : (c : tie.After-commit-needs) → let s = c.before.before.before.before in c.commit-needs.result ≡ needs_of (st s) (Commit s.args.w)
 all c =
     let s = c.before.before.before.before in
     commit-counted s.args.z (st s) s.args.w _ _ s.requires.0.sizes c.before.held-count.ensures c.commit-needs.ensures
@@ -39,7 +39,7 @@ returns : tie.Need-returns
 returns c =
     let n = c.before.before.before in
     let s = n.before.before.before.before in
-    let none : needsOf (st s) (Commit s.args.w) ≡ 0 = sym (all n) ∙ c.before.before.if1.true in
+    let none : needs_of (st s) (Commit s.args.w) ≡ 0 = sym (all n) ∙ c.before.before.if1.true in
     (ap Taken (sym none), started-done (st s) s.args.image.now s.args.until [] 0 refl refl (Commit s.args.w) (replicate 8 0) none (Taken 0) _ refl c.complete-commit.ensures)
 
 put-pending-requires : tie.Need-put-pending-requires
@@ -47,7 +47,7 @@ put-pending-requires c κs =
     let n = c.before.before in
     let s = n.before.before.before.before in
     let h = s.requires.0 in
-    (refl, h.idle, put-valid s.args.z s.args.at (st s) s.args.image.now (withoutLines s.args.z s.args.at (st s) (Commit s.args.w) h) (asks s.args.z s.args.at (st s) s.args.w s.requires.0 s.args.image.now s.requires.1 _ _ n.before.held-count.ensures (all n) c.before.if1.false))
+    (refl, h.idle, put-valid s.args.z s.args.at (st s) s.args.image.now (without_lines s.args.z s.args.at (st s) (Commit s.args.w) h) (asks s.args.z s.args.at (st s) s.args.w s.requires.0 s.args.image.now s.requires.1 _ _ n.before.held-count.ensures (all n) c.before.if1.false))
 
 go-on-requires : tie.Need-go-on-requires
 go-on-requires c κs =

@@ -4,7 +4,7 @@ use native.Mathlib.Omega.{arith}
 use lib.ListN.{length}
 use Rattle.bounded.proofs.Below.{up_none, up_ends}
 use Rattle.state.specs.State.{State}
-use Rattle.refinement.specs.Stores.{storeAt, storeValue, storesMade}
+use Rattle.refinement.specs.Stores.{store_at, store_value, stores_made}
 use Rattle.op_pieces.proofs.Turns.{piece-turn}
 use Rattle.state_words.specs.Decoded.{decoded}
 use Rattle.call_commit.proofs.Committing.{piece-leans, piece-next, all-needs}
@@ -13,7 +13,7 @@ use Rattle.call_commit.proofs.store_commit.Statement.{statement}
 use Rattle.call_commit.proofs.store_commit.Tie as tie
 
 abbrev invariant-loop : tie.invariant-loop
-invariant-loop image₀ z at words w c n i₀ image i = (i ≤ n) × (length image ≡ length image₀) × (image ≡ storesMade (decoded words) i image₀)
+invariant-loop image₀ z at words w c n i₀ image i = (i ≤ n) × (length image ≡ length image₀) × (image ≡ stores_made (decoded words) i image₀)
 
 abbrev decreases-loop : tie.decreases-loop
 decreases-loop image₀ z at words w c n i₀ image i = n - i
@@ -65,7 +65,7 @@ loop-again c =
     let m = c.before.before.before.before.smaller.ensures in (
       omega (arith, m, c.before.before.before.before.before.before.before.loop-test.true),
       search rules,
-      piece-turn (λ u. storeAt (st s) (st s).pending.op) (λ u. storeValue (st s) u (st s).pending.op) (st s).pending.made l.i _ _ _ s.args.image.now l.image _ l.invariant.2
+      piece-turn (λ u. store_at (st s) (st s).pending.op) (λ u. store_value (st s) u (st s).pending.op) (st s).pending.made l.i _ _ _ s.args.image.now l.image _ l.invariant.2
           (piece-next s.args.z s.args.at (st s) s.args.w s.args.c s.requires.0 l.i l.image _ (omega (arith, s.requires.2, l.invariant.1)) h)
           (omega (arith, h.some, m)) c.before.before.put-piece.ensures,
     )

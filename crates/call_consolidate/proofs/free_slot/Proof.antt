@@ -5,7 +5,7 @@ use native.Mathlib.Omega.{arith}
 use Rattle.bounded.proofs.Rows.{row_at}
 use Rattle.bounded.proofs.Tests.{held}
 use Rattle.state.specs.State.{State}
-use Rattle.refinement.specs.Calls.{freeCallRows, freeOf}
+use Rattle.refinement.specs.Calls.{free_call_rows, free_of}
 use Rattle.answers.specs.declared.Answer.TheVariants.{BadState}
 use Rattle.op_stores.proofs.Starting.{started-refused}
 use Rattle.state_words.specs.Decoded.{decoded}
@@ -16,11 +16,11 @@ abbrev st : tie.Start → State
 st s = decoded s.args.words.now
 
 returns : tie.Need-returns
-unfolding freeOf
+unfolding free_of
 returns c =
     let t = c.before in
     let s = t.before.before.before.before.before.before.before in
-    let rs = freeCallRows (st s) s.args.image.now in
+    let rs = free_call_rows (st s) s.args.image.now in
     let e = row_at rs 0 (omega arith) tt (sym (ap not t.state-ok.ensures) ∙ c.if1.true) in
     (started-refused (st s) s.args.image.now s.args.until rs 8 e (λ q. omega arith) refl BadState refl _ _, λ n. refl)
 

@@ -3,7 +3,7 @@ use mathlib.Core.Path.{◌≡◌, refl, ap}
 use native.Mathlib.Omega.{arith}
 use lib.ListN.{length}
 use Rattle.state.specs.State.{State}
-use Rattle.refinement.specs.Calls.{freeCallRows, freeOf}
+use Rattle.refinement.specs.Calls.{free_call_rows, free_of}
 use Rattle.answers.specs.Answers.{number_of}
 use Rattle.answers.proofs.Answered.{row-known}
 use Rattle.asked.proofs.Rows.{first-ranges}
@@ -18,12 +18,12 @@ abbrev st : tie.Start → State
 st s = decoded s.args.words.now
 
 returns : tie.Need-returns
-unfolding freeOf
+unfolding free_of
 returns c =
     let r = c.before.before in
     let s = r.before.before.before in
     let e = first-row _ _ (st s) s.args.image.now s.requires.0 s.requires.1 _ r.valid-row.ensures c.before.if1.true in
-    (started-refused (st s) s.args.image.now s.args.until (freeCallRows (st s) s.args.image.now) _ e c.before.if1.true (rw e (row-known (freeCallRows (st s) s.args.image.now) refl)) _ c.answer-of.ensures _ _, λ n. refl)
+    (started-refused (st s) s.args.image.now s.args.until (free_call_rows (st s) s.args.image.now) _ e c.before.if1.true (rw e (row-known (free_call_rows (st s) s.args.image.now) refl)) _ c.answer-of.ensures _ _, λ n. refl)
 
 -- the sizes and places as they were read are right
 right : (c : tie.Else1) → let s = c.before.before.before.before in Low s.args.z s.args.at
@@ -39,13 +39,13 @@ free-row-requires : tie.Need-free-row-requires
 free-row-requires c κs = right c.before.before
 
 returns-2 : tie.Need-returns-2
-unfolding freeOf
+unfolding free_of
 returns-2 c =
     let f = c.before.before in
     let o = f.before.before.before in
     let s = o.before.before.before.before in
     let e = next_row _ _ (st s) s.args.image.now s.requires.0 s.requires.1 _ o.before.valid-row.ensures o.if1.false _ _ f.before.slot-to-free.ensures f.free-row.ensures in
-    (started-refused (st s) s.args.image.now s.args.until (freeCallRows (st s) s.args.image.now) _ e c.before.if2.true (rw e (row-known (freeCallRows (st s) s.args.image.now) refl)) _ c.answer-of2.ensures _ _, λ n. refl)
+    (started-refused (st s) s.args.image.now s.args.until (free_call_rows (st s) s.args.image.now) _ e c.before.if2.true (rw e (row-known (free_call_rows (st s) s.args.image.now) refl)) _ c.answer-of2.ensures _ _, λ n. refl)
 
 page-at-requires : tie.Need-page-at-requires
 page-at-requires c κs =

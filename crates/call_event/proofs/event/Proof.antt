@@ -2,12 +2,12 @@ use borrow.Author.Rules.{rules}
 use Prim.Native.Nat.{ℕ}
 use mathlib.Core.Path.{◌≡◌, refl, sym, ap, ◌∙◌}
 use native.Mathlib.Omega.{arith}
-use Rattle.meters.specs.Meters.{amountBad}
+use Rattle.meters.specs.Meters.{amount_bad}
 use Rattle.meters.proofs.MeterLaws.{first-low}
 use Rattle.state.specs.State.{State}
 use Rattle.state.specs.declared.Pending.{Pending}
 use Rattle.state.specs.declared.Op.TheVariants.{Event}
-use Rattle.refinement.specs.Calls.{eventLine, eventSecond}
+use Rattle.refinement.specs.Calls.{event_line, event_second}
 use Rattle.answers.specs.Answers.{number_of}
 use Rattle.call_event.proofs.Asked.{event-pending, asked-facts}
 use Rattle.state_words.specs.Decoded.{decoded}
@@ -30,7 +30,7 @@ first-number-requires c κs =
     let f = c.before.before.event-found.ensures in
     let z = c.if1.false in
     let q = asked-facts (st c.before.before.before.before.before.before.before.before.before.before.before) a.image.now a.moduli.now a.kind a.meter a.amount (sym f.0 ∙ z) in
-    (q.3, q.1.known, ap (λ (x : ℕ). amountBad a.moduli.now a.kind a.meter x a.amount) (f.1 z).2 ∙ q.2)
+    (q.3, q.1.known, ap (λ (x : ℕ). amount_bad a.moduli.now a.kind a.meter x a.amount) (f.1 z).2 ∙ q.2)
 
 numbered-line-requires : tie.Need-numbered-line-requires
 numbered-line-requires c κs =
@@ -55,7 +55,7 @@ second-line-requires c κs =
 -- what is then pending is the definition's
 pending : (c : tie.After-second-line) → let s = c.before.before.before.before.before.before.before.before.before.before.before.before.before.before.before.before.before in let a = s.args in
     ◌≡◌ {A = Pending} (record { op = Event a.kind a.meter a.amount; made = 0; line = c.before.before.numbered-line.result; second = c.second-line.result })
-    (record { op = Event a.kind a.meter a.amount; made = 0; line = eventLine (st s) a.image.now a.moduli.now a.kind a.meter a.amount; second = eventSecond (st s) a.image.now a.moduli.now a.kind a.meter a.amount })
+    (record { op = Event a.kind a.meter a.amount; made = 0; line = event_line (st s) a.image.now a.moduli.now a.kind a.meter a.amount; second = event_second (st s) a.image.now a.moduli.now a.kind a.meter a.amount })
 pending c =
     let s = c.before.before.before.before.before.before.before.before.before.before.before.before.before.before.before.before.before in
     let a = s.args in

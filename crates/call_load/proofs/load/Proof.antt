@@ -4,19 +4,19 @@ use Prim.Native.Nat.{ℕ, ◌<◌, ◌≤◌}
 use mathlib.Core.Path.{◌≡◌, refl, sym, ap, subst, ◌∙◌}
 use native.Mathlib.Omega.{arith}
 use lib.ListN.{length}
-use Rattle.bounded.specs.Below.{someBelow}
+use Rattle.bounded.specs.Below.{some_below}
 use Rattle.layout.specs.declared.Sizes.{Sizes}
-use Rattle.layout.specs.Layout.{Legal, frames, imageLength}
-use Rattle.state.specs.State.{State, ownFrame}
+use Rattle.layout.specs.Layout.{Legal, frames, image_length}
+use Rattle.state.specs.State.{State, own_frame}
 use Rattle.moduli_text.proofs.TextLaws.{read-row, read_taken}
-use Rattle.refinement.specs.Calls.{quietRows}
+use Rattle.refinement.specs.Calls.{quiet_rows}
 use Rattle.refinement.proofs.Going.{ranges-of}
 use Rattle.refinement.proofs.Quiet.{Quiet, quiet}
 use Rattle.refinement.proofs.Valid.{copy-low}
 use Rattle.refinement.specs.Frames.{frame_of}
-use Rattle.moduli_text.specs.Text.{textRow, moduliIn}
+use Rattle.moduli_text.specs.Text.{text_row, moduli_in}
 use Rattle.answers.proofs.Answered.{row-known}
-use Rattle.call_load.specs.Loaded.{meterHigh}
+use Rattle.call_load.specs.Loaded.{meter_high}
 use Rattle.call_load.proofs.Loads.{text-low, row-quiet, row-text, row-high, row_low, load-refused, load-taken}
 use Rattle.state_words.specs.Decoded.{decoded}
 use Rattle.call_load.proofs.load.Statement.{statement}
@@ -36,7 +36,7 @@ quiet1 : (c : tie.Else1) → let s = start c.before in Quiet (st s) (length s.ar
 quiet1 c = let s = start c.before in quiet (st s) (length s.args.image.now) _ c.before.quiet_row.ensures c.if1.false
 
 refused-requires : tie.Need-refused-requires
-refused-requires c κs = let s = start c.before in rw c.before.quiet_row.ensures (row-known (quietRows (st s) (length s.args.image.now)) refl)
+refused-requires c κs = let s = start c.before in rw c.before.quiet_row.ensures (row-known (quiet_rows (st s) (length s.args.image.now)) refl)
 
 returns : tie.Need-returns
 returns c =
@@ -67,14 +67,14 @@ module _ (c : tie.After-is-high) where
   abbrev from : tie.Start
   from = start quiet-past.before
 
-  text-none : 0 ≡ textRow from.args.text.now
+  text-none : 0 ≡ text_row from.args.text.now
   text-none = sym past.if2.left ∙ read-row from.args.text.now _ past.before.read-moduli.ensures
 
-  moduli : past.before.read-moduli.result.moduli ≡ moduliIn from.args.text.now
+  moduli : past.before.read-moduli.result.moduli ≡ moduli_in from.args.text.now
   moduli = read_taken from.args.text.now _ past.before.read-moduli.ensures past.if2.left
 
-  high : c.is-high.result ≡ someBelow 24 (meterHigh (st from).sizes from.args.image.now (st from) past.before.read-moduli.result.moduli)
-  high = c.is-high.ensures ∙ ap (λ (z : Sizes). someBelow 24 (meterHigh z from.args.image.now (st from) past.before.read-moduli.result.moduli)) (sizes quiet-past.before)
+  high : c.is-high.result ≡ some_below 24 (meter_high (st from).sizes from.args.image.now (st from) past.before.read-moduli.result.moduli)
+  high = c.is-high.ensures ∙ ap (λ (z : Sizes). some_below 24 (meter_high z from.args.image.now (st from) past.before.read-moduli.result.moduli)) (sizes quiet-past.before)
 
 is-high-requires : tie.Need-is-high-requires
 is-high-requires c κs =
@@ -82,7 +82,7 @@ is-high-requires c κs =
     let s = start e.before in
     let q = quiet1 e in
     let g = (ranges-of (st s) q.ok).legal in
-    subst (λ (z : Sizes). Legal z × (imageLength z ≤ length s.args.image.now) × ((l : ℕ) → frame_of (ownFrame (st s)) z (st s).table 0 l < frames z)) (sym (sizes e.before))
+    subst (λ (z : Sizes). Legal z × (image_length z ≤ length s.args.image.now) × ((l : ℕ) → frame_of (own_frame (st s)) z (st s).table 0 l < frames z)) (sym (sizes e.before))
     (g, q.long, λ l. copy-low (st s) q.ok 0 l (omega (arith, g.pages-low)))
 
 refused-requires-3 : tie.Need-refused-requires-3

@@ -2,7 +2,7 @@ use borrow.Author.Rules.{rules}
 use mathlib.Core.Path.{◌≡◌, refl, sym, ap, ◌∙◌}
 use lib.ListN.{replicate}
 use Rattle.replay.specs.declared.Table.{Table}
-use Rattle.refinement.specs.Mount.{quietState, freshState}
+use Rattle.refinement.specs.Mount.{quiet_state, fresh_state}
 use Rattle.answers.specs.Answers.{number_of}
 use Rattle.state_words.specs.Decoded.{decoded}
 use Rattle.call_mount.proofs.Found.{format-legal}
@@ -33,7 +33,7 @@ put-own-requires c κs =
     format-legal s.args.z s.args.image.now _ f.format-row.ensures t.if1.false
 
 -- the words with the fresh state
-fresh : (c : tie.After-put-own) → decoded c.put-own.new.0 ≡ freshState c.before.before.before.before.before.before.before.before.before.args.z
+fresh : (c : tie.After-put-own) → decoded c.put-own.new.0 ≡ fresh_state c.before.before.before.before.before.before.before.before.before.args.z
 fresh c =
     let q = c.before.before in
     let b = q.before in
@@ -41,7 +41,7 @@ fresh c =
     let f = t.before in
     let s = f.before.before.before in
     fresh-filled s.args.z s.args.image.now _ f.format-row.ensures t.if1.false _ _
-    (q.put-quiet.ensures ∙ ap (λ (u : Table). quietState s.args.z 0 0 u (replicate 1024 0)) b.fresh-table.ensures) c.put-own.ensures
+    (q.put-quiet.ensures ∙ ap (λ (u : Table). quiet_state s.args.z 0 0 u (replicate 1024 0)) b.fresh-table.ensures) c.put-own.ensures
 
 ask-requires : tie.Need-ask-requires
 ask-requires c κs =

@@ -10,15 +10,15 @@ use lib.ListN.{length}
 use Rattle.bounded.specs.Rows.{Row, refusal, Past}
 use Rattle.bounded.proofs.Rows.{row_at, row-none, rows-first}
 use Rattle.layout.specs.declared.Sizes.{Sizes}
-use Rattle.layout.specs.Layout.{Legal, frames as framesOf, imageLength}
-use Rattle.image.specs.Lines.{lineBytes}
+use Rattle.layout.specs.Layout.{Legal, frames as frames_of, image_length}
+use Rattle.image.specs.Lines.{line_bytes}
 use Rattle.words.specs.Words.{over}
 use Rattle.state.specs.State.{State}
 use Rattle.state.specs.declared.Places.{Places}
-use Rattle.entry_lines.specs.Own.{ownEntry}
-use Rattle.refinement.specs.Wide.{entryBytes}
-use Rattle.refinement.specs.Frames.{seenFrame}
-use Rattle.refinement.specs.Calls.{quietRows, readRows}
+use Rattle.entry_lines.specs.Own.{own_entry}
+use Rattle.refinement.specs.Wide.{entry_bytes}
+use Rattle.refinement.specs.Frames.{seen_frame}
+use Rattle.refinement.specs.Calls.{quiet_rows, read_rows}
 use Rattle.refinement.proofs.SeenFrames.{seen_low}
 use Rattle.refinement.proofs.Going.{shapes-of}
 use Rattle.refinement.proofs.StateValid.{valid}
@@ -35,7 +35,7 @@ abbrev st : tie.Start → State
 st s = decoded s.args.words.now
 
 abbrev rows : tie.Start → List Row
-rows s = readRows (st s) s.args.image.now s.args.writer s.args.page s.args.line s.args.target.now
+rows s = read_rows (st s) s.args.image.now s.args.writer s.args.page s.args.line s.args.target.now
 
 -- row 11
 abbrev bad : tie.Start → Bool
@@ -61,8 +61,8 @@ quiet1 c = quiet (st (start1 c)) (length (start1 c).args.image.now) _ c.before.q
 legal1 : (c : tie.Else1) → Legal c.before.before.before.sizes-in.result
 legal1 c = rw (sizes c) (valid (st (start1 c)) (quiet1 c).ok).legal
 
-long1 : (c : tie.Else1) → imageLength c.before.before.before.sizes-in.result ≤ length (start1 c).args.image.now
-long1 c = subst (λ (z : Sizes). imageLength z ≤ length (start1 c).args.image.now) (sym (sizes c)) (quiet1 c).long
+long1 : (c : tie.Else1) → image_length c.before.before.before.sizes-in.result ≤ length (start1 c).args.image.now
+long1 c = subst (λ (z : Sizes). image_length z ≤ length (start1 c).args.image.now) (sym (sizes c)) (quiet1 c).long
 
 past1 : (c : tie.Else2) → bad (start2 c) ≡ false
 past1 c = rw (sizes c.before.before) at c.if2.false
@@ -77,7 +77,7 @@ none2 : (c : tie.Else2) → 0 ≡ refusal (rows (start2 c))
 none2 c = row-none (rows (start2 c)) (past2 c)
 
 -- the entry as it was found
-own3 : (c : tie.After-own-entry) → let s = start2 c.before in c.own-entry.result ≡ ownEntry (st s).wide s.args.writer s.args.page s.args.line
+own3 : (c : tie.After-own-entry) → let s = start2 c.before in c.own-entry.result ≡ own_entry (st s).wide s.args.writer s.args.page s.args.line
 own3 c =
     let s = start2 c.before in
     own-found (st s) _ s.args.writer s.args.page s.args.line _ c.before.before.before.before.before.places-in.ensures c.own-entry.ensures
@@ -87,7 +87,7 @@ abbrev asked4 : tie.After-slot-of → tie.Else2
 asked4 c = c.before.before.before.before
 
 -- the frame that the writer sees
-seen4 : (c : tie.After-seen-frame) → let s = start2 (asked4 c.before) in c.seen-frame.result ≡ seenFrame (st s) s.args.writer s.args.page s.args.line
+seen4 : (c : tie.After-seen-frame) → let s = start2 (asked4 c.before) in c.seen-frame.result ≡ seen_frame (st s) s.args.writer s.args.page s.args.line
 seen4 c =
     let e = asked4 c.before in
     let s = start2 e in
@@ -97,7 +97,7 @@ returns : tie.Need-returns
 returns c =
     let s = c.before.before.before.before.before.before.before in
     let a = s.args in
-    let first = quietRows (st s) (length a.image.now) in
+    let first = quiet_rows (st s) (length a.image.now) in
     read-refused (st s) a.image.now a.writer a.page a.line a.target.now c.answer-of.result _ c.answer-of.ensures
     (rw c.before.before.quiet_row.ensures (row-known first refl)) c.before.if1.true
     (rows-first first ((bad s, 11) ∷ []) _ c.before.before.quiet_row.ensures c.before.if1.true)
@@ -137,7 +137,7 @@ returns-3 c =
     let a = s.args in
     read_done (st s) a.image.now a.writer a.page a.line a.target.now _ _ (none2 e)
     (own_line (st s) a.image.now a.writer a.page a.line a.target.now o.own-entry.result (own3 o) (omega (arith, t.if3.true, count f)))
-    (c.before.before.read-entry.ensures ∙ ap (λ (z : Sizes). over a.target.now 0 (entryBytes a.image.now z o.own-entry.result)) (sizes f))
+    (c.before.before.read-entry.ensures ∙ ap (λ (z : Sizes). over a.target.now 0 (entry_bytes a.image.now z o.own-entry.result)) (sizes f))
 
 slot-of-requires : tie.Need-slot-of-requires
 slot-of-requires c κs = legal1 c.before.before.before.before.before
@@ -160,7 +160,7 @@ read-line-requires c κs =
     let g = (valid (st s) q.ok).legal in
     let low = seen_low (st s) s.args.writer s.args.page s.args.line g a.page-low (shapes-of (st s) q.ok) (map-low (st s) q.ok s.args.page a.page-low) in (
       legal1 f,
-      subst (λ (z : Sizes). n.seen-frame.result < framesOf z) (sym (sizes f)) (subst (λ (k : ℕ). k < framesOf (st s).sizes) (sym (seen4 n)) low),
+      subst (λ (z : Sizes). n.seen-frame.result < frames_of z) (sym (sizes f)) (subst (λ (k : ℕ). k < frames_of (st s).sizes) (sym (seen4 n)) low),
       a.line_low,
       long1 f,
       a.target-long,
@@ -176,9 +176,9 @@ returns-4 c =
     let s = start2 e in
     let a = s.args in
     read_done (st s) a.image.now a.writer a.page a.line a.target.now _ _ (none2 e)
-    (ap (λ (k : ℕ). lineBytes a.image.now (st s).sizes k a.line) (seen4 n)
+    (ap (λ (k : ℕ). line_bytes a.image.now (st s).sizes k a.line) (seen4 n)
     ∙ frame-line (st s) a.image.now a.writer a.page a.line a.target.now o.own-entry.result (own3 o) (omega (arith, i.if3.false, count f)))
-    (c.before.before.read-line.ensures ∙ ap (λ (z : Sizes). over a.target.now 0 (lineBytes a.image.now z n.seen-frame.result a.line)) (sizes f))
+    (c.before.before.read-line.ensures ∙ ap (λ (z : Sizes). over a.target.now 0 (line_bytes a.image.now z n.seen-frame.result a.line)) (sizes f))
 
 pub read_spec : {M : Type 1} → statement M
 read_spec =

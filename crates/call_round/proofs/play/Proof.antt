@@ -2,9 +2,9 @@ use Rattle.std.proofs.Common.{◌≡◌, true, not, sym, refl, ap, ◌∙◌, ar
 use Rattle.bounded.specs.Rows.{refusal}
 use Rattle.bounded.proofs.Rows.{row_at}
 use Rattle.bounded.proofs.Tests.{held}
-use Rattle.validity.specs.Validity.{stateOk}
+use Rattle.validity.specs.Validity.{state_ok}
 use Rattle.refinement.specs.Stores.{World}
-use Rattle.refinement.specs.Calls.{worldOf, withWriters, beginRows, beginOf}
+use Rattle.refinement.specs.Calls.{world_of, with_writers, begin_rows, begin_of}
 use Rattle.refinement.specs.Run.{begin, exec}
 use Rattle.refinement.proofs.Begun.{opening}
 use Rattle.answers.specs.declared.Answer.TheVariants.{BadState}
@@ -21,27 +21,27 @@ use Rattle.call_round.proofs.play.Tie as tie
 
 -- the world at first
 abbrev first : tie.Start → World
-first s = worldOf (decoded s.args.words.now) s.args.image.now
+first s = world_of (decoded s.args.words.now) s.args.image.now
 
 abbrev tested : tie.After-state-ok → tie.Start
 tested t = t.before.before.before.before.before.before.before.before.before
 
-ok : (c : tie.Else1) → stateOk (first (tested c.before)).st ≡ true
+ok : (c : tie.Else1) → state_ok (first (tested c.before)).st ≡ true
 ok c = held _ _ c.before.state-ok.ensures c.if1.false
 
 abbrev started : tie.After-begin-made → tie.Else1
 started b = b.before.before.before.before
 
 returns : tie.Need-returns
-unfolding exec beginOf
+unfolding exec begin_of
 returns c =
     let s = tested c.before in
     let a = s.args in
     let st = decoded a.words.now in
     let w = begin a.writer in
-    let rs = beginRows st a.writer in
+    let rs = begin_rows st a.writer in
     let e = row_at rs 0 (omega arith) tt (sym (ap not c.before.state-ok.ensures) ∙ c.if1.true) in
-    let refused = row-refused st (withWriters st (opening st a.writer)) rs 8 e BadState (λ q. omega arith) (row-known rs refl) refl in
+    let refused = row-refused st (with_writers st (opening st a.writer)) rs 8 e BadState (λ q. omega arith) (row-known rs refl) refl in
     let none : Round = record { number = 0; call = 0; stores = 0 } in
     let eight : Round = record { number = 8; call = 0; stores = 0 } in
     let f = finishes-at-once _ a.image.now (no_stores (refusal rs)) w a.words.now refl BadState a.words.now refused in

@@ -2,7 +2,7 @@
 use Rattle.std.proofs.Common.{◌≡◌, ℕ, ◌+◌, ◌-◌, ◌*◌, ◌^◌, ◌<◌, ◌≤◌, length, get_or, drop, sym, refl, ap, ◌∙◌, arith, rules}
 use Rattle.refinement.specs.Run.{write}
 use Rattle.call_round.specs.Kept.{FineAt}
-use Rattle.call_round.specs.Round.{Played, playedOf, next, put, put_all}
+use Rattle.call_round.specs.Round.{Played, played_of, next, put, put_all}
 use Rattle.call_round.proofs.Playing.{put-call, rest-is, passed_over, all_more, all-stop, all_end}
 use Rattle.call_round.proofs.put_all.Statement.{statement}
 use Rattle.call_round.proofs.put_all.Tie as tie
@@ -14,7 +14,7 @@ invariant-loop image₀ words₀ writer writes bytes room t₀ k₀ at₀ image 
     × (length image ≡ length image₀)
     × (4 * t.call ≤ k)
     × FineAt words image
-    × (put_all room writer (drop k writes) (drop at bytes) (playedOf t words image) ≡ put_all room writer writes bytes (playedOf t₀ words₀ image₀))
+    × (put_all room writer (drop k writes) (drop at bytes) (played_of t words image) ≡ put_all room writer writes bytes (played_of t₀ words₀ image₀))
 
 abbrev decreases-loop : tie.decreases-loop
 decreases-loop image₀ words₀ writer writes bytes room t₀ k₀ at₀ image words t k at = length writes - k

@@ -10,13 +10,13 @@ use Rattle.bounded.specs.Rows.{Row, Past, refusal}
 use Rattle.bounded.proofs.Rows.{row_at, row-none, rows-first, rows_then}
 use Rattle.layout.specs.declared.Sizes.{Sizes}
 use Rattle.layout.specs.Layout.{Legal}
-use Rattle.journal.specs.Records.{liveCount}
+use Rattle.journal.specs.Records.{live_count}
 use Rattle.state.specs.State.{State}
 use Rattle.state.specs.declared.Places.{Places}
-use Rattle.state.specs.Held.{heldSlots}
+use Rattle.state.specs.Held.{held_slots}
 use Rattle.state.proofs.Numbers.{held-le}
-use Rattle.operations.specs.Operations.{commitRows}
-use Rattle.refinement.specs.Calls.{quietRows}
+use Rattle.operations.specs.Operations.{commit_rows}
+use Rattle.refinement.specs.Calls.{quiet_rows}
 use Rattle.refinement.proofs.Quiet.{quiet}
 use Rattle.asked.proofs.Rows.{first-ranges}
 use Rattle.state_words.specs.Decoded.{decoded}
@@ -27,20 +27,20 @@ abbrev st : tie.Start → State
 st c = decoded c.args.words.now
 
 abbrev rows : tie.Start → List Row
-rows c = commitRows (st c) c.args.writer
+rows c = commit_rows (st c) c.args.writer
 
 -- the sizes and places as they were read are right
-right : (c : tie.Else1) → let a = c.before.before.args in Legal a.z × (a.at.head < 2 * a.z.places) × (a.at.tail < 2 * a.z.places) × (liveCount a.z a.at.head a.at.tail ≤ a.z.places)
+right : (c : tie.Else1) → let a = c.before.before.args in Legal a.z × (a.at.head < 2 * a.z.places) × (a.at.tail < 2 * a.z.places) × (live_count a.z a.at.head a.at.tail ≤ a.z.places)
 right c =
     let s = c.before.before in
     let h = first-ranges (st s) s.args.n _ c.before.valid-row.ensures c.if1.false in
     rw (s.requires.0, s.requires.1) (h.0, h.1, h.2, h.3)
 
 -- the first of the commit's own rows is the first of all
-whole : (c : tie.Else1) (r : ℕ) → let s = c.before.before in r ≡ refusal (rows s) → r ≡ refusal (quietRows (st s) s.args.n ++ rows s)
+whole : (c : tie.Else1) (r : ℕ) → let s = c.before.before in r ≡ refusal (rows s) → r ≡ refusal (quiet_rows (st s) s.args.n ++ rows s)
 whole c r h =
     let s = c.before.before in
-    rows_then (quietRows (st s) s.args.n) (rows s) r (quiet (st s) s.args.n _ c.before.valid-row.ensures c.if1.false).past h
+    rows_then (quiet_rows (st s) s.args.n) (rows s) r (quiet (st s) s.args.n _ c.before.valid-row.ensures c.if1.false).past h
 
 prepared : (s : tie.Start) → s.args.at.prepared ≡ (st s).writers.prepared
 prepared s = ap (λ (p : Places). p.prepared) s.requires.1
@@ -58,7 +58,7 @@ past3 c =
 
 -- the live records and the held slots as they were counted
 counted : (c : tie.After-live-count) → let s = c.before.before.before.before.before.before.before.before.before in
-    c.live-count.result + c.before.held-count.result ≡ liveCount (st s).sizes (st s).head (st s).tail + length (heldSlots (st s).sizes (st s).writers.held s.args.writer)
+    c.live-count.result + c.before.held-count.result ≡ live_count (st s).sizes (st s).head (st s).tail + length (held_slots (st s).sizes (st s).writers.held s.args.writer)
 counted c =
     let s = c.before.before.before.before.before.before.before.before.before in
     rw (← s.requires.0, c.live-count.ensures, c.before.held-count.ensures, s.requires.1)
@@ -69,7 +69,7 @@ places s = ap (λ (z : Sizes). z.places) s.requires.0
 returns : tie.Need-returns
 returns c =
     let s = c.before.before in
-    rows-first (quietRows (st s) s.args.n) (rows s) _ c.before.valid-row.ensures c.if1.true
+    rows-first (quiet_rows (st s) s.args.n) (rows s) _ c.before.valid-row.ensures c.if1.true
 
 returns-2 : tie.Need-returns-2
 returns-2 c = whole c.before _ (row_at (rows c.before.before.before) 0 (omega arith) tt (lt-ltb _ _ c.if2.true))

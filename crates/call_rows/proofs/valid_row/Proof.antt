@@ -6,9 +6,9 @@ use native.Mathlib.Omega.{arith}
 use borrow.Author.Tests.{lt-ltb, le-ltb}
 use Rattle.bounded.specs.Rows.{Row, Past}
 use Rattle.bounded.proofs.Rows.{row_at, row-none}
-use Rattle.layout.specs.Layout.{imageLength}
+use Rattle.layout.specs.Layout.{image_length}
 use Rattle.state.specs.State.{State}
-use Rattle.refinement.specs.Calls.{quietRows}
+use Rattle.refinement.specs.Calls.{quiet_rows}
 use Rattle.refinement.proofs.Going.{ranges-of}
 use Rattle.state_words.specs.Decoded.{decoded}
 use Rattle.call_rows.proofs.valid_row.Statement.{statement}
@@ -18,14 +18,14 @@ abbrev st : tie.Start → State
 st c = decoded c.args.words.now
 
 abbrev rows : tie.Start → List Row
-rows c = quietRows (st c) c.args.n
+rows c = quiet_rows (st c) c.args.n
 
 past1 : (s : tie.Start) → Past (rows s) 1
 past1 s = (ap not s.requires.1, tt)
 
 -- the length that an image needs, as it was computed
-long : (c : tie.After-image-length) → c.image-length.result ≡ imageLength (st c.before).sizes
-long c = c.image-length.ensures ∙ ap imageLength c.before.requires.0
+long : (c : tie.After-image-length) → c.image-length.result ≡ image_length (st c.before).sizes
+long c = c.image-length.ensures ∙ ap image_length c.before.requires.0
 
 past2 : (c : tie.Else1) → Past (rows c.before.before) 2
 past2 c = ((past1 c.before.before).0, (le-ltb _ _ (rw (long c.before) at c.if1.false), tt))

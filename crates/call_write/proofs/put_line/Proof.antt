@@ -5,9 +5,9 @@ use Rattle.state.specs.State.{State}
 use Rattle.layout.specs.declared.Sizes.{Sizes}
 use Rattle.state.specs.declared.Places.{Places}
 use Rattle.answers.specs.declared.Answer.TheVariants.{Taken}
-use Rattle.layout.specs.Layout.{lineWord}
-use Rattle.refinement.specs.Write.{frameToWrite, writeDone}
-use Rattle.op_pieces.specs.Pieces.{linePiece}
+use Rattle.layout.specs.Layout.{line_word}
+use Rattle.refinement.specs.Write.{frame_to_write, write_done}
+use Rattle.op_pieces.specs.Pieces.{line_piece}
 use Rattle.op_stores.proofs.Starting.{put-valid}
 use Rattle.state_words.specs.Decoded.{decoded}
 use Rattle.call_write.proofs.Line.{good, leans, counted, whole, line-due, line_made, line-done, none_made}
@@ -38,7 +38,7 @@ line-piece-requires c κs =
     (h.0, h.1, rw c.before.before.before.put-pending.ensures h.2, (good s.args.z s.args.at (st s) s.args.image.now s.args.p s.requires.0 s.args.writer a.page a.line a.offset a.length s.requires.1).line_low)
 
 -- the piece, of the state at entry
-piece : (c : tie.After-line-piece) → let s = c.before.before.before.before.before.before.before.before in let a = s.args.a in c.line-piece.result ≡ linePiece (lineWord s.args.z (frameToWrite s.args.z (st s).table s.args.at.next a.page a.line) a.line) s.args.p.line 0
+piece : (c : tie.After-line-piece) → let s = c.before.before.before.before.before.before.before.before in let a = s.args.a in c.line-piece.result ≡ line_piece (line_word s.args.z (frame_to_write s.args.z (st s).table s.args.at.next a.page a.line) a.line) s.args.p.line 0
 piece c = rw c.before.before.before.before.put-pending.ensures at c.line-piece.ensures.0
 
 put-piece-requires : tie.Need-put-piece-requires
@@ -65,7 +65,7 @@ returns-2 c =
       ap Taken (counted s.args.z s.args.at (st s) s.args.image.now s.args.p s.requires.0 s.args.writer a.page a.line a.offset a.length s.requires.1),
       (
         line_made s.args.z s.args.at (st s) s.args.image.now s.args.p s.requires.0 s.args.writer a.page a.line a.offset a.length s.requires.1 _ (piece c.before.before.before.before.before.before.before) c.before.before.before.before.before.before.before.line-piece.ensures.1 s.args.until _ all c.before.before.before.before.put-piece.ensures,
-        line-done s.args.z s.args.at (st s) s.args.image.now s.args.p s.requires.0 s.args.writer a.page a.line a.offset a.length s.requires.1 s.args.until _ all (c.complete-write.ensures ∙ ap (λ (u : State). writeDone u s.args.writer a.page a.line) c.before.before.before.before.before.before.before.before.before.before.before.put-pending.ensures),
+        line-done s.args.z s.args.at (st s) s.args.image.now s.args.p s.requires.0 s.args.writer a.page a.line a.offset a.length s.requires.1 s.args.until _ all (c.complete-write.ensures ∙ ap (λ (u : State). write_done u s.args.writer a.page a.line) c.before.before.before.before.before.before.before.before.before.before.before.put-pending.ensures),
       ),
     )
 

@@ -5,7 +5,7 @@ use native.Mathlib.Omega.{arith}
 use Rattle.bounded.proofs.Rows.{row_at}
 use Rattle.bounded.proofs.Tests.{held}
 use Rattle.state.specs.State.{State}
-use Rattle.refinement.specs.Calls.{writeCallRows, writeOf}
+use Rattle.refinement.specs.Calls.{write_call_rows, write_of}
 use Rattle.answers.specs.declared.Answer.TheVariants.{BadState}
 use Rattle.op_stores.proofs.Starting.{started-refused}
 use Rattle.state_words.specs.Decoded.{decoded}
@@ -16,12 +16,12 @@ abbrev st : tie.Start → State
 st s = decoded s.args.words.now
 
 returns : tie.Need-returns
-unfolding writeOf
+unfolding write_of
 returns c =
     let t = c.before in
     let s = t.before.before.before.before.before.before.before.before in
     let a = s.args in
-    let rs = writeCallRows (st s) a.image.now a.writer a.span.page a.span.line a.span.offset a.span.length a.«data».now in
+    let rs = write_call_rows (st s) a.image.now a.writer a.span.page a.span.line a.span.offset a.span.length a.«data».now in
     let e = row_at rs 0 (omega arith) tt (sym (ap not t.state-ok.ensures) ∙ c.if1.true) in
     (started-refused (st s) a.image.now a.until rs 8 e (λ q. omega arith) refl BadState refl _ _, λ n. refl)
 

@@ -2,12 +2,12 @@ use borrow.Author.Rules.{rules}
 use mathlib.Core.Bool.{not, ◌&&◌}
 use mathlib.Core.Path.{◌≡◌, refl, sym, ap, ◌∙◌}
 use Rattle.bounded.proofs.Tests.{row-yes, row-no}
-use Rattle.image.specs.Lines.{merged, lineWords}
+use Rattle.image.specs.Lines.{merged, line_words}
 use Rattle.state.specs.State.{State}
 use Rattle.state.specs.declared.Pending.{Pending}
-use Rattle.refinement.specs.Calls.{changesNothing}
+use Rattle.refinement.specs.Calls.{changes_nothing}
 use Rattle.answers.specs.Answers.{number_of}
-use Rattle.call_write.specs.Found.{foundLine}
+use Rattle.call_write.specs.Found.{found_line}
 use Rattle.call_write.proofs.Asking.{write-merge, idle-is}
 use Rattle.state_words.specs.Decoded.{decoded}
 use Rattle.call_write.proofs.Writing.{write-refused, write-nothing, write-asks, write-started}
@@ -31,14 +31,14 @@ merged-requires c κs =
 
 -- whether the write changes nothing, as the code tests it; and the finished line
 nothing : (c : tie.After-merged) → let s = c.before.before.before.before.before.before.before.before.before in let a = s.args in
-    c.before.before.before.before.write-found.result.held && not c.merged.result.changed ≡ changesNothing (st s) a.image.now a.writer a.span.page a.span.line a.span.offset a.span.length a.«data».now
+    c.before.before.before.before.write-found.result.held && not c.merged.result.changed ≡ changes_nothing (st s) a.image.now a.writer a.span.page a.span.line a.span.offset a.span.length a.«data».now
 nothing c =
     let s = c.before.before.before.before.before.before.before.before.before in
     let a = s.args in
     idle-is (st s) a.image.now a.writer a.span.page a.span.line a.span.offset a.span.length a.«data».now _ c.before.before.before.before.write-found.ensures c.before.before.if1.false _ (rw s.requires.0 at c.merged.ensures.1)
 
 line : (c : tie.After-merged) → let s = c.before.before.before.before.before.before.before.before.before in let a = s.args in
-    c.merged.result.words ≡ lineWords (merged (foundLine a.image.now (st s).sizes c.before.before.before.before.write-found.result a.span.line) a.span.offset a.span.length a.«data».now)
+    c.merged.result.words ≡ line_words (merged (found_line a.image.now (st s).sizes c.before.before.before.before.write-found.result a.span.line) a.span.offset a.span.length a.«data».now)
 line c = let s = c.before.before.before.before.before.before.before.before.before in rw s.requires.0 at c.merged.ensures.0
 
 returns-2 : tie.Need-returns-2

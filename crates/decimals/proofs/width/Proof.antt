@@ -4,13 +4,13 @@ use Prim.Native.Nat.{ℕ, ◌+◌, ◌-◌, ◌/◌, ◌^◌, ◌<◌, ◌≤◌
 use borrow.Author.Rules.{rules}
 use native.Mathlib.Omega.{arith}
 use lib.ListN.{length}
-use Rattle.decimals.specs.Decimal.{decimalOf}
+use Rattle.decimals.specs.Decimal.{decimal_of}
 use Rattle.decimals.proofs.Printing.{wide, wide-zero, length_digits, Fewer, fewer}
 use Rattle.decimals.proofs.width.Statement.{statement}
 use Rattle.decimals.proofs.width.Tie as tie
 
 abbrev invariant-loop : tie.invariant-loop
-invariant-loop v n₀ rest₀ n rest = (n ≤ 20) × (rest < 10 ^ (20 - n)) × (length (decimalOf v) ≡ n + wide (20 - n) rest)
+invariant-loop v n₀ rest₀ n rest = (n ≤ 20) × (rest < 10 ^ (20 - n)) × (length (decimal_of v) ≡ n + wide (20 - n) rest)
 
 abbrev decreases-loop : tie.decreases-loop
 decreases-loop v n₀ rest₀ n rest = rest

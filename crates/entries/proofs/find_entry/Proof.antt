@@ -6,12 +6,12 @@ use lib.Dec.{eqb}
 use borrow.Author.Tests.{eq-eqb, ne_eqb}
 use borrow.Author.Rules.{rules}
 use Rattle.bounded.proofs.Below.{first-none, first-turn, first_stops, first_ends}
-use Rattle.bounded.specs.Below.{firstBelow}
+use Rattle.bounded.specs.Below.{first_below}
 use Rattle.entries.proofs.find_entry.Statement.{statement}
 use Rattle.entries.proofs.find_entry.Tie as tie
 
 abbrev invariant-loop : tie.invariant-loop
-invariant-loop keys n key e₀ e = (e ≤ n) × (firstBelow e (λ k. eqb (get_or keys k 0) key) ≡ e)
+invariant-loop keys n key e₀ e = (e ≤ n) × (first_below e (λ k. eqb (get_or keys k 0) key) ≡ e)
 
 abbrev decreases-loop : tie.decreases-loop
 decreases-loop keys n key e₀ e = n - e

@@ -5,14 +5,14 @@ use borrow.Author.Rules.{rules}
 use native.Mathlib.Omega.{arith}
 use Rattle.bounded.specs.Tab.{filled}
 use Rattle.bounded.proofs.Tab.{filled_none, filled-turn, filled-ends}
-use Rattle.layout.specs.Layout.{entryWord}
+use Rattle.layout.specs.Layout.{entry_word}
 use Rattle.words.specs.Words.{word}
-use Rattle.entries.specs.Entries.{noKeys, keysFrom}
+use Rattle.entries.specs.Entries.{no_keys, keys_from}
 use Rattle.entries.proofs.read_keys.Statement.{statement}
 use Rattle.entries.proofs.read_keys.Tie as tie
 
 abbrev invariant-loop : tie.invariant-loop
-invariant-loop image z n end keys₀ e₀ keys e = (e ≤ end) × (end ≡ min n z.entries) × (keys ≡ filled e (λ k. word image (entryWord z k)) noKeys)
+invariant-loop image z n end keys₀ e₀ keys e = (e ≤ end) × (end ≡ min n z.entries) × (keys ≡ filled e (λ k. word image (entry_word z k)) no_keys)
 
 abbrev decreases-loop : tie.decreases-loop
 decreases-loop image z n end keys₀ e₀ keys e = end - e
@@ -26,11 +26,11 @@ loop-again c =
     (search rules, search rules, filled-turn _ _ _ _ _ c.before.before.before.loop.invariant.2 (c.read_word.ensures ∙ ap (word a.image.now) c.before.entry-word.ensures))
 
 returns : tie.Need-returns invariant-loop decreases-loop
-unfolding keysFrom
+unfolding keys_from
 returns c =
     let a = c.before.before.before.before.args in
     filled-ends _ _ _ _ _ c.before.loop.invariant.0 c.loop-test.false c.before.loop.invariant.2
-    ∙ ap (λ (k : ℕ). filled k (λ e. word a.image.now (entryWord a.z e)) noKeys) c.before.loop.invariant.1
+    ∙ ap (λ (k : ℕ). filled k (λ e. word a.image.now (entry_word a.z e)) no_keys) c.before.loop.invariant.1
 
 pub read-keys-spec : {M : Type 1} → statement M
 read-keys-spec =

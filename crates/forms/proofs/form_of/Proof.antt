@@ -4,12 +4,12 @@ use lib.Dec.{eqb}
 use native.Mathlib.Omega.{arith}
 use borrow.Author.Rules.{rules}
 use Rattle.forms.proofs.Formed.{Table, Past, test, past_more, form-at, form-none}
-use Rattle.forms.specs.Forms.{asLine, forms, form_of}
+use Rattle.forms.specs.Forms.{as_line, forms, form_of}
 use Rattle.forms.proofs.form_of.Statement.{statement}
 use Rattle.forms.proofs.form_of.Tie as tie
 
 abbrev table : tie.Start → Table
-table s = forms s.args.formatted (asLine s.args.letter s.args.count s.args.numbers.now)
+table s = forms s.args.formatted (as_line s.args.letter s.args.count s.args.numbers.now)
 
 -- the first k forms do not apply
 past1 : (c : tie.Else1) → Past (table c.before) 1

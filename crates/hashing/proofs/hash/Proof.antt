@@ -3,13 +3,13 @@ use mathlib.Core.Path.{◌≡◌, refl}
 use native.Mathlib.Omega.{arith}
 use lib.ListN.{length, drop}
 use borrow.Author.Rules.{rules}
-use Rattle.hashing.specs.Hash.{hashFrom, hashOf}
+use Rattle.hashing.specs.Hash.{hash_from, hash_of}
 use Rattle.hashing.proofs.Hashes.{hash-turn, hash-ends}
 use Rattle.hashing.proofs.hash.Statement.{statement}
 use Rattle.hashing.proofs.hash.Tie as tie
 
 abbrev invariant-loop : tie.invariant-loop
-invariant-loop bytes h₀ i₀ h i = (i ≤ length bytes) × (h < 4294967291) × (hashFrom h (drop i bytes) ≡ hashOf bytes)
+invariant-loop bytes h₀ i₀ h i = (i ≤ length bytes) × (h < 4294967291) × (hash_from h (drop i bytes) ≡ hash_of bytes)
 
 abbrev decreases-loop : tie.decreases-loop
 decreases-loop bytes h₀ i₀ h i = length bytes - i

@@ -1,7 +1,7 @@
 -- By the law on a call whose state is lent: the code is the one that it walks, the callee is `begin`, and the contract is its own.
 use mathlib.Core.Path.{refl}
 use base.Logic.{id⊢}
-use Rattle.refinement.specs.Calls.{beginOf}
+use Rattle.refinement.specs.Calls.{begin_of}
 use Rattle.state_words.specs.Decoded.{decoded}
 use Rattle.host.specs.Lent.{CameTo}
 use Rattle.host.proofs.begin.Symbol as begin
@@ -16,7 +16,7 @@ use Rattle.host.proofs.begin_in.Code as code
 pub begin-in-spec : {M : Type 1} → statement M
 unfolding code.routine
 begin-in-spec 𝓤 𝓛 𝓜 𝓡 =
-    lent_spec number (λ st w. CameTo (beginOf (decoded st.words) w) st) begin.name 𝓛 𝓜 𝓡 code.env name code.function
+    lent_spec number (λ st w. CameTo (begin_of (decoded st.words) w) st) begin.name 𝓛 𝓜 𝓡 code.env name code.function
     (λ κs a. (stated.clauses 𝓛 𝓜.mem 𝓡.run κs a).ensures)
     (code.unfolded 𝓤 𝓛.H 𝓜 𝓡) refl
     begin.routine refl (begin-met.met 𝓤 𝓛 𝓜 𝓡)

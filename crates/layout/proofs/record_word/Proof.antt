@@ -2,12 +2,12 @@
 use borrow.Author.Rules.{rules}
 use Prim.Native.Nat.{◌<◌}
 use native.Mathlib.Omega.{arith}
-use Rattle.layout.specs.Layout.{placeOf}
+use Rattle.layout.specs.Layout.{place_of}
 use Rattle.layout.proofs.LayoutLaws.{place-lt}
 use Rattle.layout.proofs.record_word.Statement.{statement}
 use Rattle.layout.proofs.record_word.Tie as tie
 
-below : (c : tie.After-place-of) → placeOf c.before.before.before.args.z c.before.before.before.args.q < c.before.before.before.args.z.places
+below : (c : tie.After-place-of) → place_of c.before.before.before.args.z c.before.before.before.args.q < c.before.before.before.args.z.places
 below c = place-lt c.before.before.before.args.z c.before.before.before.requires c.before.before.before.args.q
 
 mul-result-2 : tie.Need-overflow-mul-result-2

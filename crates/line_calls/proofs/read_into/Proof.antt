@@ -4,8 +4,8 @@ use native.Mathlib.Omega.{arith}
 use lib.ListN.{length}
 use borrow.Author.Rules.{rules}
 use Rattle.line_calls.proofs.Targets.{read-long}
-use Rattle.line_calls.specs.Calls.{lineSaid}
-use Rattle.refinement.specs.Calls.{readRow}
+use Rattle.line_calls.specs.Calls.{line_said}
+use Rattle.refinement.specs.Calls.{read_row}
 use Rattle.state_words.specs.Decoded.{decoded}
 use Rattle.workbench.specs.Turns.{arg}
 use Rattle.line_calls.proofs.read_into.Statement.{statement}
@@ -17,7 +17,7 @@ start c = c.before.before.before.before.before.before.before.before.before.befor
 -- the number that the read answered
 row : (c : tie.After-number-of)
     → let a = (start c).args in let n = arg a.t3 in
-    c.number_of_lem.result ≡ readRow (decoded a.words.now) a.image.now (n 0) (n 1) (n 2) a.target.now
+    c.number_of_lem.result ≡ read_row (decoded a.words.now) a.image.now (n 0) (n 1) (n 2) a.target.now
 row c = c.number_of_lem.ensures ∙ c.before.before.before.read.ensures.0.0
 
 -- a taken read's target has 64 bytes
@@ -33,7 +33,7 @@ said-requires : tie.Need-said-requires
 said-requires c κs = long c.before
 
 returns : tie.Need-returns
-returns c = c.said.ensures ∙ ap₂ lineSaid (row c.before.before) c.before.before.before.before.before.read.ensures.1
+returns c = c.said.ensures ∙ ap₂ line_said (row c.before.before) c.before.before.before.before.before.read.ensures.1
 
 pub read-into-spec : {M : Type 1} → statement M
 read-into-spec =

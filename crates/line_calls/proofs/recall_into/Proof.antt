@@ -4,7 +4,7 @@ use native.Mathlib.Omega.{arith}
 use lib.ListN.{length}
 use borrow.Author.Rules.{rules}
 use Rattle.line_calls.proofs.Targets.{recall-long}
-use Rattle.line_calls.specs.Calls.{lineSaid}
+use Rattle.line_calls.specs.Calls.{line_said}
 use Rattle.workbench.specs.Turns.{arg}
 use Rattle.line_calls.proofs.recall_into.Statement.{statement}
 use Rattle.line_calls.proofs.recall_into.Tie as tie
@@ -22,7 +22,7 @@ said-requires c κs = long c.before.before.before
 returns : tie.Need-returns
 returns c =
     let r = c.before.before.before.before.recall in
-    c.said.ensures ∙ ap₂ lineSaid r.ensures.0 r.ensures.1
+    c.said.ensures ∙ ap₂ line_said r.ensures.0 r.ensures.1
 
 pub recall-into-spec : {M : Type 1} → statement M
 recall-into-spec =

@@ -6,7 +6,7 @@ use native.Mathlib.Omega.{arith}
 use lib.ListN.{length, take, drop}
 use Rattle.words.specs.Words.{part}
 use Rattle.words.proofs.Parts.{length_part, bytes-part, over-whole}
-use Rattle.image.specs.Lines.{merged, differ, lineWords}
+use Rattle.image.specs.Lines.{merged, differ, line_words}
 use Rattle.image.proofs.LineLaws.{length_merged, merge-back, merge-words}
 use borrow.Author.Rules.{rules}
 use Rattle.lines.proofs.merged_at.Statement.{statement}
@@ -54,8 +54,8 @@ returns : tie.Need-returns
 returns c =
     let m = c.before.before.before.before in
     let x = (start m).args in
-    let new = c.before.before.before.words-of2.ensures ∙ ap lineWords (laid m) in
-    let old = m.before.before.before.before.before.words_of.ensures ∙ ap lineWords (read_is m) in
+    let new = c.before.before.before.words-of2.ensures ∙ ap line_words (laid m) in
+    let old = m.before.before.before.before.before.words_of.ensures ∙ ap line_words (read_is m) in
     let bytes = bytes-part x.bytes.now _ 64 (λ i. (m.before.before.before.before.before.before.before.before.before.before.before.shared-slice-known.given i).fits) in (
       new,
       c.words-differ.ensures

@@ -5,7 +5,7 @@ use mathlib.Core.Path.{◌≡◌, refl, ap, ◌∙◌}
 use borrow.Author.Rules.{rules}
 use lib.Dec.{eqb}
 use lib.ListN.{get_or}
-use Rattle.bounded.specs.Below.{all_below, someBelow}
+use Rattle.bounded.specs.Below.{all_below, some_below}
 use Rattle.lines.proofs.words_differ.Statement.{statement}
 use Rattle.lines.proofs.words_differ.Tie as tie
 
@@ -14,15 +14,15 @@ or-not true true = refl
 or-not true false = refl
 or-not false b = refl
 
-more : (f : ℕ → Bool) (n : ℕ) (r : Bool) → r ≡ someBelow n f → r || f n ≡ someBelow (suc n) f
-unfolding someBelow all_below
+more : (f : ℕ → Bool) (n : ℕ) (r : Bool) → r ≡ some_below n f → r || f n ≡ some_below (suc n) f
+unfolding some_below all_below
 more f n r e = ap (λ (x : Bool). x || f n) e ∙ or-not (all_below n (λ i. not (f i))) (f n)
 
-none : (f : ℕ → Bool) → false ≡ someBelow 0 f
-unfolding someBelow all_below
+none : (f : ℕ → Bool) → false ≡ some_below 0 f
+unfolding some_below all_below
 none f = refl
 
-eight : (f : ℕ → Bool) → f 0 || f 1 || f 2 || f 3 || f 4 || f 5 || f 6 || f 7 ≡ someBelow 8 f
+eight : (f : ℕ → Bool) → f 0 || f 1 || f 2 || f 3 || f 4 || f 5 || f 6 || f 7 ≡ some_below 8 f
 eight f = more f 7 _ (more f 6 _ (more f 5 _ (more f 4 _ (more f 3 _ (more f 2 _ (more f 1 _ (more f 0 false (none f))))))))
 
 returns : tie.Need-returns

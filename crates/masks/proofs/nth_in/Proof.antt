@@ -4,20 +4,20 @@ use mathlib.Core.Logic.{⊎_elim}
 use Prim.Native.Nat.{◌+◌, ◌-◌, ◌≤◌}
 use borrow.Author.Rules.{rules}
 use native.Mathlib.Omega.{arith}
-use Rattle.bounded.specs.Below.{one, countBelow}
-use Rattle.masks.specs.Lines.{inMask}
+use Rattle.bounded.specs.Below.{one, count_below}
+use Rattle.masks.specs.Lines.{in_mask}
 use Rattle.masks.proofs.Counts.{nth-found, nth-turn, nth-ended}
 use Rattle.masks.proofs.nth_in.Statement.{statement}
 use Rattle.masks.proofs.nth_in.Tie as tie
 
 abbrev invariant-loop : tie.invariant-loop
-invariant-loop m n left₀ i₀ left i = (i ≤ 64) × (countBelow i (inMask m) + left ≡ n)
+invariant-loop m n left₀ i₀ left i = (i ≤ 64) × (count_below i (in_mask m) + left ≡ n)
 
 abbrev decreases-loop : tie.decreases-loop
 decreases-loop m n left₀ i₀ left i = 64 - i
 
 loop-holds : tie.Need-loop-init invariant-loop decreases-loop
-unfolding countBelow
+unfolding count_below
 loop-holds c = search rules
 
 returns : tie.Need-returns invariant-loop decreases-loop
@@ -33,8 +33,8 @@ loop-again c =
       search rules,
       nth-turn h.before.args.m h.before.args.n h.loop.i h.loop.left h.loop.invariant.1 c.if1.left
           (⊎_elim
-          (λ w. let e : one (inMask h.before.args.m h.loop.i) ≡ 1 = ap one (sym c.before.has.ensures ∙ w.0.taken) in omega arith)
-          (λ w. let e : one (inMask h.before.args.m h.loop.i) ≡ 0 = ap one (sym c.before.has.ensures ∙ w.0.left) in omega arith)
+          (λ w. let e : one (in_mask h.before.args.m h.loop.i) ≡ 1 = ap one (sym c.before.has.ensures ∙ w.0.taken) in omega arith)
+          (λ w. let e : one (in_mask h.before.args.m h.loop.i) ≡ 0 = ap one (sym c.before.has.ensures ∙ w.0.left) in omega arith)
           c.if1.branch),
     )
 

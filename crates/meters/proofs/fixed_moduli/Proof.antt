@@ -2,12 +2,12 @@
 use mathlib.Core.Path.{refl}
 use borrow.Author.Rules.{rules}
 use Rattle.bounded.specs.Tab.{tab}
-use Rattle.meters.specs.Meters.{fixedModulus, fixedModuli}
+use Rattle.meters.specs.Meters.{fixed_modulus, fixed_moduli}
 use Rattle.meters.proofs.fixed_moduli.Statement.{statement}
 use Rattle.meters.proofs.fixed_moduli.Tie as tie
 
 returns : tie.Need-returns
-unfolding fixedModuli fixedModulus tab
+unfolding fixed_moduli fixed_modulus tab
 returns c = refl
 
 pub fixed-moduli-spec : {M : Type 1} → statement M

@@ -7,18 +7,18 @@ use borrow.Author.Rules.{rules}
 use borrow.Author.Tests.{eq-eqb, ne_eqb}
 use Rattle.bounded.specs.Below.{all_below}
 use Rattle.bounded.proofs.Below.{all_none, all-turn, all-stops, all-ends}
-use Rattle.meters.specs.Meters.{modulusBad, moduliOk}
+use Rattle.meters.specs.Meters.{modulus_bad, moduli_ok}
 use Rattle.meters.proofs.moduli_ok.Statement.{statement}
 use Rattle.meters.proofs.moduli_ok.Tie as tie
 
 abbrev invariant-loop : tie.invariant-loop
-invariant-loop moduli m₀ m = (m ≤ 24) × (all_below m (λ i. not (modulusBad (get_or moduli i 0))) ≡ true)
+invariant-loop moduli m₀ m = (m ≤ 24) × (all_below m (λ i. not (modulus_bad (get_or moduli i 0))) ≡ true)
 
 abbrev decreases-loop : tie.decreases-loop
 decreases-loop moduli m₀ m = 24 - m
 
 returns : tie.Need-returns invariant-loop decreases-loop
-unfolding moduliOk
+unfolding moduli_ok
 returns c = let a = c.before.before.args in rw (ne_eqb (length a.moduli.now) 24 c.if1.true)
 
 loop-holds : tie.Need-loop-init invariant-loop decreases-loop
@@ -34,11 +34,11 @@ modulus-bad-requires : tie.Need-modulus-bad-requires invariant-loop decreases-lo
 modulus-bad-requires c κs = search rules
 
 returns-2 : tie.Need-returns-2 invariant-loop decreases-loop
-unfolding moduliOk
+unfolding moduli_ok
 returns-2 c =
     let l = c.before.before.before.before.before.before.before.args.moduli.now in
     rw (eq-eqb (length l) 24 c.before.before.before.before.before.if1.false)
-    (all-stops (λ i. not (modulusBad (get_or l i 0))) 24 _ false c.before.before.before.loop-test.true (sym (ap not (sym c.before.modulus-bad.ensures ∙ c.if2.true))) refl)
+    (all-stops (λ i. not (modulus_bad (get_or l i 0))) 24 _ false c.before.before.before.loop-test.true (sym (ap not (sym c.before.modulus-bad.ensures ∙ c.if2.true))) refl)
 
 add-m : tie.Need-overflow-add-m invariant-loop decreases-loop
 add-m c = search rules
@@ -50,7 +50,7 @@ loop-again : tie.Need-loop-preserved invariant-loop decreases-loop
 loop-again c = (search rules, all-turn _ _ true c.before.before.before.before.loop.invariant.1 (sym (ap not (sym c.before.modulus-bad.ensures ∙ c.if2.false))) refl)
 
 returns-3 : tie.Need-returns-3 invariant-loop decreases-loop
-unfolding moduliOk
+unfolding moduli_ok
 returns-3 c =
     rw (eq-eqb _ 24 c.before.before.if1.false) (all-ends _ 24 _ c.before.loop.invariant.0 c.loop-test.false c.before.loop.invariant.1)
 

@@ -2,12 +2,12 @@ use Prim.Native.Nat.{◌<◌, ◌≤◌}
 use native.Mathlib.Nat.{mod-lt}
 use native.Mathlib.Omega.{arith}
 use borrow.Author.Rules.{rules}
-use Rattle.meters.specs.Meters.{modulusOf}
+use Rattle.meters.specs.Meters.{modulus_of}
 use Rattle.meters.proofs.MeterLaws.{modulus-range, rolled-sum}
 use Rattle.meters.proofs.rolled_by.Statement.{statement}
 use Rattle.meters.proofs.rolled_by.Tie as tie
 
-range : (c : tie.After-modulus) → let a = c.before.before.args in (100 ≤ modulusOf a.moduli.now a.m) × (modulusOf a.moduli.now a.m ≤ 1000000000000)
+range : (c : tie.After-modulus) → let a = c.before.before.args in (100 ≤ modulus_of a.moduli.now a.m) × (modulus_of a.moduli.now a.m ≤ 1000000000000)
 range c = let s = c.before.before in modulus-range s.args.moduli.now s.requires.0 s.args.m s.requires.1
 
 some : (c : tie.After-modulus) → 0 < c.modulus.result

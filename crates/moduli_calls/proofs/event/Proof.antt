@@ -6,9 +6,9 @@ use borrow.Author.Tests.{eq-eqb, ne_eqb}
 use lib.ListN.{length}
 use lib.Seq.{length-take-le}
 use Rattle.state_words.specs.Decoded.{decoded}
-use Rattle.refinement.specs.Calls.{eventOf}
+use Rattle.refinement.specs.Calls.{event_of}
 use Rattle.workbench.specs.Turns.{arg}
-use Rattle.workbench.specs.Moduli.{lentModuli}
+use Rattle.workbench.specs.Moduli.{lent_moduli}
 use Rattle.call_turns.proofs.Turned.{has-asked}
 use Rattle.moduli_calls.proofs.Lent.{least-within}
 use Rattle.moduli_calls.proofs.event.Statement.{statement}
@@ -35,7 +35,7 @@ returns c =
     let img = s.image.now in
     let st = decoded s.words.now in
     let line = s.t4 in
-    let o = eventOf st img (lentModuli s.t3) (arg line 0) (arg line 1) (arg line 2) in
+    let o = event_of st img (lent_moduli s.t3) (arg line 0) (arg line 1) (arg line 2) in
     let form = eq-eqb _ 3 n.before.if1.true in
     has-asked _ _ st _ e.event.result form c.answered.ensures _ o img (rw n.smaller.ensures at e.event.ensures.0)
 

@@ -5,7 +5,7 @@ use lib.ListN.{length, take, drop, length-take}
 use borrow.Author.Rules.{rules}
 use borrow.Author.Tests.{le-leb, lt-leb}
 use Rattle.bounded.proofs.Tests.{row-yes, row-no}
-use Rattle.moduli_text.specs.Text.{placeOf}
+use Rattle.moduli_text.specs.Text.{place_of}
 use Rattle.moduli_text.proofs.TextLaws.{turned, first_found}
 use Rattle.moduli_text.proofs.first_entry.Statement.{statement}
 use Rattle.moduli_text.proofs.first_entry.Tie as tie
@@ -14,7 +14,7 @@ returns : tie.Need-returns
 returns c =
     let l = c.before.before.before.before.args.text.now in
     turned 25 _ _ c.turned-back.ensures (omega arith)
-    (row-yes (leb (length l) (placeOf 10 l)) 25 _ (le-leb (length l) (placeOf 10 l) (omega (arith, c.before.if1.true, c.before.before.place_of.ensures))))
+    (row-yes (leb (length l) (place_of 10 l)) 25 _ (le-leb (length l) (place_of 10 l) (omega (arith, c.before.if1.true, c.before.before.place_of.ensures))))
 
 slice-aggregate-line-entry : tie.Need-slice-aggregate-line-entry
 slice-aggregate-line-entry c = simp length-take (omega (arith, c.before.if1.false))

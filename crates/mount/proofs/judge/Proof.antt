@@ -9,14 +9,14 @@ use borrow.Author.Rules.{rules}
 use borrow.Author.Tests.{le-ltb, lt-ltb, not-false}
 use Rattle.bounded.specs.Rows.{Past}
 use Rattle.bounded.proofs.Tests.{held, and_left}
-use Rattle.layout.specs.Layout.{Legal, sizesOk, layoutOf, imageLength, layoutWord, headWord, tailWord}
-use Rattle.entries.specs.Entries.{entriesOk}
+use Rattle.layout.specs.Layout.{Legal, sizes_ok, layout_of, image_length, layout_word, head_word, tail_word}
+use Rattle.entries.specs.Entries.{entries_ok}
 use Rattle.words.specs.Words.{word}
 use Rattle.layout.proofs.LayoutLaws.{legal}
-use Rattle.mount.specs.Mount.{sizesFrom, liveFrom, countFrom, keysAfter, tableAfter, mountRows}
-use Rattle.journal.specs.Records.{positionsOk, recordsOk, liveRecord}
-use Rattle.replay.specs.Table.{tableOk}
-use Rattle.replay.specs.Map.{pageFrames}
+use Rattle.mount.specs.Mount.{sizes_from, live_from, count_from, keys_after, table_after, mount_rows}
+use Rattle.journal.specs.Records.{positions_ok, records_ok, live_record}
+use Rattle.replay.specs.Table.{table_ok}
+use Rattle.replay.specs.Map.{page_frames}
 use Rattle.journal.proofs.Ring.{Positions, positions}
 use Rattle.mount.proofs.Rows.{Header, positions-read, records-read, entries-read, table-read, found-read, mount-past, mount-refused, mount-taken}
 use Rattle.mount.proofs.judge.Statement.{statement}
@@ -24,7 +24,7 @@ use Rattle.mount.proofs.judge.Tie as tie
 
 -- the first k rows do not apply
 abbrev Passed : List ℕ → ℕ → Type 0
-Passed img k = Past (mountRows (length img) (word img)) k
+Passed img k = Past (mount_rows (length img) (word img)) k
 
 -- the image, past each row
 abbrev img1 : tie.Else1 → List ℕ
@@ -50,43 +50,43 @@ img7 c = img6 c.before.before.before
 
 -- ---- what the calls return is what the rows ask
 
-form-test : (c : tie.After-read-word) → let r = word (img1 c.before) in (eqb c.read_word.result 1 || eqb c.read_word.result 2) ≡ (eqb (r layoutWord) 1 || eqb (r layoutWord) 2)
+form-test : (c : tie.After-read-word) → let r = word (img1 c.before) in (eqb c.read_word.result 1 || eqb c.read_word.result 2) ≡ (eqb (r layout_word) 1 || eqb (r layout_word) 2)
 form-test c = ap (λ (n : ℕ). eqb n 1 || eqb n 2) c.read_word.ensures
 
 sizes-test : (c : tie.After-layout-of)
     → let r = word (img2 c.before.before.before) in
-    (c.before.sizes-ok.result && eqb c.before.before.before.before.read_word.result c.layout_of.result) ≡ (sizesOk (sizesFrom r) && eqb (r layoutWord) (layoutOf (sizesFrom r)))
+    (c.before.sizes-ok.result && eqb c.before.before.before.before.read_word.result c.layout_of.result) ≡ (sizes_ok (sizes_from r) && eqb (r layout_word) (layout_of (sizes_from r)))
 sizes-test c =
     rw (c.before.sizes-ok.ensures, c.layout_of.ensures, c.before.before.sizes-from.ensures, c.before.before.before.before.read_word.ensures)
 
-length-test : (c : tie.After-image-length) → c.image-length.result ≡ imageLength (sizesFrom (word (img3 c.before)))
-length-test c = c.image-length.ensures ∙ ap imageLength c.before.before.before.before.sizes-from.ensures
+length-test : (c : tie.After-image-length) → c.image-length.result ≡ image_length (sizes_from (word (img3 c.before)))
+length-test c = c.image-length.ensures ∙ ap image_length c.before.before.before.before.sizes-from.ensures
 
 header : (c : tie.After-read-word3)
     → Header (word (img4 c.before.before)) c.before.before.before.before.before.before.before.sizes-from.result c.before.read-word2.result c.read-word3.result
 header c = record { sizes-is = c.before.before.before.before.before.before.before.sizes-from.ensures; head-is = c.before.read-word2.ensures; tail-is = c.read-word3.ensures }
 
 positions-test : (c : tie.After-positions-ok)
-    → let r = word (img4 c.before.before.before) in c.positions-ok.result ≡ positionsOk (sizesFrom r) (r headWord) (r tailWord)
+    → let r = word (img4 c.before.before.before) in c.positions-ok.result ≡ positions_ok (sizes_from r) (r head_word) (r tail_word)
 positions-test c = c.positions-ok.ensures ∙ positions-read (header c.before)
 
 records-test : (c : tie.After-entries-ok)
     → let r = word (img5 c.before.before.before.before.before.before) in
     (c.before.before.records-ok.result && c.entries-ok.result)
-    ≡ (recordsOk (sizesFrom r) (r tailWord) (liveFrom r) (liveRecord r (sizesFrom r) (r tailWord)) && entriesOk (sizesFrom r) (keysAfter r) (countFrom r))
+    ≡ (records_ok (sizes_from r) (r tail_word) (live_from r) (live_record r (sizes_from r) (r tail_word)) && entries_ok (sizes_from r) (keys_after r) (count_from r))
 records-test c =
     let h = header c.before.before.before.before.before.before.before.before in
     ap₂ (λ x y. x && y)
     (c.before.before.records-ok.ensures ∙ records-read h _ c.before.before.before.before.before.live-count.ensures)
     (c.entries-ok.ensures ∙ entries-read h _ _ c.before.before.before.before.wide_word.ensures c.before.before.before.read-keys.ensures)
 
-table_is : (c : tie.After-replayed) → c.replayed.result ≡ tableAfter (word (img6 c.before))
+table_is : (c : tie.After-replayed) → c.replayed.result ≡ table_after (word (img6 c.before))
 table_is c = c.replayed.ensures ∙ table-read (header c.before.before.before.before.before.before.before.before.before.before) _ c.before.before.before.before.before.before.before.live-count.ensures
 
-table-test : (c : tie.After-table-ok) → let r = word (img6 c.before.before) in c.table-ok.result ≡ tableOk (pageFrames r) (sizesFrom r) (tableAfter r)
+table-test : (c : tie.After-table-ok) → let r = word (img6 c.before.before) in c.table-ok.result ≡ table_ok (page_frames r) (sizes_from r) (table_after r)
 table-test c =
     let r = word (img6 c.before.before) in
-    c.table-ok.ensures ∙ ap₂ (tableOk (pageFrames r)) (header c.before.before.before.before.before.before.before.before.before.before.before).sizes-is (table_is c.before)
+    c.table-ok.ensures ∙ ap₂ (table_ok (page_frames r)) (header c.before.before.before.before.before.before.before.before.before.before.before).sizes-is (table_is c.before)
 
 -- ---- past each row
 
@@ -117,7 +117,7 @@ lawful : (c : tie.Else3) → Legal c.before.before.before.sizes-from.result
 lawful c = legal _ (sym c.before.before.sizes-ok.ensures ∙ and_left _ _ (not-false _ c.if3.false))
 
 -- the image is long enough
-long : (c : tie.Else4) → imageLength c.before.before.before.before.before.sizes-from.result ≤ length (img4 c)
+long : (c : tie.Else4) → image_length c.before.before.before.before.before.sizes-from.result ≤ length (img4 c)
 long c = rw c.before.image-length.ensures at c.if4.false
 
 placed : (c : tie.Else5)

@@ -1,5 +1,5 @@
 use Rattle.names.proofs.Homes.{both-once}
-use Rattle.replay.specs.Map.{pageFrames}
+use Rattle.replay.specs.Map.{page_frames}
 use Rattle.words.specs.Words.{word}
 use mathlib.Core.Path.{◌∙◌}
 use borrow.Author.Rules.{rules}
@@ -25,7 +25,7 @@ returns : tie.Need-returns
 returns c = let h = c.before.before.before.before.before in
     let p = h.before.before.before.before in
     let s = p.before.before.before.before.before.before.before in
-    c.each-once.ensures ∙ both-once (pageFrames (word s.args.image.now)) s.args.z _ _ _ p.put-spares.ensures h.put-homes.ensures
+    c.each-once.ensures ∙ both-once (page_frames (word s.args.image.now)) s.args.z _ _ _ p.put-spares.ensures h.put-homes.ensures
 
 pub put-both-spec : {M : Type 1} → statement M
 put-both-spec =

@@ -2,8 +2,8 @@
 use mathlib.Core.Path.{ap, ◌∙◌}
 use borrow.Author.Rules.{rules}
 use Rattle.words.specs.Words.{word}
-use Rattle.replay.specs.Map.{pageFrames}
-use Rattle.names.specs.Homes.{originalsPut}
+use Rattle.replay.specs.Map.{page_frames}
+use Rattle.names.specs.Homes.{originals_put}
 use Rattle.names.proofs.Homes.{homes}
 use Rattle.names.proofs.put_homes.Statement.{statement}
 use Rattle.names.proofs.put_homes.Tie as tie
@@ -13,8 +13,8 @@ returns c =
     let h = c.before.before.before.before.before.before.before.before.before in
     let x = h.before.before.before.before.args in
     c.before.before.put-originals.ensures
-    ∙ ap (originalsPut x.z x.t4.page x.t4.original x.z.slots) h.put-words.ensures
-    ∙ homes (pageFrames (word x.image.now)) x.z x.t4 h.before.before.before.before.requires.0 h.before.before.before.before.requires.3
+    ∙ ap (originals_put x.z x.t4.page x.t4.original x.z.slots) h.put-words.ensures
+    ∙ homes (page_frames (word x.image.now)) x.z x.t4 h.before.before.before.before.requires.0 h.before.before.before.before.requires.3
 
 pub put-homes-spec : {M : Type 1} → statement M
 put-homes-spec = tie.close (tie.spec (λ c κs. search rules) (λ c κs. search rules) (λ c. search rules) returns)

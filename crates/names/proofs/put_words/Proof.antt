@@ -6,13 +6,13 @@ use borrow.Author.Rules.{rules}
 use Rattle.bounded.specs.Tab.{filled}
 use Rattle.bounded.proofs.Tab.{filled_none, filled-turn, filled-ends}
 use Rattle.words.specs.Words.{word}
-use Rattle.replay.specs.Map.{pageFrames}
+use Rattle.replay.specs.Map.{page_frames}
 use Rattle.names.proofs.Homes.{filled-whole}
 use Rattle.names.proofs.put_words.Statement.{statement}
 use Rattle.names.proofs.put_words.Tie as tie
 
 abbrev invariant-loop : tie.invariant-loop
-invariant-loop homes₀ image z p₀ homes p = (p ≤ z.pages) × (length homes ≡ z.pages) × (homes ≡ filled p (pageFrames (word image)) homes₀)
+invariant-loop homes₀ image z p₀ homes p = (p ≤ z.pages) × (length homes ≡ z.pages) × (homes ≡ filled p (page_frames (word image)) homes₀)
 
 abbrev decreases-loop : tie.decreases-loop
 decreases-loop homes₀ image z p₀ homes p = z.pages - p
@@ -29,7 +29,7 @@ returns : tie.Need-returns invariant-loop decreases-loop
 returns c =
     let h = c.before.before in
     let x = h.before.before.before.args in
-    filled-ends _ _ _ _ _ h.loop.invariant.0 c.if1.false h.loop.invariant.2 ∙ filled-whole x.z.pages (pageFrames (word x.image.now)) x.homes.now h.before.before.before.requires.2
+    filled-ends _ _ _ _ _ h.loop.invariant.0 c.if1.false h.loop.invariant.2 ∙ filled-whole x.z.pages (page_frames (word x.image.now)) x.homes.now h.before.before.before.requires.2
 
 pub put-words-spec : {M : Type 1} → statement M
 put-words-spec =

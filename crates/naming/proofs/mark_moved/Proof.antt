@@ -1,6 +1,6 @@
 use Rattle.naming.proofs.NamingLaws.{runs-at, runs_none, turn-own, turn-marked}
 use Rattle.naming.specs.Marks.{MarkedBut}
-use Rattle.masks.specs.Lines.{inMask}
+use Rattle.masks.specs.Lines.{in_mask}
 use Rattle.masks.proofs.Bits.{in-none}
 use native.Mathlib.Omega.{arith}
 use lib.ListN.{length}
@@ -14,7 +14,7 @@ use Rattle.naming.proofs.mark_moved.Tie as tie
 
 abbrev invariant-loop : tie.invariant-loop
 invariant-loop seen₀ homes own₀ k₀ seen own k =
-    (k ≤ 16) × ((length seen ≡ 1041) × (((y : ℕ) → k ≤ y → inMask own y ≡ false) × MarkedBut homes (min (64 * k) (length homes)) seen₀ own seen))
+    (k ≤ 16) × ((length seen ≡ 1041) × (((y : ℕ) → k ≤ y → in_mask own y ≡ false) × MarkedBut homes (min (64 * k) (length homes)) seen₀ own seen))
 
 abbrev decreases-loop : tie.decreases-loop
 decreases-loop seen₀ homes own₀ k₀ seen own k = 16 - k

@@ -1,5 +1,5 @@
 use Rattle.naming.proofs.NamingLaws.{MaskTo, mask-none, mask-turn, low_turn, mask-high, mask_low}
-use Rattle.naming.specs.Marks.{allLow}
+use Rattle.naming.specs.Marks.{all_low}
 use Rattle.bounded.specs.Below.{all_below}
 use Rattle.masks.proofs.Members.{shifted_one}
 use native.Mathlib.Omega.{arith}
@@ -12,7 +12,7 @@ use Rattle.naming.proofs.mask_of.Statement.{statement}
 use Rattle.naming.proofs.mask_of.Tie as tie
 
 abbrev invariant-loop : tie.invariant-loop
-invariant-loop names m₀ all₀ i₀ m all i = (i ≤ length names) × ((ltb all 64 ≡ allLow i names) × MaskTo names i m)
+invariant-loop names m₀ all₀ i₀ m all i = (i ≤ length names) × ((ltb all 64 ≡ all_low i names) × MaskTo names i m)
 
 abbrev decreases-loop : tie.decreases-loop
 decreases-loop names m₀ all₀ i₀ m all i = length names - i

@@ -2,7 +2,7 @@ use native.Mathlib.Omega.{arith}
 use mathlib.Core.Path.{◌≡◌, ap}
 use lib.ListN.{get_or}
 use Rattle.layout.proofs.LayoutLaws.{record-end}
-use Rattle.replay.specs.Table.{noPosition}
+use Rattle.replay.specs.Table.{no_position}
 use Rattle.state.specs.State.{State}
 use Rattle.state.specs.declared.Places.{Places}
 use Rattle.state_words.specs.Decoded.{decoded}
@@ -17,7 +17,7 @@ st s = decoded s.args.words.now
 of-slot-requires : tie.Need-of-slot-requires
 of-slot-requires c κs =
     let s = c.before.before.before.before.before.before in
-    omega (arith, c.before.last-words.ensures, record-end s.args.z s.requires.2 (get_or (st s).table.new c.before.before.before.before.recorded-slot.result noPosition), s.requires.3)
+    omega (arith, c.before.last-words.ensures, record-end s.args.z s.requires.2 (get_or (st s).table.new c.before.before.before.before.recorded-slot.result no_position), s.requires.3)
 
 returns : tie.Need-returns
 returns c =

@@ -9,30 +9,30 @@ use native.Mathlib.Omega.{arith}
 use lib.Dec.{eqb}
 use lib.ListN.{get_or}
 use borrow.Author.Tests.{eq-eqb, ne_eqb}
-use Rattle.bounded.specs.Below.{one, countBelow}
+use Rattle.bounded.specs.Below.{one, count_below}
 use Rattle.bounded.proofs.Nth.{nth-turn}
-use Rattle.replay.specs.Table.{noPosition}
-use Rattle.operations.specs.Operations.{recordedSlots}
+use Rattle.replay.specs.Table.{no_position}
+use Rattle.operations.specs.Operations.{recorded_slots}
 use Rattle.state_words.specs.Decoded.{decoded}
 use Rattle.op_checkpoint.proofs.CheckpointPieces.{found, ended}
 use Rattle.op_checkpoint.proofs.recorded_slot.Statement.{statement}
 use Rattle.op_checkpoint.proofs.recorded_slot.Tie as tie
 
 abbrev recorded : List ℕ → ℕ → Bool
-recorded words s = not (eqb (get_or (decoded words).table.last s 0) noPosition)
+recorded words s = not (eqb (get_or (decoded words).table.last s 0) no_position)
 
 abbrev invariant-loop : tie.invariant-loop
-invariant-loop z words j left₀ s₀ left s = (s ≤ z.slots) × (countBelow s (recorded words) + left ≡ j)
+invariant-loop z words j left₀ s₀ left s = (s ≤ z.slots) × (count_below s (recorded words) + left ≡ j)
 
 abbrev decreases-loop : tie.decreases-loop
 decreases-loop z words j left₀ s₀ left s = z.slots - s
 
 loop-holds : tie.Need-loop-init invariant-loop decreases-loop
-unfolding countBelow
+unfolding count_below
 loop-holds c = search rules
 
 returns : tie.Need-returns invariant-loop decreases-loop
-unfolding recordedSlots
+unfolding recorded_slots
 returns c =
     let h = c.before.before in
     let l = h.before.before.before in
@@ -54,7 +54,7 @@ loop-again c =
     )
 
 returns-2 : tie.Need-returns-2 invariant-loop decreases-loop
-unfolding recordedSlots
+unfolding recorded_slots
 returns-2 c = ended _ _ _ _ c.before.before.loop.left c.before.before.loop.invariant.1 c.before.before.loop.invariant.0 c.if1.false
 
 pub recorded-slot-spec : {M : Type 1} → statement M

@@ -7,28 +7,28 @@ use mathlib.Core.Bool.{Bool, not}
 use native.Mathlib.Omega.{arith}
 use lib.Dec.{eqb}
 use borrow.Author.Tests.{eq-eqb, ne_eqb}
-use Rattle.bounded.specs.Below.{one, countBelow}
-use Rattle.state.specs.Held.{heldAt, heldSlots}
+use Rattle.bounded.specs.Below.{one, count_below}
+use Rattle.state.specs.Held.{held_at, held_slots}
 use Rattle.bounded.proofs.Nth.{nth-found, nth-turn, nth-ended}
 use Rattle.state_words.specs.Decoded.{decoded}
 use Rattle.op_commit.proofs.held_slot.Statement.{statement}
 use Rattle.op_commit.proofs.held_slot.Tie as tie
 
 abbrev holds : List ℕ → ℕ → ℕ → Bool
-holds words w s = not (eqb (heldAt (decoded words).writers.held w s) 0)
+holds words w s = not (eqb (held_at (decoded words).writers.held w s) 0)
 
 abbrev invariant-loop : tie.invariant-loop
-invariant-loop z words w j left₀ s₀ left s = (s ≤ z.slots) × (countBelow s (holds words w) + left ≡ j)
+invariant-loop z words w j left₀ s₀ left s = (s ≤ z.slots) × (count_below s (holds words w) + left ≡ j)
 
 abbrev decreases-loop : tie.decreases-loop
 decreases-loop z words w j left₀ s₀ left s = z.slots - s
 
 loop-holds : tie.Need-loop-init invariant-loop decreases-loop
-unfolding countBelow
+unfolding count_below
 loop-holds c = search rules
 
 returns : tie.Need-returns invariant-loop decreases-loop
-unfolding heldSlots
+unfolding held_slots
 returns c =
     let h = c.before.before in
     let l = h.before.before.before in
@@ -50,7 +50,7 @@ loop-again c =
     )
 
 returns-2 : tie.Need-returns-2 invariant-loop decreases-loop
-unfolding heldSlots
+unfolding held_slots
 returns-2 c = nth-ended _ _ _ _ c.before.before.loop.left c.before.before.loop.invariant.1 c.before.before.loop.invariant.0 c.if1.false
 
 pub held-slot-spec : {M : Type 1} → statement M

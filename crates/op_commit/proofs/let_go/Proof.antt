@@ -5,14 +5,14 @@ use mathlib.Core.Path.{◌≡◌, refl, ap, ◌∙◌}
 use lib.ListN.{set}
 use Rattle.bounded.specs.Below.{up_to}
 use Rattle.bounded.proofs.Below.{up_none, up_ends}
-use Rattle.state_words.specs.Decoded.{decoded, withWriters, withHeld}
+use Rattle.state_words.specs.Decoded.{decoded, with_writers, with_held}
 use Rattle.state.specs.State.{State}
 use Rattle.op_commit.proofs.Turns.{go-turn}
 use Rattle.op_commit.proofs.let_go.Statement.{statement}
 use Rattle.op_commit.proofs.let_go.Tie as tie
 
 abbrev gone : State → ℕ → List ℕ → State
-gone st w h = withWriters st (withHeld st.writers h)
+gone st w h = with_writers st (with_held st.writers h)
 
 abbrev invariant-loop : tie.invariant-loop
 invariant-loop z words₀ w s₀ words s = (s ≤ z.slots) × (decoded words ≡ gone (decoded words₀) w (up_to s (λ k h. set h (16 * w + k) 0) (decoded words₀).writers.held))

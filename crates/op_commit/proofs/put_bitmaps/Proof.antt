@@ -3,23 +3,23 @@ use Prim.Native.Nat.{◌-◌, ◌<◌, ◌≤◌}
 use mathlib.Core.Path.{◌≡◌, refl, ap, ◌∙◌}
 use native.Mathlib.Omega.{arith}
 use Rattle.bounded.proofs.Below.{up_none, up_ends}
-use Rattle.refinement.specs.Commit.{bitmapsAfter}
+use Rattle.refinement.specs.Commit.{bitmaps_after}
 use Rattle.refinement.proofs.CommitPlaces.{held-slot-low}
 use Rattle.state_words.specs.Decoded.{decoded}
-use Rattle.op_commit.specs.After.{withBitmaps}
+use Rattle.op_commit.specs.After.{with_bitmaps}
 use Rattle.op_commit.proofs.Turns.{bitmap-turn}
 use Rattle.op_commit.proofs.put_bitmaps.Statement.{statement}
 use Rattle.op_commit.proofs.put_bitmaps.Tie as tie
 
 abbrev invariant-loop : tie.invariant-loop
 invariant-loop z words₀ w n before j₀ words j =
-    (j ≤ n) × (decoded words ≡ withBitmaps (decoded words₀) (bitmapsAfter z (decoded words₀).table.bitmap (decoded words₀).writers.held w j))
+    (j ≤ n) × (decoded words ≡ with_bitmaps (decoded words₀) (bitmaps_after z (decoded words₀).table.bitmap (decoded words₀).writers.held w j))
 
 abbrev decreases-loop : tie.decreases-loop
 decreases-loop z words₀ w n before j₀ words j = n - j
 
 loop-holds : tie.Need-loop-init invariant-loop decreases-loop
-loop-holds c = (search rules, ap (withBitmaps (decoded c.before.before.args.words.now)) (up_none _ _))
+loop-holds c = (search rules, ap (with_bitmaps (decoded c.before.before.args.words.now)) (up_none _ _))
 
 low : (c : tie.After-held-slot invariant-loop decreases-loop) → c.held-slot.result < 16
 low c =
@@ -55,7 +55,7 @@ loop-again c =
 returns : tie.Need-returns invariant-loop decreases-loop
 returns c =
     let l = c.before in
-    l.loop.invariant.1 ∙ ap (withBitmaps (decoded l.before.before.before.args.words.now)) (up_ends _ _ _ _ _ l.loop.invariant.0 c.loop-test.false refl)
+    l.loop.invariant.1 ∙ ap (with_bitmaps (decoded l.before.before.before.args.words.now)) (up_ends _ _ _ _ _ l.loop.invariant.0 c.loop-test.false refl)
 
 pub put-bitmaps-spec : {M : Type 1} → statement M
 put-bitmaps-spec =

@@ -3,23 +3,23 @@ use Prim.Native.Nat.{◌-◌, ◌<◌, ◌≤◌}
 use mathlib.Core.Path.{◌≡◌, refl, ap, ◌∙◌}
 use native.Mathlib.Omega.{arith}
 use Rattle.bounded.proofs.Below.{up_none, up_ends}
-use Rattle.refinement.specs.Commit.{lastsAfter}
+use Rattle.refinement.specs.Commit.{lasts_after}
 use Rattle.refinement.proofs.CommitPlaces.{held-slot-low}
 use Rattle.state_words.specs.Decoded.{decoded}
-use Rattle.op_commit.specs.After.{withLasts}
+use Rattle.op_commit.specs.After.{with_lasts}
 use Rattle.op_commit.proofs.Turns.{last_turn}
 use Rattle.op_commit.proofs.put_lasts.Statement.{statement}
 use Rattle.op_commit.proofs.put_lasts.Tie as tie
 
 abbrev invariant-loop : tie.invariant-loop
 invariant-loop z head words₀ w n j₀ words j =
-    (j ≤ n) × (decoded words ≡ withLasts (decoded words₀) (lastsAfter z head (decoded words₀).table.last (decoded words₀).writers.held w j))
+    (j ≤ n) × (decoded words ≡ with_lasts (decoded words₀) (lasts_after z head (decoded words₀).table.last (decoded words₀).writers.held w j))
 
 abbrev decreases-loop : tie.decreases-loop
 decreases-loop z head words₀ w n j₀ words j = n - j
 
 loop-holds : tie.Need-loop-init invariant-loop decreases-loop
-loop-holds c = (search rules, ap (withLasts (decoded c.args.words.now)) (up_none _ _))
+loop-holds c = (search rules, ap (with_lasts (decoded c.args.words.now)) (up_none _ _))
 
 low : (c : tie.After-held-slot invariant-loop decreases-loop) → c.held-slot.result < 16
 low c =
@@ -49,7 +49,7 @@ loop-again c =
 returns : tie.Need-returns invariant-loop decreases-loop
 returns c =
     let l = c.before in
-    l.loop.invariant.1 ∙ ap (withLasts (decoded l.before.args.words.now)) (up_ends _ _ _ _ _ l.loop.invariant.0 c.loop-test.false refl)
+    l.loop.invariant.1 ∙ ap (with_lasts (decoded l.before.args.words.now)) (up_ends _ _ _ _ _ l.loop.invariant.0 c.loop-test.false refl)
 
 pub put-lasts-spec : {M : Type 1} → statement M
 put-lasts-spec =

@@ -6,8 +6,8 @@ use Rattle.layout.specs.declared.Sizes.{Sizes}
 use Rattle.layout.specs.Layout.{Legal}
 use Rattle.state.specs.State.{State}
 use Rattle.state.specs.declared.Places.{Places}
-use Rattle.state.specs.Slots.{slotOfPage}
-use Rattle.operations.specs.Operations.{slotFor}
+use Rattle.state.specs.Slots.{slot_of_page}
+use Rattle.operations.specs.Operations.{slot_for}
 use Rattle.operations.proofs.Taken.{slot-low}
 use Rattle.state_words.specs.Decoded.{decoded}
 use Rattle.op_consolidate.proofs.ConsolidatePieces.{consolidated}
@@ -18,10 +18,10 @@ abbrev st : tie.Start → State
 st s = decoded s.args.words.now
 
 -- the page's slot as it was found
-slot : (c : tie.After-slot-of) → let s = c.before.before in c.slot_of.result ≡ slotFor (st s) s.args.p
+slot : (c : tie.After-slot-of) → let s = c.before.before in c.slot_of.result ≡ slot_for (st s) s.args.p
 slot c =
     let s = c.before.before in
-    c.slot_of.ensures ∙ ap (λ (z : Sizes). slotOfPage z (st s).table.page s.args.p) s.requires.0
+    c.slot_of.ensures ∙ ap (λ (z : Sizes). slot_of_page z (st s).table.page s.args.p) s.requires.0
 
 low : (c : tie.After-slot-of) → c.slot_of.result < 16
 low c = let s = c.before.before in omega (arith, slot-low (st s) s.args.p _ s.requires.3 (slot c), s.requires.2.legal)

@@ -1,6 +1,6 @@
 use Rattle.state_words.specs.Decoded.{decoded}
 use Rattle.op_copy.proofs.CopiedFrame.{copied-slotted, copied-plain}
-use Rattle.state.specs.State.{State, ownFrame}
+use Rattle.state.specs.State.{State, own_frame}
 use borrow.Author.Rules.{rules}
 use Rattle.op_copy.proofs.copied_frame.Statement.{statement}
 use Rattle.op_copy.proofs.copied_frame.Tie as tie
@@ -19,7 +19,7 @@ returns c = let t = c.before in
     let o = t.before.before.before in
     let s = o.before in
     let st = decoded s.args.words.now in
-    copied-slotted (ownFrame st) s.args.z st.table s.args.key _ _ o.slot_of.ensures _ t.before.if1.true t.slot_at.ensures c.committed-frame.ensures
+    copied-slotted (own_frame st) s.args.z st.table s.args.key _ _ o.slot_of.ensures _ t.before.if1.true t.slot_at.ensures c.committed-frame.ensures
 
 entry-at-requires : tie.Need-entry-at-requires
 entry-at-requires c κs = search rules
@@ -28,7 +28,7 @@ returns-2 : tie.Need-returns-2
 returns-2 c = let o = c.before.before.before in
     let s = o.before in
     let st = decoded s.args.words.now in
-    copied-plain (ownFrame st) s.args.z st.table s.args.key _ _ o.slot_of.ensures c.before.if1.false c.entry_at.ensures
+    copied-plain (own_frame st) s.args.z st.table s.args.key _ _ o.slot_of.ensures c.before.if1.false c.entry_at.ensures
 
 pub copied-frame-spec : {M : Type 1} → statement M
 copied-frame-spec =

@@ -1,6 +1,6 @@
 use Prim.Native.Nat.{◌-◌, ◌/◌}
 use native.Mathlib.Omega.{arith}
-use Rattle.state.specs.State.{State, ownFrame}
+use Rattle.state.specs.State.{State, own_frame}
 use Rattle.state_words.specs.Decoded.{decoded}
 use Rattle.op_copy.proofs.CopyPieces.{count-piece, none-piece, copied-piece}
 use borrow.Author.Rules.{rules}
@@ -13,12 +13,12 @@ st s = decoded s.args.words.now
 returns : tie.Need-returns
 returns c =
     let s = c.before.before.before in
-    count-piece (ownFrame (st s)) s.args.z (st s).table s.args.count (st s).wide.keys s.args.image.now s.args.i _ c.before.if1.true c.one.ensures
+    count-piece (own_frame (st s)) s.args.z (st s).table s.args.count (st s).wide.keys s.args.image.now s.args.i _ c.before.if1.true c.one.ensures
 
 returns-2 : tie.Need-returns-2
 returns-2 c =
     let s = c.before.before.before.before in
-    none-piece (ownFrame (st s)) s.args.z (st s).table s.args.count (st s).wide.keys s.args.image.now s.args.i _ c.before.before.if1.false c.before.if2.true c.one2.ensures
+    none-piece (own_frame (st s)) s.args.z (st s).table s.args.count (st s).wide.keys s.args.image.now s.args.i _ c.before.before.if1.false c.before.if2.true c.one2.ensures
 
 key-at-requires : tie.Need-key-at-requires
 key-at-requires c κs =
@@ -41,7 +41,7 @@ returns-3 c =
     let few = c.before.before.before.before.before.if2.false in
     let some = c.before.before.before.before.before.before.if1.false in
     let key = c.before.before.before.before.key-at.ensures in
-    copied-piece (ownFrame (st s)) s.args.z (st s).table s.args.count (st s).wide.keys s.args.image.now s.args.i _ some _ _ _ few s.requires.1 (s.requires.2 ((s.args.i - 1) / 8) (omega (arith, few, some))).1 s.requires.3
+    copied-piece (own_frame (st s)) s.args.z (st s).table s.args.count (st s).wide.keys s.args.image.now s.args.i _ some _ _ _ few s.requires.1 (s.requires.2 ((s.args.i - 1) / 8) (omega (arith, few, some))).1 s.requires.3
     (rw key at c.before.before.before.copied-frame.ensures) (rw key at c.before.before.line_word.ensures) c.before.entry-word.ensures c.of-copy.ensures
 
 pub copy-piece-spec : {M : Type 1} → statement M

@@ -7,14 +7,14 @@ use Rattle.bounded.specs.Tab.{filled}
 use Rattle.bounded.proofs.Tab.{filled_none, filled-turn, filled-ends}
 use Rattle.state.specs.State.{State}
 use Rattle.state.specs.Wide.{wide_of}
-use Rattle.refinement.specs.Settled.{withWide}
+use Rattle.refinement.specs.Settled.{with_wide}
 use Rattle.state_words.specs.Decoded.{decoded}
 use Rattle.op_copy.proofs.NoWide.{key-put, none-put}
 use Rattle.op_copy.proofs.put_no_wide.Statement.{statement}
 use Rattle.op_copy.proofs.put_no_wide.Tie as tie
 
 abbrev emptied : State → List ℕ → State
-emptied st keys = withWide st (wide_of st.wide.writer st.wide.count keys)
+emptied st keys = with_wide st (wide_of st.wide.writer st.wide.count keys)
 
 abbrev invariant-loop : tie.invariant-loop
 invariant-loop words₀ e₀ words e = (e ≤ 64) × (length words ≡ 1280) × (decoded words ≡ emptied (decoded words₀) (filled e (λ i. 0) (decoded words₀).wide.keys))

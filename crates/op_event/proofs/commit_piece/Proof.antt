@@ -3,9 +3,9 @@ use mathlib.Core.Path.{◌≡◌, sym, ap, ◌∙◌}
 use native.Mathlib.Omega.{arith}
 use Rattle.state.specs.State.{State}
 use Rattle.state.specs.declared.Places.{Places}
-use Rattle.refinement.specs.Event.{linesDone}
+use Rattle.refinement.specs.Event.{lines_done}
 use Rattle.refinement.proofs.Going.{ranges-of}
-use Rattle.state_words.specs.Decoded.{decoded, withNothing}
+use Rattle.state_words.specs.Decoded.{decoded, with_nothing}
 use Rattle.op_event.proofs.Long.{table-long, held-long, opened-long}
 use Rattle.op_event.proofs.LinesMade.{taken, held-shapes, held-slot, commit-part}
 use Rattle.op_event.proofs.Lines.{lines_same, lines-held}
@@ -28,7 +28,7 @@ same c =
     let q = lines_same (st s) _ s.args.kind s.args.meter c.hold-lines.ensures in
     (s.requires.0 ∙ sym q.0, ap (λ (a : Places). a.head) s.requires.1 ∙ sym q.1)
 
-held : (c : tie.After-hold-lines) → let s = c.before.before.before.before.before in withNothing (decoded c.hold-lines.new.1.0) ≡ linesDone (st s) s.args.kind s.args.meter
+held : (c : tie.After-hold-lines) → let s = c.before.before.before.before.before in with_nothing (decoded c.hold-lines.new.1.0) ≡ lines_done (st s) s.args.kind s.args.meter
 held c = let s = c.before.before.before.before.before in lines-held (st s) _ s.args.kind s.args.meter c.hold-lines.ensures
 
 commit-piece-requires : tie.Need-commit-piece-requires

@@ -4,9 +4,9 @@ use mathlib.Core.Bool.{true}
 use mathlib.Core.Path.{◌≡◌, ap}
 use native.Mathlib.Omega.{arith}
 use Rattle.layout.specs.Layout.{Legal}
-use Rattle.meters.specs.Meters.{eventKnown}
+use Rattle.meters.specs.Meters.{event_known}
 use Rattle.meters.proofs.MeterLaws.{first-low, own_range}
-use Rattle.replay.specs.Table.{slotsShaped}
+use Rattle.replay.specs.Table.{slots_shaped}
 use Rattle.state.specs.State.{State}
 use Rattle.state.specs.declared.Places.{Places}
 use Rattle.refinement.proofs.Going.{ranges-of, shapes-of}
@@ -22,11 +22,11 @@ st s = decoded s.args.words.now
 next-is : (s : tie.Start) → s.args.at.next ≡ (st s).next
 next-is s = ap (λ (a : Places). a.next) s.requires.1
 
-known : (s : tie.Start) → eventKnown s.args.kind s.args.meter ≡ true
+known : (s : tie.Start) → event_known s.args.kind s.args.meter ≡ true
 known s = (taken (st s) s.args.kind s.args.meter s.requires.2 s.requires.4).known
 
 -- what a line's piece leans on
-leans : (s : tie.Start) → let a = s.args in Legal a.z × (a.at.next < a.z.slots) × (slotsShaped a.z (st s).table ≡ true)
+leans : (s : tie.Start) → let a = s.args in Legal a.z × (a.at.next < a.z.slots) × (slots_shaped a.z (st s).table ≡ true)
 leans s =
     let r = ranges-of (st s) s.requires.2 in
     rw (s.requires.0, s.requires.1) (r.legal, r.next_low, shapes-of (st s) s.requires.2)

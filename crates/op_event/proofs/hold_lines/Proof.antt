@@ -5,15 +5,15 @@ use borrow.Author.Tests.{not-true, not-false}
 use Rattle.meters.proofs.MeterLaws.{first-low, own_range}
 use Rattle.state.specs.State.{State}
 use Rattle.state_words.specs.Decoded.{decoded}
-use Rattle.op_write.specs.LineHeld.{lineHeld}
+use Rattle.op_write.specs.LineHeld.{line_held}
 use Rattle.op_event.specs.LinesHeld.{begun}
 use Rattle.op_event.proofs.Lines.{one_line, two-lines, next-held}
 use Rattle.op_event.proofs.hold_lines.Statement.{statement}
 use Rattle.op_event.proofs.hold_lines.Tie as tie
 
 -- the state with the first line held
-first : (c : tie.After-hold-line) → let s = c.before.before.before.before.before in decoded c.hold-line.new.1.0 ≡ lineHeld (begun (decoded s.args.words.now)) 1 0 c.before.first-meter.result
-first c = c.hold-line.ensures ∙ ap (λ (u : State). lineHeld u 1 0 c.before.first-meter.result) c.before.before.before.put-open.ensures.0
+first : (c : tie.After-hold-line) → let s = c.before.before.before.before.before in decoded c.hold-line.new.1.0 ≡ line_held (begun (decoded s.args.words.now)) 1 0 c.before.first-meter.result
+first c = c.hold-line.ensures ∙ ap (λ (u : State). line_held u 1 0 c.before.first-meter.result) c.before.before.before.put-open.ensures.0
 
 hold-line-requires : tie.Need-hold-line-requires
 hold-line-requires c κs =

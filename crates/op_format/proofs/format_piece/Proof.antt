@@ -2,8 +2,8 @@ use borrow.Author.Rules.{rules}
 use Prim.Native.Nat.{ℕ, ◌-◌, min}
 use mathlib.Core.Path.{◌≡◌, refl, ap, sym, ◌∙◌}
 use native.Mathlib.Omega.{arith}
-use Rattle.layout.specs.Layout.{layoutWord}
-use Rattle.op_pieces.specs.Pieces.{onePiece}
+use Rattle.layout.specs.Layout.{layout_word}
+use Rattle.op_pieces.specs.Pieces.{one_piece}
 use Rattle.op_format.proofs.FormatPieces.{first_piece, last-piece, low-piece, high-piece}
 use Rattle.op_format.proofs.format_piece.Statement.{statement}
 use Rattle.op_format.proofs.format_piece.Tie as tie
@@ -19,7 +19,7 @@ returns-2 c =
     let t = l.before in
     let w = t.before in
     let s = w.before.before in
-    last-piece s.args.z s.requires.0 s.args.i _ (t.if2.true ∙ w.entry-word.ensures) (c.one2.ensures ∙ ap (onePiece layoutWord) l.layout_of.ensures)
+    last-piece s.args.z s.requires.0 s.args.i _ (t.if2.true ∙ w.entry-word.ensures) (c.one2.ensures ∙ ap (one_piece layout_word) l.layout_of.ensures)
 
 returns-3 : tie.Need-returns-3
 returns-3 c =

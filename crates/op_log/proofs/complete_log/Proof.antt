@@ -3,7 +3,7 @@ use mathlib.Core.Path.{◌≡◌}
 use native.Mathlib.Omega.{arith}
 use lib.Dec.{leb}
 use Rattle.bounded.proofs.Below.{one-le}
-use Rattle.state.specs.Wide.{entryFor}
+use Rattle.state.specs.Wide.{entry_for}
 use Rattle.state_words.specs.Decoded.{decoded}
 use Rattle.op_log.proofs.LogPieces.{logged}
 use Rattle.op_log.proofs.complete_log.Statement.{statement}
@@ -13,7 +13,7 @@ put-key-requires : tie.Need-put-key-requires
 put-key-requires c κs =
     let f = c.before in
     let s = f.before.before in
-    let e : f.find-entry.result ≡ entryFor (decoded s.args.words.now).wide s.args.p s.args.l = rw s.requires.1 at f.find-entry.ensures in
+    let e : f.find-entry.result ≡ entry_for (decoded s.args.words.now).wide s.args.p s.args.l = rw s.requires.1 at f.find-entry.ensures in
     omega (arith, e, s.requires.3)
 
 add-put-wide : tie.Need-overflow-add-put-wide

@@ -2,7 +2,7 @@ use borrow.Author.Rules.{rules}
 use mathlib.Core.Path.{◌≡◌}
 use native.Mathlib.Omega.{arith}
 use Rattle.state.specs.State.{State}
-use Rattle.state.specs.Wide.{entryFor}
+use Rattle.state.specs.Wide.{entry_for}
 use Rattle.state_words.specs.Decoded.{decoded}
 use Rattle.op_log.proofs.LogPieces.{key-piece, line-piece}
 use Rattle.op_log.proofs.log_piece.Statement.{statement}
@@ -11,7 +11,7 @@ use Rattle.op_log.proofs.log_piece.Tie as tie
 abbrev st : tie.Start → State
 st s = decoded s.args.words.now
 
-entry : (c : tie.After-find-entry) → let s = c.before in c.find-entry.result ≡ entryFor (st s).wide s.args.p s.args.l
+entry : (c : tie.After-find-entry) → let s = c.before in c.find-entry.result ≡ entry_for (st s).wide s.args.p s.args.l
 entry c = rw c.before.requires.1 at c.find-entry.ensures
 
 entry-word-requires : tie.Need-entry-word-requires

@@ -4,7 +4,7 @@ use Prim.Native.Nat.{ℕ}
 use mathlib.Core.Path.{sym, ap, ◌∙◌}
 use Rattle.bounded.specs.Rows.{refusal}
 use Rattle.state.specs.declared.Op.{Op}
-use Rattle.operations.specs.Operations.{opRows}
+use Rattle.operations.specs.Operations.{op_rows}
 use Rattle.op_rows.specs.Seen.{seen}
 use Rattle.op_rows.proofs.op_row.Statement.{statement}
 use Rattle.op_rows.proofs.op_row.Tie as tie
@@ -13,7 +13,7 @@ use Rattle.op_rows.proofs.op_row.Tie as tie
 abbrev row : tie.Start → Op → ℕ
 row c op =
     let a = c.args in
-    refusal (opRows (seen a.z a.at (decoded a.words.now)) op)
+    refusal (op_rows (seen a.z a.at (decoded a.words.now)) op)
 
 returns : tie.Need-returns
 returns c = sym (ap (row c.before.before) c.enum_told.given.1)

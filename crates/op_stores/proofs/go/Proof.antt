@@ -3,7 +3,7 @@ use Prim.Native.Nat.{◌+◌, ◌^◌, ◌<◌, ◌≤◌}
 use mathlib.Core.Path.{◌∙◌}
 use native.Mathlib.Omega.{arith}
 use Rattle.state.specs.State.{State}
-use Rattle.operations.specs.Operations.{rules as needsOf}
+use Rattle.operations.specs.Operations.{rules as needs_of}
 use Rattle.state_words.specs.Decoded.{decoded}
 use Rattle.op_stores.proofs.Leaning.{needs-leans, within, after_last, after-some}
 use Rattle.op_stores.proofs.go.Statement.{statement}
@@ -19,7 +19,7 @@ op-needs-requires c κs =
 
 -- the stores that are to be made, of those that were counted
 few : (c : tie.After-op-needs) → let m = c.before.before in let s = m.before.before.before.before.before in
-    (m.made_in.result + s.args.n ≤ c.op-needs.result) × (m.made_in.result + s.args.n ≤ needsOf (st s) m.before.before.op-in.result)
+    (m.made_in.result + s.args.n ≤ c.op-needs.result) × (m.made_in.result + s.args.n ≤ needs_of (st s) m.before.before.op-in.result)
 few c =
     let m = c.before.before in
     let s = m.before.before.before.before.before in

@@ -3,11 +3,11 @@ use mathlib.Core.Path.{◌≡◌, ap, ap₂, ◌∙◌}
 use Prim.Native.Nat.{ℕ}
 use native.Mathlib.Omega.{arith}
 use Rattle.state.specs.State.{State}
-use Rattle.operations.specs.Operations.{rules as needsOf}
-use Rattle.refinement.specs.Stores.{storesMade, stateAfter}
+use Rattle.operations.specs.Operations.{rules as needs_of}
+use Rattle.refinement.specs.Stores.{stores_made, state_after}
 use Rattle.answers.specs.declared.Answer.TheVariants.{Taken}
 use Rattle.state_words.specs.Decoded.{decoded}
-use Rattle.state_pending.specs.Put.{withPending}
+use Rattle.state_pending.specs.Put.{with_pending}
 use Rattle.op_stores.specs.Started.{budget}
 use Rattle.op_stores.proofs.Starting.{asks-leans, asks-needs, put-valid, put-budget, go-may}
 use Rattle.op_stores.proofs.start.Statement.{statement}
@@ -17,7 +17,7 @@ abbrev st : tie.Start → State
 st s = decoded s.args.words.now
 
 abbrev with_it : tie.Start → State
-with_it s = withPending (st s) s.args.p
+with_it s = with_pending (st s) s.args.p
 
 op-needs-requires : tie.Need-op-needs-requires
 op-needs-requires c κs =
@@ -25,7 +25,7 @@ op-needs-requires c κs =
     asks-leans s.args.z s.args.at (st s) s.args.image.now s.args.p s.requires
 
 -- the stores as they were counted
-all : (c : tie.After-op-needs) → let s = c.before.before.before in c.op-needs.result ≡ needsOf (st s) s.args.p.op
+all : (c : tie.After-op-needs) → let s = c.before.before.before in c.op-needs.result ≡ needs_of (st s) s.args.p.op
 all c =
     let s = c.before.before.before in
     asks-needs s.args.z s.args.at (st s) s.args.image.now s.args.p s.requires _ c.op-needs.ensures
@@ -62,8 +62,8 @@ returns c =
     let e = b.before.put-pending.ensures in (
       ap Taken (all b.before.before.before),
       (
-        g.0 ∙ ap₂ (λ (u : State) (n : ℕ). storesMade u n s.args.image.now) e (how-many b),
-        g.1 ∙ ap₂ stateAfter e (how-many b),
+        g.0 ∙ ap₂ (λ (u : State) (n : ℕ). stores_made u n s.args.image.now) e (how-many b),
+        g.1 ∙ ap₂ state_after e (how-many b),
       ),
     )
 

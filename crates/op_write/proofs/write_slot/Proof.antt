@@ -1,7 +1,7 @@
 use borrow.Author.Tests.{lt-ltb, le-ltb}
 use borrow.Author.Rules.{rules}
 use Rattle.bounded.proofs.Below.{first-le}
-use Rattle.state.specs.Slots.{freeAfter}
+use Rattle.state.specs.Slots.{free_after}
 use Rattle.op_write.proofs.write_slot.Statement.{statement}
 use Rattle.op_write.proofs.write_slot.Tie as tie
 
@@ -9,7 +9,7 @@ returns : tie.Need-returns
 returns c = rw (lt-ltb _ _ c.if1.true)
 
 round-slot-requires : tie.Need-round-slot-requires
-unfolding freeAfter
+unfolding free_after
 round-slot-requires c κs =
     let s = c.before.before.before in (s.requires.0, s.requires.1, rw c.free-after.ensures (first-le _ _))
 

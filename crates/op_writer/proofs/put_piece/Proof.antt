@@ -4,7 +4,7 @@ use mathlib.Core.Path.{◌≡◌, ap, ◌∙◌}
 use native.Mathlib.Omega.{arith}
 use lib.ListN.{get_or}
 use Rattle.bounded.proofs.Below.{up-ext}
-use Rattle.words.specs.Words.{part, putWord}
+use Rattle.words.specs.Words.{part, put_word}
 use Rattle.op_writer.proofs.Back.{puts_back}
 use borrow.Author.Rules.{rules}
 use Rattle.op_writer.proofs.put_piece.Statement.{statement}
@@ -17,7 +17,7 @@ returns c =
     let p = s.args.t3 in
     let a = 8 * p.at in
     puts_back (λ d. 8 * (p.from + d)) (λ d. get_or p.words (p.from + d) 0) s.args.image.now a (8 * p.count) (omega (arith, s.requires.next.inside)) (a + 8 * p.count) s.args.n (omega arith) c.before.before.put-words.ensures (λ d k. omega (arith, k, s.requires.inside))
-    ∙ up-ext _ _ s.args.n s.args.image.now (λ d m k. let e : a + 8 * (p.from + d) ≡ 8 * (p.at + (p.from + d)) = omega arith in ap (λ (i : ℕ). putWord m i (get_or p.words (p.from + d) 0)) e)
+    ∙ up-ext _ _ s.args.n s.args.image.now (λ d m k. let e : a + 8 * (p.from + d) ≡ 8 * (p.at + (p.from + d)) = omega arith in ap (λ (i : ℕ). put_word m i (get_or p.words (p.from + d) 0)) e)
 
 pub put-piece-spec : {M : Type 1} → statement M
 put-piece-spec =

@@ -2,7 +2,7 @@ use mathlib.Core.Path.{refl, ap, ◌∙◌}
 use borrow.Author.Rules.{rules}
 use Rattle.pending_edits.proofs.Described.{described-busy, described}
 use Rattle.state.specs.declared.Pending.{Pending}
-use Rattle.state_pending.specs.Put.{withPending}
+use Rattle.state_pending.specs.Put.{with_pending}
 use Rattle.state_words.specs.Decoded.{decoded}
 use Rattle.pending_edits.proofs.put_described.Statement.{statement}
 use Rattle.pending_edits.proofs.put_described.Tie as tie
@@ -20,7 +20,7 @@ returns-2 c =
     let e = c.before.before in
     let s = e.before.before in
     c.put-numbers.ensures
-    ∙ ap (λ (p : Pending). withPending (decoded s.args.words.now) p) (described s.args.line _ refl e.if1.false)
+    ∙ ap (λ (p : Pending). with_pending (decoded s.args.words.now) p) (described s.args.line _ refl e.if1.false)
 
 pub put-described-spec : {M : Type 1} → statement M
 put-described-spec =

@@ -3,15 +3,15 @@ use native.Mathlib.Omega.{arith}
 use borrow.Author.Rules.{rules}
 use Rattle.pending_edits.proofs.LineByte.{finished-few, line-byte-formed}
 use Rattle.workbench.proofs.Formed.{has-edited, has-not}
-use Rattle.workbench.specs.Finished.{finishedLines}
+use Rattle.workbench.specs.Finished.{finished_lines}
 use Rattle.state_words.specs.Decoded.{decoded}
 use Rattle.pending_edits.proofs.set_line_byte.Statement.{statement}
 use Rattle.pending_edits.proofs.set_line_byte.Tie as tie
 
 -- the pending operation's finished lines
 lines : (c : tie.After-finished-lines)
-    → c.finished-lines.result ≡ finishedLines (decoded c.before.before.before.before.before.args.words.now).pending.op
-lines c = c.finished-lines.ensures ∙ ap finishedLines c.before.op-in.ensures
+    → c.finished-lines.result ≡ finished_lines (decoded c.before.before.before.before.before.args.words.now).pending.op
+lines c = c.finished-lines.ensures ∙ ap finished_lines c.before.op-in.ensures
 
 mul-bytes : tie.Need-overflow-mul-bytes
 mul-bytes c = record { fits = omega (arith, c.finished-lines.ensures, finished-few c.before.op-in.result) }

@@ -3,13 +3,13 @@ use mathlib.Core.List.{List}
 use mathlib.Core.Path.{sym, ap, ◌∙◌}
 use borrow.Author.Rules.{rules}
 use Rattle.state.specs.declared.Op.{Op}
-use Rattle.pending_text.specs.Numbers.{opNumbers}
+use Rattle.pending_text.specs.Numbers.{op_numbers}
 use Rattle.pending_text.proofs.op_numbers.Statement.{statement}
 use Rattle.pending_text.proofs.op_numbers.Tie as tie
 
 -- the numbers of the operation that was told
 abbrev told : tie.Start → Op → List ℕ
-told s o = opNumbers o s.args.made
+told s o = op_numbers o s.args.made
 
 returns-2 : tie.Need-returns-2
 returns-2 c = c.written.ensures ∙ sym (ap (told c.before.before.before.before) c.before.before.op.given.1)

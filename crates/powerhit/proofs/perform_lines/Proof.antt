@@ -1,11 +1,11 @@
 -- At the head of the loop the lines before `start` are performed, and `end` is where the next one ends.
 use Rattle.std.proofs.Common.{◌≡◌, ℕ, ◌+◌, ◌-◌, ◌^◌, ◌<◌, ◌≤◌, length, drop, sym, refl, ◌∙◌, arith, rules}
 use Rattle.words.specs.Words.{part}
-use Rattle.cutting.specs.Pieces.{lineEnd}
+use Rattle.cutting.specs.Pieces.{line_end}
 use Rattle.cutting.specs.Feeding.{fed}
 use Rattle.cutting.proofs.Cutting.{end-le, end_ge, end-again}
-use Rattle.executing.specs.Called.{machineAt}
-use Rattle.script.specs.Performed.{performedTo}
+use Rattle.executing.specs.Called.{machine_at}
+use Rattle.script.specs.Performed.{performed_to}
 use Rattle.powerhit.specs.Program.{Work, act, Stands}
 use Rattle.powerhit.proofs.Going.{Reached, reached-line, reached-end}
 use Rattle.powerhit.proofs.perform_lines.Statement.{statement}
@@ -13,9 +13,9 @@ use Rattle.powerhit.proofs.perform_lines.Tie as tie
 
 abbrev invariant-loop : tie.invariant-loop
 invariant-loop image₀ words₀ piece from to out₀ mode₀ lines₀ at₀ start₀ end₀ ok₀ image words out mode lines at start end ok =
-    (length image ≡ length image₀) × (start ≤ end) × (end ≡ lineEnd piece end)
-    × ((w : Work) → Stands (machineAt mode₀ words₀) lines₀ at₀ image₀ out₀ w
-    → Reached (machineAt mode words) lines at image out piece start end (fed act (record { done = w; begun = part piece from (to - from) }) (drop to piece)))
+    (length image ≡ length image₀) × (start ≤ end) × (end ≡ line_end piece end)
+    × ((w : Work) → Stands (machine_at mode₀ words₀) lines₀ at₀ image₀ out₀ w
+    → Reached (machine_at mode words) lines at image out piece start end (fed act (record { done = w; begun = part piece from (to - from) }) (drop to piece)))
 
 abbrev decreases-loop : tie.decreases-loop
 decreases-loop image₀ words₀ piece from to out₀ mode₀ lines₀ at₀ start₀ end₀ ok₀ image words out mode lines at start end ok = length piece - start
@@ -79,7 +79,7 @@ loop-again c =
       omega (arith, found, end_ge piece next some),
       rw found (end-again piece next some),
       λ w stands.
-          reached-line (inv.3 w stands) room.result _ (performedTo done.perform.result _ _ _) c.line-end.result inv.2 l.ends
+          reached-line (inv.3 w stands) room.result _ (performed_to done.perform.result _ _ _) c.line-end.result inv.2 l.ends
           room.ensures size (done.perform.auto.1.1.1.1.1.0 ∙ size)
           count.wrapping-add-usize.ensures done.perform.ensures found,
     )

@@ -2,7 +2,7 @@ use native.Mathlib.Omega.{arith}
 use borrow.Author.Rules.{rules}
 use Rattle.decimals.proofs.Printing.{decimal-le}
 use Rattle.number_text.proofs.Puts.{put_then}
-use Rattle.printing.specs.Output.{outputLine}
+use Rattle.printing.specs.Output.{output_line}
 use Rattle.printing.proofs.Puts.{as-put}
 use Rattle.printing.proofs.put_output.Statement.{statement}
 use Rattle.printing.proofs.put_output.Tie as tie
@@ -15,7 +15,7 @@ put-fields-requires c κs =
     omega arith
 
 returns : tie.Need-returns
-unfolding outputLine
+unfolding output_line
 returns c =
     let s = c.before.before.before.before.before.before.before.before.before in
     let number = c.before.before.before.before.before.before.put-decimal in

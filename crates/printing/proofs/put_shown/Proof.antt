@@ -1,6 +1,6 @@
 use native.Mathlib.Omega.{arith}
 use borrow.Author.Rules.{rules}
-use Rattle.decimals.specs.Decimal.{digitsOf}
+use Rattle.decimals.specs.Decimal.{digits_of}
 use Rattle.decimals.proofs.Printing.{decimal-le}
 use Rattle.number_text.proofs.Puts.{put_then}
 use Rattle.printing.proofs.Puts.{as-put}
@@ -30,7 +30,7 @@ put-byte-requires c κs =
     omega arith
 
 returns : tie.Need-returns
-unfolding digitsOf
+unfolding digits_of
 returns c =
     let s = c.before.before.before.before.before.before.before.before.before.before.before.before.before.before.before.before.before in
     let call = c.before.before.before.before.before.before.before.before.before.before.before.before.before.before.put_three in

@@ -1,6 +1,6 @@
 use native.Mathlib.Omega.{arith}
 use borrow.Author.Rules.{rules}
-use Rattle.decimals.specs.Decimal.{digitsOf}
+use Rattle.decimals.specs.Decimal.{digits_of}
 use Rattle.number_text.proofs.Puts.{put_then}
 use Rattle.printing.proofs.put_unknown.Statement.{statement}
 use Rattle.printing.proofs.put_unknown.Tie as tie
@@ -19,7 +19,7 @@ put-three-requires-3 c κs =
     omega arith
 
 returns : tie.Need-returns
-unfolding digitsOf
+unfolding digits_of
 returns c =
     let s = c.before.before.before.before.before.before.before.before.before.before.before.before.before in
     let call = c.before.before.before.before.before.before.before.before.before.before.put_three in

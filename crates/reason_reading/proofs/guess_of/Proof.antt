@@ -1,6 +1,6 @@
 use native.Mathlib.Omega.{arith}
 use borrow.Author.Rules.{rules}
-use Rattle.reason_reading.specs.Reading.{guess, guessFor}
+use Rattle.reason_reading.specs.Reading.{guess, guess_for}
 use Rattle.reason_reading.proofs.Guessing.{after-le}
 use Rattle.reason_reading.proofs.guess_of.Statement.{statement}
 use Rattle.reason_reading.proofs.guess_of.Tie as tie
@@ -15,7 +15,7 @@ place-after-requires-3 c κs =
     omega (arith, after-le p.before.before.before.takes-writer.result 1, p.place_after.ensures, after-le p.before.before.takes-page.result page, c.place-after2.ensures)
 
 returns : tie.Need-returns
-unfolding guess guessFor
+unfolding guess guess_for
 returns c = cc
 
 pub guess-of-spec : {M : Type 1} → statement M

@@ -7,7 +7,7 @@ use lib.Dec.{eqb}
 use lib.ListN.{length, get_or}
 use borrow.Author.Rules.{rules}
 use borrow.Author.Tests.{not-true, not-false}
-use Rattle.reason_reading.specs.Numbers.{goesOn, numbersIn}
+use Rattle.reason_reading.specs.Numbers.{goes_on, numbers_in}
 use Rattle.reason_reading.proofs.Scanning.{Digit, digit, Going, turn-digit, turn_gap, turn-found, turn-past, going_end}
 use Rattle.reason_reading.proofs.number_at.Statement.{statement}
 use Rattle.reason_reading.proofs.number_at.Tie as tie
@@ -27,7 +27,7 @@ met : (c : tie.Then1 invariant-loop decreases-loop)
 met c = digit _ _ (sym c.before.goes_on.ensures ∙ c.if1.true)
 
 unmet : (c : tie.Else1 invariant-loop decreases-loop)
-    → (let h = c.before.before.before.before in goesOn h.loop.v (get_or h.before.before.args.text.now h.loop.i 0) ≡ false)
+    → (let h = c.before.before.before.before in goes_on h.loop.v (get_or h.before.before.args.text.now h.loop.i 0) ≡ false)
 unmet c = sym c.before.goes_on.ensures ∙ c.if1.false
 
 mul-v : tie.Need-overflow-mul-v invariant-loop decreases-loop
@@ -86,7 +86,7 @@ loop-again-3 c =
 
 ended : (c : tie.After-loop invariant-loop decreases-loop)
     → (let h = c.before in
-    get_or (numbersIn h.before.before.args.text.now) h.before.before.args.k 0 ≡ cond (h.loop.on && eqb h.loop.left 0) h.loop.v 0)
+    get_or (numbers_in h.before.before.args.text.now) h.before.before.args.k 0 ≡ cond (h.loop.on && eqb h.loop.left 0) h.loop.v 0)
 ended c =
     let h = c.before in
     let x = h.before.before.args in

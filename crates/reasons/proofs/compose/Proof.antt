@@ -8,7 +8,7 @@ use borrow.Author.Tests.{not-true}
 use Rattle.bounded.proofs.Tests.{held}
 use Rattle.number_text.specs.Text.{Put}
 use Rattle.number_text.proofs.Puts.{put_then}
-use Rattle.wording.specs.Calls.{callCount, numberCount, canReturn}
+use Rattle.wording.specs.Calls.{call_count, number_count, can_return}
 use Rattle.wording.proofs.Returns.{Known, known}
 use Rattle.reasons.specs.declared.Reason.{Reason}
 use Rattle.reasons.specs.Sentence.{sentence}
@@ -17,10 +17,10 @@ use Rattle.reasons.proofs.Composing.{too_short, cannot, taken}
 use Rattle.reasons.proofs.compose.Statement.{statement}
 use Rattle.reasons.proofs.compose.Tie as tie
 
-can : (c : tie.Else2) → (let r = c.before.before.before.before.args.reason in canReturn r.call r.number ≡ true)
+can : (c : tie.Else2) → (let r = c.before.before.before.before.args.reason in can_return r.call r.number ≡ true)
 can c = held _ _ c.before.can-return.ensures c.if2.false
 
-placed : (c : tie.Else2) → (let r = c.before.before.before.before.args.reason in Known callCount numberCount r.call r.number)
+placed : (c : tie.Else2) → (let r = c.before.before.before.before.args.reason in Known call_count number_count r.call r.number)
 placed c = let r = c.before.before.before.before.args.reason in known r.call r.number (can c)
 
 opened : (c : tie.After-put-opening) → c.put-opening.result ≤ 74

@@ -4,14 +4,14 @@ use borrow.Author.Rules.{rules}
 use borrow.Author.Tests.{lt-ltb, le-ltb}
 use Rattle.words.specs.Words.{word}
 use Rattle.journal.specs.declared.Slot.{Slot}
-use Rattle.refinement.specs.Frames.{committedFrame}
+use Rattle.refinement.specs.Frames.{committed_frame}
 use Rattle.recalling.proofs.recall_frame.Statement.{statement}
 use Rattle.recalling.proofs.recall_frame.Tie as tie
 
 returns : tie.Need-returns
 returns c =
     rw (← c.before.before.before.before.slot_of.ensures, lt-ltb _ _ c.before.before.if1.true)
-    (c.committed-frame.ensures ∙ ap (λ (t : Slot). committedFrame t c.before.before.before.before.before.before.before.before.args.line) c.before.slot-in.ensures)
+    (c.committed-frame.ensures ∙ ap (λ (t : Slot). committed_frame t c.before.before.before.before.before.before.before.before.args.line) c.before.slot-in.ensures)
 
 returns-2 : tie.Need-returns-2
 returns-2 c =

@@ -6,12 +6,12 @@ use lib.Dec.{eqb}
 use borrow.Author.Tests.{eq-eqb, ne_eqb}
 use borrow.Author.Rules.{rules}
 use Rattle.bounded.proofs.Below.{first-none, first-turn, first_stops, first_ends}
-use Rattle.bounded.specs.Below.{firstBelow}
+use Rattle.bounded.specs.Below.{first_below}
 use Rattle.recalling.proofs.slot_of.Statement.{statement}
 use Rattle.recalling.proofs.slot_of.Tie as tie
 
 abbrev invariant-loop : tie.invariant-loop
-invariant-loop z page p s₀ s = (s ≤ z.slots) × (firstBelow s (λ k. eqb (get_or page k 0) p) ≡ s)
+invariant-loop z page p s₀ s = (s ≤ z.slots) × (first_below s (λ k. eqb (get_or page k 0) p) ≡ s)
 
 abbrev decreases-loop : tie.decreases-loop
 decreases-loop z page p s₀ s = z.slots - s

@@ -3,20 +3,20 @@ use mathlib.Core.Bool.{Bool, not, ◌&&◌}
 use mathlib.Core.Path.{◌≡◌, ap, ◌∙◌}
 use lib.Dec.{eqb}
 use borrow.Author.Rules.{rules}
-use Rattle.masks.specs.Lines.{inMask}
-use Rattle.bounded.specs.Below.{firstBelow}
+use Rattle.masks.specs.Lines.{in_mask}
+use Rattle.bounded.specs.Below.{first_below}
 use Rattle.bounded.proofs.Below.{first-none, first-turn, first_stops, first_ends}
 use Rattle.state_words.specs.Decoded.{decoded}
-use Rattle.refusals.specs.Met.{holdsLine}
+use Rattle.refusals.specs.Met.{holds_line}
 use Rattle.refusals.proofs.first_of_line.Statement.{statement}
 use Rattle.refusals.proofs.first_of_line.Tie as tie
 
 -- that another holds the line, as it was read
-held : (v w l m : ℕ) (b : Bool) {h : ℕ} → b ≡ inMask m l → m ≡ h → not (eqb v w) && b ≡ not (eqb v w) && inMask h l
-held v w l m b e f = ap (λ (x : Bool). not (eqb v w) && x) (e ∙ ap (λ (x : ℕ). inMask x l) f)
+held : (v w l m : ℕ) (b : Bool) {h : ℕ} → b ≡ in_mask m l → m ≡ h → not (eqb v w) && b ≡ not (eqb v w) && in_mask h l
+held v w l m b e f = ap (λ (x : Bool). not (eqb v w) && x) (e ∙ ap (λ (x : ℕ). in_mask x l) f)
 
 abbrev invariant-loop : tie.invariant-loop
-invariant-loop words w s l v₀ v = (v ≤ 4) × (firstBelow v (holdsLine (decoded words).writers.held w s l) ≡ v)
+invariant-loop words w s l v₀ v = (v ≤ 4) × (first_below v (holds_line (decoded words).writers.held w s l) ≡ v)
 
 abbrev decreases-loop : tie.decreases-loop
 decreases-loop words w s l v₀ v = 4 - v

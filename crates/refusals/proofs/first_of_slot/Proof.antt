@@ -4,10 +4,10 @@ use mathlib.Core.Path.{◌≡◌, refl, sym, ap, ◌∙◌}
 use lib.Dec.{eqb}
 use borrow.Author.Rules.{rules}
 use borrow.Author.Tests.{eq-eqb, ne_eqb}
-use Rattle.bounded.specs.Below.{firstBelow}
+use Rattle.bounded.specs.Below.{first_below}
 use Rattle.bounded.proofs.Below.{first-none, first-turn, first_stops, first_ends}
 use Rattle.state_words.specs.Decoded.{decoded}
-use Rattle.refusals.specs.Met.{holdsSlot}
+use Rattle.refusals.specs.Met.{holds_slot}
 use Rattle.refusals.proofs.first_of_slot.Statement.{statement}
 use Rattle.refusals.proofs.first_of_slot.Tie as tie
 
@@ -19,7 +19,7 @@ none : (m : ℕ) {h : ℕ} → m ≡ 0 → m ≡ h → false ≡ not (eqb h 0)
 none m n e = sym (ap not (eq-eqb m 0 n)) ∙ ap (λ (x : ℕ). not (eqb x 0)) e
 
 abbrev invariant-loop : tie.invariant-loop
-invariant-loop words s v₀ v = (v ≤ 4) × (firstBelow v (holdsSlot (decoded words).writers.held s) ≡ v)
+invariant-loop words s v₀ v = (v ≤ 4) × (first_below v (holds_slot (decoded words).writers.held s) ≡ v)
 
 abbrev decreases-loop : tie.decreases-loop
 decreases-loop words s v₀ v = 4 - v

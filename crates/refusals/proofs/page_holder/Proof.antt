@@ -2,7 +2,7 @@ use mathlib.Core.Path.{◌≡◌, ap, ◌∙◌}
 use borrow.Author.Rules.{rules}
 use Rattle.layout.specs.declared.Sizes.{Sizes}
 use Rattle.state_words.specs.Decoded.{decoded}
-use Rattle.refusals.specs.Met.{slotMet}
+use Rattle.refusals.specs.Met.{slot_met}
 use Rattle.refusals.proofs.Slots.{page-no-slot, page-first}
 use Rattle.refusals.proofs.page_holder.Statement.{statement}
 use Rattle.refusals.proofs.page_holder.Tie as tie
@@ -12,7 +12,7 @@ returns c =
     let x = c.before.before.before.args in
     let st = decoded x.words.now in
     let s = c.before.slot-met in
-    let e = s.ensures ∙ ap (λ (z : Sizes). slotMet z st.table.page x.page) c.before.before.sizes-in.ensures in
+    let e = s.ensures ∙ ap (λ (z : Sizes). slot_met z st.table.page x.page) c.before.before.sizes-in.ensures in
     page-no-slot st x.page s.result e c.if1.true
 
 returns-2 : tie.Need-returns-2
@@ -20,7 +20,7 @@ returns-2 c =
     let x = c.before.before.before.before.args in
     let st = decoded x.words.now in
     let s = c.before.before.slot-met in
-    let e = s.ensures ∙ ap (λ (z : Sizes). slotMet z st.table.page x.page) c.before.before.before.sizes-in.ensures in
+    let e = s.ensures ∙ ap (λ (z : Sizes). slot_met z st.table.page x.page) c.before.before.before.sizes-in.ensures in
     c.first-of-slot.ensures ∙ page-first st x.page s.result e c.before.if1.false
 
 pub page-holder-spec : {M : Type 1} → statement M

@@ -4,8 +4,8 @@ use mathlib.Core.Bool.{Bool, cond}
 use mathlib.Core.Path.{◌≡◌, ap, ◌∙◌}
 use borrow.Author.Rules.{rules}
 use Rattle.reasons.specs.declared.Reason.{Reason}
-use Rattle.wording.specs.Calls.{takesWriter, takesPage, takesLine}
-use Rattle.refusals.specs.Met.{reasonMet}
+use Rattle.wording.specs.Calls.{takes_writer, takes_page, takes_line}
+use Rattle.refusals.specs.Met.{reason_met}
 use Rattle.refusals.proofs.reason_met.Statement.{statement}
 use Rattle.refusals.proofs.reason_met.Tie as tie
 
@@ -19,16 +19,16 @@ taken : (v : ℕ) (r : ℕ) (has b : Bool) → r ≡ cond has v 0 → has ≡ b 
 taken v r has b e h = e ∙ ap (λ (x : Bool). cond x v 0) h
 
 returns : tie.Need-returns
-unfolding reasonMet
+unfolding reason_met
 returns c =
     let line = c.before in
     let page = line.before.before in
     let writer = page.before.before in
     let x = writer.before.before.args in
     same-reason x.call x.number
-    (taken x.writer writer.where-taken.result _ (takesWriter x.call) writer.where-taken.ensures writer.before.takes-writer.ensures)
-    (taken x.page page.where-taken2.result _ (takesPage x.call) page.where-taken2.ensures page.before.takes-page.ensures)
-    (taken x.line line.where-taken3.result _ (takesLine x.call) line.where-taken3.ensures line.before.takes-line.ensures)
+    (taken x.writer writer.where-taken.result _ (takes_writer x.call) writer.where-taken.ensures writer.before.takes-writer.ensures)
+    (taken x.page page.where-taken2.result _ (takes_page x.call) page.where-taken2.ensures page.before.takes-page.ensures)
+    (taken x.line line.where-taken3.result _ (takes_line x.call) line.where-taken3.ensures line.before.takes-line.ensures)
     c.holder-met.ensures
 
 pub reason-met-spec : {M : Type 1} → statement M

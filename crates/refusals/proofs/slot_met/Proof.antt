@@ -3,14 +3,14 @@ use mathlib.Core.Bool.{true}
 use borrow.Author.Rules.{rules}
 use borrow.Author.Tests.{not-true}
 use Rattle.bounded.proofs.Tests.{held}
-use Rattle.layout.specs.Layout.{sizesOk}
+use Rattle.layout.specs.Layout.{sizes_ok}
 use Rattle.layout.proofs.LayoutLaws.{legal}
 use Rattle.state_words.specs.Decoded.{decoded}
 use Rattle.refusals.proofs.Slots.{sizes-bad, no_slot, has-slot}
 use Rattle.refusals.proofs.slot_met.Statement.{statement}
 use Rattle.refusals.proofs.slot_met.Tie as tie
 
-sizes : (c : tie.Else1) → sizesOk c.before.before.args.z ≡ true
+sizes : (c : tie.Else1) → sizes_ok c.before.before.args.z ≡ true
 sizes c = held _ _ c.before.sizes-ok.ensures c.if1.false
 
 returns : tie.Need-returns

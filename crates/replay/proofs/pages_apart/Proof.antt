@@ -6,12 +6,12 @@ use borrow.Author.Rules.{rules}
 use borrow.Author.Tests.{not-true, not-false}
 use Rattle.bounded.specs.Below.{all_below}
 use Rattle.bounded.proofs.Below.{all_none, all-turn, all-stops, all-ends}
-use Rattle.replay.specs.Table.{pageApart}
+use Rattle.replay.specs.Table.{page_apart}
 use Rattle.replay.proofs.pages_apart.Statement.{statement}
 use Rattle.replay.proofs.pages_apart.Tie as tie
 
 abbrev invariant-loop : tie.invariant-loop
-invariant-loop z page s₀ s = (s ≤ z.slots) × (all_below s (pageApart page) ≡ true)
+invariant-loop z page s₀ s = (s ≤ z.slots) × (all_below s (page_apart page) ≡ true)
 
 abbrev decreases-loop : tie.decreases-loop
 decreases-loop z page s₀ s = z.slots - s

@@ -7,14 +7,14 @@ use Rattle.bounded.specs.Below.{up_to}
 use Rattle.bounded.proofs.Below.{up_none, up_turn, up_ends}
 use Rattle.words.specs.Words.{word}
 use Rattle.journal.specs.declared.Record.{Record}
-use Rattle.journal.specs.Records.{liveRecord, position}
-use Rattle.replay.specs.Table.{replaced, tableFrom, replay}
+use Rattle.journal.specs.Records.{live_record, position}
+use Rattle.replay.specs.Table.{replaced, table_from, replay}
 use Rattle.journal.proofs.RightRecords.{right-at}
 use Rattle.replay.proofs.replayed.Statement.{statement}
 use Rattle.replay.proofs.replayed.Tie as tie
 
 abbrev invariant-loop : tie.invariant-loop
-invariant-loop image z tail n t₀ i₀ t i = (i ≤ n) × (t ≡ up_to i (λ k u. replaced u (liveRecord (word image) z tail k) (position z tail k)) (tableFrom (word image) z))
+invariant-loop image z tail n t₀ i₀ t i = (i ≤ n) × (t ≡ up_to i (λ k u. replaced u (live_record (word image) z tail k) (position z tail k)) (table_from (word image) z))
 
 abbrev decreases-loop : tie.decreases-loop
 decreases-loop image z tail n t₀ i₀ t i = n - i
@@ -30,7 +30,7 @@ low c =
     omega (
       arith,
       ap (λ (e : Record). e.slot) c.before.live-record.ensures,
-      (right-at x.z x.tail (liveRecord (word x.image.now) x.z x.tail) x.n c.before.before.before.loop.i c.before.before.loop-test.true h.requires.4).slot-low,
+      (right-at x.z x.tail (live_record (word x.image.now) x.z x.tail) x.n c.before.before.before.loop.i c.before.before.loop-test.true h.requires.4).slot-low,
     )
 
 mul-t : tie.Need-overflow-mul-t invariant-loop decreases-loop

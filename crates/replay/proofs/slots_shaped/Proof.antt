@@ -7,12 +7,12 @@ use borrow.Author.Tests.{not-true, not-false}
 use Rattle.bounded.specs.Below.{all_below}
 use Rattle.bounded.proofs.Below.{all_none, all-turn, all-stops, all-ends}
 use Rattle.journal.specs.Slots.{shaped}
-use Rattle.replay.specs.Table.{slotIn, slotsOfArrays}
+use Rattle.replay.specs.Table.{slot_in, slots_of_arrays}
 use Rattle.replay.proofs.slots_shaped.Statement.{statement}
 use Rattle.replay.proofs.slots_shaped.Tie as tie
 
 abbrev invariant-loop : tie.invariant-loop
-invariant-loop z page original spare bitmap s₀ s = (s ≤ z.slots) × (all_below s (λ k. shaped z (slotIn (slotsOfArrays page original spare bitmap) k)) ≡ true)
+invariant-loop z page original spare bitmap s₀ s = (s ≤ z.slots) × (all_below s (λ k. shaped z (slot_in (slots_of_arrays page original spare bitmap) k)) ≡ true)
 
 abbrev decreases-loop : tie.decreases-loop
 decreases-loop z page original spare bitmap s₀ s = z.slots - s

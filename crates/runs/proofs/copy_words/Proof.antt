@@ -4,19 +4,19 @@ use Prim.Native.Nat.{◌-◌, ◌≤◌}
 use borrow.Author.Rules.{rules}
 use native.Mathlib.Omega.{arith}
 use lib.ListN.{length}
-use Rattle.words.specs.Words.{wordsAt, putWords}
+use Rattle.words.specs.Words.{words_at, put_words}
 use Rattle.words.proofs.Runs.{puts-words, puts-copied}
 use Rattle.runs.proofs.copy_words.Statement.{statement}
 use Rattle.runs.proofs.copy_words.Tie as tie
 
 abbrev invariant-loop : tie.invariant-loop
-invariant-loop src from dst₀ to n i₀ dst i = (i ≤ n) × (length dst ≡ length dst₀) × (dst ≡ putWords dst₀ to (wordsAt src from i))
+invariant-loop src from dst₀ to n i₀ dst i = (i ≤ n) × (length dst ≡ length dst₀) × (dst ≡ put_words dst₀ to (words_at src from i))
 
 abbrev decreases-loop : tie.decreases-loop
 decreases-loop src from dst₀ to n i₀ dst i = n - i
 
 loop-holds : tie.Need-loop-init invariant-loop decreases-loop
-unfolding putWords wordsAt
+unfolding put_words words_at
 loop-holds c = (search rules, refl, refl)
 
 loop-again : tie.Need-loop-preserved invariant-loop decreases-loop

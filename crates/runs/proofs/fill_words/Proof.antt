@@ -4,19 +4,19 @@ use Prim.Native.Nat.{◌-◌, ◌≤◌}
 use borrow.Author.Rules.{rules}
 use native.Mathlib.Omega.{arith}
 use lib.ListN.{length, replicate}
-use Rattle.words.specs.Words.{putWords}
+use Rattle.words.specs.Words.{put_words}
 use Rattle.words.proofs.Runs.{puts-replicate}
 use Rattle.runs.proofs.fill_words.Statement.{statement}
 use Rattle.runs.proofs.fill_words.Tie as tie
 
 abbrev invariant-loop : tie.invariant-loop
-invariant-loop s₀ at n v i₀ s i = (i ≤ n) × (length s ≡ length s₀) × (s ≡ putWords s₀ at (replicate i v))
+invariant-loop s₀ at n v i₀ s i = (i ≤ n) × (length s ≡ length s₀) × (s ≡ put_words s₀ at (replicate i v))
 
 abbrev decreases-loop : tie.decreases-loop
 decreases-loop s₀ at n v i₀ s i = n - i
 
 loop-holds : tie.Need-loop-init invariant-loop decreases-loop
-unfolding putWords
+unfolding put_words
 loop-holds c = (search rules, refl, refl)
 
 loop-again : tie.Need-loop-preserved invariant-loop decreases-loop

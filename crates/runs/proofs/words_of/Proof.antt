@@ -2,7 +2,7 @@
 use mathlib.Core.Path.{◌≡◌, refl, ap₂}
 use mathlib.Core.List.{List, ◌∷◌}
 use Prim.Native.Nat.{ℕ}
-use Rattle.words.specs.Words.{wordsAt}
+use Rattle.words.specs.Words.{words_at}
 use borrow.Author.Rules.{rules}
 use Rattle.runs.proofs.words_of.Statement.{statement}
 use Rattle.runs.proofs.words_of.Tie as tie
@@ -12,7 +12,7 @@ and : {a b : ℕ} → a ≡ b → {l m : List ℕ} → l ≡ m → a ∷ l ≡ b
 and e f = ap₂ (λ (n : ℕ) (l : List ℕ). n ∷ l) e f
 
 returns : tie.Need-returns
-unfolding wordsAt
+unfolding words_at
 returns c =
     let w7 = c in
     let w6 = w7.before in

@@ -4,21 +4,21 @@ use borrow.Author.Rules.{rules}
 use Rattle.bounded.specs.Below.{up_to}
 use Rattle.number_text.specs.Text.{each}
 use Rattle.sequences.specs.Sequences.{sequence}
-use Rattle.sequence_lines.specs.Listing.{neededBy, line_of}
-use Rattle.short_runs.specs.Program.{withLine, Prints}
+use Rattle.sequence_lines.specs.Listing.{needed_by, line_of}
+use Rattle.short_runs.specs.Program.{with_line, Prints}
 use Rattle.short_runs.proofs.Printed.{prints-none, prints-more, prints-lines}
 use Rattle.short_runs.proofs.put_cuts.Statement.{statement}
 use Rattle.short_runs.proofs.put_cuts.Tie as tie
 
 abbrev invariant-loop : tie.invariant-loop
 invariant-loop out₀ n i output₀ k₀ out output k =
-    (k ≤ neededBy (sequence n i)) × Prints output₀ out₀ (each k (line_of (sequence n i))) (up_to k (λ j. withLine (line_of (sequence n i) j))) output out
+    (k ≤ needed_by (sequence n i)) × Prints output₀ out₀ (each k (line_of (sequence n i))) (up_to k (λ j. with_line (line_of (sequence n i) j))) output out
 
 abbrev decreases-loop : tie.decreases-loop
-decreases-loop out₀ n i output₀ k₀ out output k = neededBy (sequence n i) - k
+decreases-loop out₀ n i output₀ k₀ out output k = needed_by (sequence n i) - k
 
 loop-holds : tie.Need-loop-init invariant-loop decreases-loop
-loop-holds c = (omega arith, prints-none (line_of (sequence c.args.n c.args.i)) (λ j. withLine (line_of (sequence c.args.n c.args.i) j)))
+loop-holds c = (omega arith, prints-none (line_of (sequence c.args.n c.args.i)) (λ j. with_line (line_of (sequence c.args.n c.args.i) j)))
 
 returns : tie.Need-returns invariant-loop decreases-loop
 returns c =
@@ -26,7 +26,7 @@ returns c =
     let h = c.before.before.before.before.before.loop in
     let a = c.before.before.before.before.before.before.args in
     let calls = sequence a.n a.i in
-    prints-lines calls h.k h.invariant.0 (omega (arith, cut.ensures.needed, c.if1.true)) (prints-more (line_of calls) (λ j. withLine (line_of calls j)) h.k h.invariant.1 cut.ensures.line)
+    prints-lines calls h.k h.invariant.0 (omega (arith, cut.ensures.needed, c.if1.true)) (prints-more (line_of calls) (λ j. with_line (line_of calls j)) h.k h.invariant.1 cut.ensures.line)
 
 add-k : tie.Need-overflow-add-k invariant-loop decreases-loop
 add-k c = omega (arith, c.if1.false)
@@ -40,7 +40,7 @@ loop-again c =
     let h = c.before.before.before.before.before.loop in
     let a = c.before.before.before.before.before.before.args in
     let calls = sequence a.n a.i in
-    (omega (arith, cut.ensures.needed, c.if1.false), prints-more (line_of calls) (λ j. withLine (line_of calls j)) h.k h.invariant.1 cut.ensures.line)
+    (omega (arith, cut.ensures.needed, c.if1.false), prints-more (line_of calls) (λ j. with_line (line_of calls j)) h.k h.invariant.1 cut.ensures.line)
 
 pub put-cuts-spec : {M : Type 1} → statement M
 put-cuts-spec =

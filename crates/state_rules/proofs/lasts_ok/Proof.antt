@@ -7,7 +7,7 @@ use borrow.Author.Tests.{not-true, not-false}
 use Rattle.state_words.specs.Decoded.{decoded}
 use Prim.Native.Nat.{ℕ}
 use mathlib.Core.Path.{◌≡◌, ap, ◌∙◌}
-use Rattle.validity.specs.Validity.{lastOkOf, lastsOk}
+use Rattle.validity.specs.Validity.{last_ok_of, lasts_ok}
 use Rattle.state_rules.specs.Met.{Met}
 use Rattle.state_rules.proofs.MetLaws.{met-none, met-more}
 use Rattle.state_rules.proofs.lasts_ok.Statement.{statement}
@@ -15,7 +15,7 @@ use Rattle.state_rules.proofs.lasts_ok.Tie as tie
 
 abbrev invariant-loop : tie.invariant-loop
 invariant-loop z head tail words live met₀ s₀ met s =
-    (s ≤ z.slots) × ((all_below s (lastOkOf z tail live (decoded words).table.last) ≡ true) × Met (decoded words).table.last s met)
+    (s ≤ z.slots) × ((all_below s (last_ok_of z tail live (decoded words).table.last) ≡ true) × Met (decoded words).table.last s met)
 
 abbrev decreases-loop : tie.decreases-loop
 decreases-loop z head tail words live met₀ s₀ met s = z.slots - s
@@ -30,11 +30,11 @@ last-ok-requires c κs =
     (s.requires.0, s.requires.2, search rules, h.loop.invariant.1.1)
 
 returns : tie.Need-returns invariant-loop decreases-loop
-unfolding lastsOk
+unfolding lasts_ok
 returns c =
     let a = c.before.before.before.before.before.before.args in
     all-stops _ _ _ _ c.before.before.if1.true c.before.last_ok.ensures (not-true _ c.if2.true)
-    ∙ ap (λ (n : ℕ). all_below a.z.slots (lastOkOf a.z a.tail n (decoded a.words.now).table.last)) c.before.before.before.before.before.live-count.ensures
+    ∙ ap (λ (n : ℕ). all_below a.z.slots (last_ok_of a.z a.tail n (decoded a.words.now).table.last)) c.before.before.before.before.before.live-count.ensures
 
 loop-again : tie.Need-loop-preserved invariant-loop decreases-loop
 loop-again c =
@@ -49,11 +49,11 @@ loop-again c =
     )
 
 returns-2 : tie.Need-returns-2 invariant-loop decreases-loop
-unfolding lastsOk
+unfolding lasts_ok
 returns-2 c =
     let a = c.before.before.before.before.args in
     all-ends _ _ _ c.before.before.loop.invariant.0 c.if1.false c.before.before.loop.invariant.1.0
-    ∙ ap (λ (n : ℕ). all_below a.z.slots (lastOkOf a.z a.tail n (decoded a.words.now).table.last)) c.before.before.before.live-count.ensures
+    ∙ ap (λ (n : ℕ). all_below a.z.slots (last_ok_of a.z a.tail n (decoded a.words.now).table.last)) c.before.before.before.live-count.ensures
 
 pub lasts-ok-spec : {M : Type 1} → statement M
 lasts-ok-spec =

@@ -2,7 +2,7 @@ use borrow.Author.Rules.{rules}
 use mathlib.Core.Bool.{Bool}
 use mathlib.Core.Path.{sym, ap, ◌∙◌}
 use Rattle.state.specs.declared.Op.{Op}
-use Rattle.validity.specs.Validity.{opFits, isFresh}
+use Rattle.validity.specs.Validity.{op_fits, is_fresh}
 use Rattle.state_words.specs.Decoded.{decoded}
 use Rattle.op_rows.specs.Seen.{seen}
 use Rattle.state_rules.proofs.op_fits.Statement.{statement}
@@ -12,7 +12,7 @@ use Rattle.state_rules.proofs.op_fits.Tie as tie
 abbrev fits : tie.Start → Op → Bool
 fits s op =
     let a = s.args in
-    opFits a.at.wide (isFresh (seen a.z a.at (decoded a.words.now))) op
+    op_fits a.at.wide (is_fresh (seen a.z a.at (decoded a.words.now))) op
 
 returns : tie.Need-returns
 returns c = sym (ap (fits c.before.before.before.before) c.before.before.op.given.1)

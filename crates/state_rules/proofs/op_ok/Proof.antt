@@ -4,7 +4,7 @@ use mathlib.Core.Path.{◌≡◌, sym, ◌∙◌}
 use borrow.Author.Tests.{eq-eqb, ne_eqb}
 use Rattle.bounded.proofs.Tests.{and-stops, held}
 use Rattle.operations.proofs.Taken.{op-asked}
-use Rattle.validity.specs.Validity.{opFits, isFresh}
+use Rattle.validity.specs.Validity.{op_fits, is_fresh}
 use Rattle.state_words.specs.Decoded.{decoded}
 use Rattle.op_rows.specs.Seen.{seen}
 use Rattle.state_rules.proofs.op_ok.Statement.{statement}
@@ -14,7 +14,7 @@ returns : tie.Need-returns
 returns c = and-stops _ _ _ c.before.op_fits.ensures c.if1.true
 
 -- past the first test
-fits : (c : tie.Else1) → let a = c.before.before.args in opFits a.at.wide (isFresh (seen a.z a.at (decoded a.words.now))) a.op ≡ true
+fits : (c : tie.Else1) → let a = c.before.before.args in op_fits a.at.wide (is_fresh (seen a.z a.at (decoded a.words.now))) a.op ≡ true
 fits c = held _ _ c.before.op_fits.ensures c.if1.false
 
 returns-2 : tie.Need-returns-2

@@ -5,9 +5,9 @@ use borrow.Author.Tests.{le-ltb, lt-ltb}
 use Rattle.bounded.proofs.Tests.{and-stops, held}
 use Rattle.replay.specs.declared.Table.{Table}
 use Rattle.state_words.specs.Decoded.{decoded}
-use Rattle.state.specs.State.{ownFrame}
-use Rattle.state.specs.Held.{heldOk}
-use Rattle.validity.specs.Validity.{slotsOk, lastsOk, preparedOk, quietOk}
+use Rattle.state.specs.State.{own_frame}
+use Rattle.state.specs.Held.{held_ok}
+use Rattle.validity.specs.Validity.{slots_ok, lasts_ok, prepared_ok, quiet_ok}
 use Rattle.validity.proofs.Ranged.{PositionsLow, positions-low}
 use Rattle.state_rules.proofs.quiet_ok.Statement.{statement}
 use Rattle.state_rules.proofs.quiet_ok.Tie as tie
@@ -15,38 +15,38 @@ use Rattle.state_rules.proofs.quiet_ok.Tie as tie
 abbrev slots : tie.Start → Table
 slots c = (decoded c.args.words.now).table
 
-slots1 : (c : tie.Else1) → let a = c.before.before.args in slotsOk a.z a.at.head a.at.tail (slots c.before.before) (ownFrame (decoded a.words.now)) ≡ true
+slots1 : (c : tie.Else1) → let a = c.before.before.args in slots_ok a.z a.at.head a.at.tail (slots c.before.before) (own_frame (decoded a.words.now)) ≡ true
 slots1 c = held _ _ c.before.slots-ok.ensures c.if1.false
 
 low1 : (c : tie.Else1) → let a = c.before.before.args in PositionsLow a.z a.at.head a.at.tail
-low1 c = let a = c.before.before.args in positions-low a.z a.at.head a.at.tail (slots c.before.before) (ownFrame (decoded a.words.now)) (slots1 c)
+low1 c = let a = c.before.before.args in positions-low a.z a.at.head a.at.tail (slots c.before.before) (own_frame (decoded a.words.now)) (slots1 c)
 
-held2 : (c : tie.Else2) → let a = c.before.before.before.before.args in heldOk a.z (decoded a.words.now).table.page (decoded a.words.now).writers.opened (decoded a.words.now).writers.held ≡ true
+held2 : (c : tie.Else2) → let a = c.before.before.before.before.args in held_ok a.z (decoded a.words.now).table.page (decoded a.words.now).writers.opened (decoded a.words.now).writers.held ≡ true
 held2 c = held _ _ c.before.held-ok.ensures c.if2.false
 
-lasts4 : (c : tie.Else4) → let a = c.before.before.before.before.before.before.before.before.before.args in lastsOk a.z a.at.head a.at.tail (decoded a.words.now).table.last ≡ true
+lasts4 : (c : tie.Else4) → let a = c.before.before.before.before.before.before.before.before.before.args in lasts_ok a.z a.at.head a.at.tail (decoded a.words.now).table.last ≡ true
 lasts4 c = held _ _ c.before.lasts-ok.ensures c.if4.false
 
 returns : tie.Need-returns
-unfolding quietOk slotsOk
+unfolding quiet_ok slots_ok
 returns c = and-stops _ _ _ c.before.slots-ok.ensures c.if1.true
 
 held-ok-requires : tie.Need-held-ok-requires
 held-ok-requires c κs = (low1 c).legal
 
 returns-2 : tie.Need-returns-2
-unfolding quietOk slotsOk
+unfolding quiet_ok slots_ok
 returns-2 c = rw (slots1 c.before.before) (and-stops _ _ _ c.before.held-ok.ensures c.if2.true)
 
 returns-3 : tie.Need-returns-3
-unfolding quietOk slotsOk
+unfolding quiet_ok slots_ok
 returns-3 c = rw (slots1 c.before.before.before.before.before, held2 c.before.before.before, le-ltb _ _ c.if3.true)
 
 lasts-ok-requires : tie.Need-lasts-ok-requires
 lasts-ok-requires c κs = let r = low1 c.before.before.before.before.before in (r.legal, r.head-low, r.tail-low)
 
 returns-4 : tie.Need-returns-4
-unfolding quietOk slotsOk
+unfolding quiet_ok slots_ok
 returns-4 c = rw (slots1 c.before.before.before.before.before.before.before, held2 c.before.before.before.before.before, lt-ltb _ _ c.before.before.if3.false) (and-stops _ _ _ c.before.lasts-ok.ensures c.if4.true)
 
 prepared-ok-requires : tie.Need-prepared-ok-requires
@@ -54,18 +54,18 @@ prepared-ok-requires c κs = let r = low1 c.before.before.before.before.before.b
 
 prepared5 : (c : tie.Else5)
     → let a = c.before.before.before.before.before.before.before.before.before.before.before.args in
-    preparedOk a.z a.at.head a.at.tail (decoded a.words.now).writers.opened (decoded a.words.now).writers.held a.at.prepared ≡ true
+    prepared_ok a.z a.at.head a.at.tail (decoded a.words.now).writers.opened (decoded a.words.now).writers.held a.at.prepared ≡ true
 prepared5 c = held _ _ c.before.prepared-ok.ensures c.if5.false
 
 returns-5 : tie.Need-returns-5
-unfolding quietOk slotsOk
+unfolding quiet_ok slots_ok
 returns-5 c = rw (slots1 c.before.before.before.before.before.before.before.before.before, held2 c.before.before.before.before.before.before.before, lt-ltb _ _ c.before.before.before.before.if3.false, lasts4 c.before.before) (and-stops _ _ _ c.before.prepared-ok.ensures c.if5.true)
 
 wide-ok-requires : tie.Need-wide-ok-requires
 wide-ok-requires c κs = (low1 c.before.before.before.before.before.before.before.before.before).legal
 
 returns-6 : tie.Need-returns-6
-unfolding quietOk slotsOk
+unfolding quiet_ok slots_ok
 returns-6 c = rw (slots1 c.before.before.before.before.before.before.before.before.before.before, held2 c.before.before.before.before.before.before.before.before, lt-ltb _ _ c.before.before.before.before.before.if3.false, lasts4 c.before.before.before, prepared5 c.before) c.wide_ok.ensures
 
 pub quiet-ok-spec : {M : Type 1} → statement M

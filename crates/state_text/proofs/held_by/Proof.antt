@@ -4,14 +4,14 @@ use lib.ListN.{length, replicate}
 use borrow.Author.Rules.{rules}
 use Rattle.bounded.proofs.Tab.{filled_none, filled-turn, filled-ends, length-filled}
 use Rattle.bounded.specs.Tab.{filled}
-use Rattle.state.specs.Held.{heldAt}
+use Rattle.state.specs.Held.{held_at}
 use Rattle.state_text.proofs.Rows.{row_copied}
 use Rattle.state_words.specs.Decoded.{decoded}
 use Rattle.state_text.proofs.held_by.Statement.{statement}
 use Rattle.state_text.proofs.held_by.Tie as tie
 
 abbrev invariant-loop : tie.invariant-loop
-invariant-loop words w row₀ s₀ row s = (s ≤ 16) × (row ≡ filled s (heldAt (decoded words).writers.held w) (replicate 16 0))
+invariant-loop words w row₀ s₀ row s = (s ≤ 16) × (row ≡ filled s (held_at (decoded words).writers.held w) (replicate 16 0))
 
 abbrev decreases-loop : tie.decreases-loop
 decreases-loop words w row₀ s₀ row s = 16 - s
@@ -23,12 +23,12 @@ loop-again : tie.Need-loop-preserved invariant-loop decreases-loop
 loop-again c =
     let l = c.before.before in
     let a = l.before.before.before.args in
-    (search rules, filled-turn (heldAt (decoded a.words.now).writers.held a.w) _ _ _ _ l.loop.invariant.1 c.held_at.ensures)
+    (search rules, filled-turn (held_at (decoded a.words.now).writers.held a.w) _ _ _ _ l.loop.invariant.1 c.held_at.ensures)
 
 returns : tie.Need-returns invariant-loop decreases-loop
 returns c =
     let s = c.before.before.before.before in
-    let f = heldAt (decoded s.args.words.now).writers.held s.args.w in
+    let f = held_at (decoded s.args.words.now).writers.held s.args.w in
     let all = filled-ends f (replicate 16 0) _ 16 _ c.before.loop.invariant.0 c.loop-test.false c.before.loop.invariant.1 in
     (all ∙ row_copied s.args.words.now s.args.w c.before.before.All-words.ensures s.requires, ap length all ∙ length-filled 16 f (replicate 16 0))
 

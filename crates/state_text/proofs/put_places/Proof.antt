@@ -9,7 +9,7 @@ use Rattle.number_text.proofs.Puts.{put_then, put_as, blanked-three, length-blan
 use Rattle.number_text.specs.Text.{each, field}
 use Rattle.state.specs.State.{State}
 use Rattle.state_text.proofs.Lengths.{slots-text}
-use Rattle.state_text.specs.Numbers.{headerNumbers, slotNumbers, entryNumber}
+use Rattle.state_text.specs.Numbers.{header_numbers, slot_numbers, entry_number}
 use Rattle.state_words.specs.Decoded.{decoded}
 use Rattle.state_text.proofs.put_places.Statement.{statement}
 use Rattle.state_text.proofs.put_places.Tie as tie
@@ -63,7 +63,7 @@ returns c =
     let n = c.before.before.before.smaller2.result in
     let few : k ≡ min (st s).sizes.slots 16 = rw z.ensures at c.before.before.before.before.before.before.before.before.smaller.ensures in
     let less : n ≡ min (st s).sizes.pages 1024 = rw z.ensures at c.before.before.before.smaller2.ensures in
-    let text = blanked-three (headerNumbers (st s)) (each k (slotNumbers (st s).table)) (each n (entryNumber (st s).map)) in
+    let text = blanked-three (header_numbers (st s)) (each k (slot_numbers (st s).table)) (each n (entry_number (st s).map)) in
     rw (← few, ← less)
     (put_as (ap (λ (t : List ℕ). field (st s).sizes.pages ++ t) text)
     (put_then (rw z.ensures at page.ensures)

@@ -4,19 +4,19 @@ use native.Mathlib.Omega.{arith}
 use lib.ListN.{length}
 use Rattle.number_text.proofs.Puts.{each_none, each_at, each_turn, each-end}
 use Rattle.number_text.specs.Text.{Put, each, blanked}
-use Rattle.state_text.specs.Numbers.{slotNumbers}
+use Rattle.state_text.specs.Numbers.{slot_numbers}
 use Rattle.state_words.specs.Decoded.{decoded}
 use Rattle.state_text.proofs.put_slots.Statement.{statement}
 use Rattle.state_text.proofs.put_slots.Tie as tie
 
 abbrev invariant-loop : tie.invariant-loop
-invariant-loop out₀ at words n next₀ i₀ out next i = (i ≤ n) × (length out ≡ length out₀) × Put out₀ at (blanked (each i (slotNumbers (decoded words).table))) out next
+invariant-loop out₀ at words n next₀ i₀ out next i = (i ≤ n) × (length out ≡ length out₀) × Put out₀ at (blanked (each i (slot_numbers (decoded words).table))) out next
 
 abbrev decreases-loop : tie.decreases-loop
 decreases-loop out₀ at words n next₀ i₀ out next i = n - i
 
 loop-holds : tie.Need-loop-init invariant-loop decreases-loop
-loop-holds c = let a = c.before.args in (omega arith, refl, each_none a.out.now a.at (slotNumbers (decoded a.words.now).table))
+loop-holds c = let a = c.before.args in (omega arith, refl, each_none a.out.now a.at (slot_numbers (decoded a.words.now).table))
 
 slot-numbers-requires : tie.Need-slot-numbers-requires invariant-loop decreases-loop
 slot-numbers-requires c κs = omega (arith, c.before.before.before.requires, c.loop-test.true)
@@ -30,7 +30,7 @@ put-numbers-requires c κs =
     let l = c.before.before.before.before.loop in
     let test = c.before.before.before.loop-test in
     let five : length c.before.before.slot-numbers.result ≡ 5 = ap length c.before.before.slot-numbers.ensures in
-    let f = slotNumbers (decoded s.args.words.now).table in
+    let f = slot_numbers (decoded s.args.words.now).table in
     omega (arith, each_at f l.i l.invariant.2 5 (λ j. omega arith))
 
 add-i : tie.Need-overflow-add-i invariant-loop decreases-loop
@@ -45,7 +45,7 @@ loop-again c =
     let l = c.before.before.before.before.before.before.before.loop in
     let test = c.before.before.before.before.before.before.loop-test in
     let p = c.before.before.put-numbers in
-    let f = slotNumbers (decoded s.args.words.now).table in
+    let f = slot_numbers (decoded s.args.words.now).table in
     let here = each_at f l.i l.invariant.2 5 (λ j. omega arith) in
     (omega arith, omega arith, each_turn f l.i l.invariant.2 (rw c.before.before.before.before.before.slot-numbers.ensures at p.ensures) (omega arith))
 
@@ -56,7 +56,7 @@ returns : tie.Need-returns invariant-loop decreases-loop
 returns c =
     let s = c.before.before.before in
     let l = c.before.loop in
-    each-end (slotNumbers (decoded s.args.words.now).table) l.i l.invariant.2 s.args.n l.invariant.0 c.loop-test.false
+    each-end (slot_numbers (decoded s.args.words.now).table) l.i l.invariant.2 s.args.n l.invariant.0 c.loop-test.false
 
 pub put-slots-spec : {M : Type 1} → statement M
 put-slots-spec =

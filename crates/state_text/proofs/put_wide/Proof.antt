@@ -5,7 +5,7 @@ use lib.ListN.{length}
 use borrow.Author.Rules.{rules}
 use Rattle.number_text.proofs.Puts.{put_then, put_as, blanked-append, length-blanked}
 use Rattle.number_text.specs.Text.{each}
-use Rattle.state_text.specs.Numbers.{turnNumbers, keyNumber}
+use Rattle.state_text.specs.Numbers.{turn_numbers, key_number}
 use Rattle.state_words.specs.Decoded.{decoded}
 use Rattle.state_text.proofs.put_wide.Statement.{statement}
 use Rattle.state_text.proofs.put_wide.Tie as tie
@@ -30,7 +30,7 @@ returns c =
     let three : length nums.result ≡ 3 = ap length nums.ensures in
     let long = length-blanked nums.result in
     rw (← few)
-    (put_as (sym (blanked-append (turnNumbers st) (each n (keyNumber st.wide.keys))))
+    (put_as (sym (blanked-append (turn_numbers st) (each n (key_number st.wide.keys))))
     (put_then (rw nums.ensures at first.ensures) rest.ensures (omega arith)))
 
 pub put-wide-spec : {M : Type 1} → statement M

@@ -3,10 +3,10 @@ use mathlib.Core.Path.{◌≡◌}
 use native.Mathlib.Omega.{arith}
 use borrow.Author.Rules.{rules}
 use Rattle.number_text.proofs.Puts.{put_then, put_as, blanked-three}
-use Rattle.pending_text.specs.Numbers.{pendingNumbers}
+use Rattle.pending_text.specs.Numbers.{pending_numbers}
 use Rattle.state.specs.State.{State}
 use Rattle.state_text.proofs.Lengths.{writers-text, wide-text}
-use Rattle.state_text.specs.Numbers.{writerNumbers, wideNumbers}
+use Rattle.state_text.specs.Numbers.{writer_numbers, wide_numbers}
 use Rattle.state_words.specs.Decoded.{decoded}
 use Rattle.state_text.proofs.put_work.Statement.{statement}
 use Rattle.state_text.proofs.put_work.Tie as tie
@@ -47,8 +47,8 @@ returns c =
     let f = writers-text (st s).writers k (low n) in
     let g = wide-text (st s) in
     let few : k ≡ min (st s).sizes.slots 16 = rw c.before.before.before.before.before.before.before.before.before.before.before.before.before.sizes-in.ensures at n.smaller.ensures in
-    let ws = writerNumbers (st s).writers k in
-    let text = blanked-three ws (wideNumbers (st s)) (pendingNumbers (st s).pending) in
+    let ws = writer_numbers (st s).writers k in
+    let text = blanked-three ws (wide_numbers (st s)) (pending_numbers (st s).pending) in
     rw (← few)
     (put_as text
     (put_then writers.ensures (put_then wide.ensures rest.ensures (omega (arith, s.requires))) (omega (arith, s.requires))))

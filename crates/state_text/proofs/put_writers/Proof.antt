@@ -5,7 +5,7 @@ use borrow.Author.Rules.{rules}
 use Rattle.number_text.proofs.Puts.{put_then, put_as, blanked-append, length-blanked}
 use Rattle.number_text.specs.Text.{each}
 use Rattle.state_text.proofs.Lengths.{length-open}
-use Rattle.state_text.specs.Numbers.{openNumbers, heldNumbers}
+use Rattle.state_text.specs.Numbers.{open_numbers, held_numbers}
 use Rattle.state_words.specs.Decoded.{decoded}
 use Rattle.state_text.proofs.put_writers.Statement.{statement}
 use Rattle.state_text.proofs.put_writers.Tie as tie
@@ -27,7 +27,7 @@ returns c =
     let ws = (decoded s.args.words.now).writers in
     let four : length nums.result ≡ 4 = ap length nums.ensures ∙ length-open ws in
     let long = length-blanked nums.result in
-    put_as (sym (blanked-append (openNumbers ws) (each 4 (heldNumbers ws.held s.args.n)))) (put_then (rw nums.ensures at first.ensures) rest.ensures (omega arith))
+    put_as (sym (blanked-append (open_numbers ws) (each 4 (held_numbers ws.held s.args.n)))) (put_then (rw nums.ensures at first.ensures) rest.ensures (omega arith))
 
 pub put-writers-spec : {M : Type 1} → statement M
 put-writers-spec =

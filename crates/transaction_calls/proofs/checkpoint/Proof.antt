@@ -2,7 +2,7 @@ use mathlib.Core.Path.{refl}
 use borrow.Author.Rules.{rules}
 use borrow.Author.Tests.{eq-eqb, ne_eqb}
 use Rattle.state_words.specs.Decoded.{decoded}
-use Rattle.refinement.specs.Calls.{checkpointOf}
+use Rattle.refinement.specs.Calls.{checkpoint_of}
 use Rattle.call_turns.proofs.Turned.{has-started}
 use Rattle.transaction_calls.proofs.checkpoint.Statement.{statement}
 use Rattle.transaction_calls.proofs.checkpoint.Tie as tie
@@ -14,7 +14,7 @@ returns c =
     let s = u.before.before.before.before.args in
     let img = s.image.now in
     let st = decoded s.words.now in
-    let o = checkpointOf st img in
+    let o = checkpoint_of st img in
     let form = eq-eqb _ 0 u.before.if1.true in
     has-started _ _ st _ a.checkpoint.result form c.answered.ensures _ o img s.whole _ u.until-by.ensures a.checkpoint.ensures.0
 

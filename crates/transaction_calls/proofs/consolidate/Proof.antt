@@ -2,7 +2,7 @@ use mathlib.Core.Path.{refl}
 use borrow.Author.Rules.{rules}
 use borrow.Author.Tests.{eq-eqb, ne_eqb}
 use Rattle.state_words.specs.Decoded.{decoded}
-use Rattle.refinement.specs.Calls.{consolidateOf}
+use Rattle.refinement.specs.Calls.{consolidate_of}
 use Rattle.workbench.specs.Turns.{arg}
 use Rattle.call_turns.proofs.Turned.{has-started}
 use Rattle.transaction_calls.proofs.consolidate.Statement.{statement}
@@ -15,7 +15,7 @@ returns c =
     let s = u.before.before.before.args in
     let img = s.image.now in
     let st = decoded s.words.now in
-    let o = consolidateOf st img (arg s.t3 0) in
+    let o = consolidate_of st img (arg s.t3 0) in
     let form = eq-eqb _ 1 u.before.if1.true in
     has-started _ _ st _ a.consolidate.result form c.answered.ensures _ o img s.whole _ u.until-by.ensures a.consolidate.ensures.0
 

@@ -1,7 +1,7 @@
 use mathlib.Core.Path.{refl, sym, ◌∙◌}
 use borrow.Author.Rules.{rules}
 use Rattle.state_words.specs.Decoded.{decoded}
-use Rattle.calling.specs.WriteLine.{writeBy}
+use Rattle.calling.specs.WriteLine.{write_by}
 use Rattle.call_turns.proofs.Turned.{has-started}
 use Rattle.transaction_calls.proofs.write.Statement.{statement}
 use Rattle.transaction_calls.proofs.write.Tie as tie
@@ -16,7 +16,7 @@ returns c =
     let s = u.before.before.before.before.before.before.args in
     let img = s.image.now in
     let st = decoded s.words.now in
-    let o = writeBy st img s.t3.count s.t3.numbers in
+    let o = write_by st img s.t3.count s.t3.numbers in
     let form = sym u.before.before.has-data.ensures ∙ u.before.if1.true in
     has-started _ _ st _ a.write-until.result form c.answered.ensures _ o img s.whole _ u.until-by.ensures a.write-until.ensures.0
 

@@ -1,5 +1,5 @@
 use borrow.Author.Rules.{rules}
-use Rattle.trial_lines.specs.Lines.{workOf}
+use Rattle.trial_lines.specs.Lines.{work_of}
 use Rattle.trial_lines.proofs.Taken.{acted-first, acted-unread, acted-round, unread-low}
 use Rattle.trial_lines.proofs.take_line.Statement.{statement}
 use Rattle.trial_lines.proofs.take_line.Tie as tie
@@ -10,12 +10,12 @@ returns c =
     let at-if1 = at-take-setting.before.before.before in
     let at-args = at-if1.before.before.before.before in
     let a = at-args.args in
-    acted-first _ (workOf a.s a.words.now a.image.now) at-if1.if1.true _ at-take-setting.take-setting.ensures
+    acted-first _ (work_of a.s a.words.now a.image.now) at-if1.if1.true _ at-take-setting.take-setting.ensures
 
 returns-2 : tie.Need-returns-2
 returns-2 c =
     let a = c.before.before.before.before.before.before.before.args in
-    acted-unread _ (workOf a.s a.words.now a.image.now) c.before.before.before.if1.false c.if2.true
+    acted-unread _ (work_of a.s a.words.now a.image.now) c.before.before.before.if1.false c.if2.true
 
 take-round-requires : tie.Need-take-round-requires
 take-round-requires c κs =
@@ -30,7 +30,7 @@ returns-3 c =
     let at-args = at-if1.before.before.before.before in
     let a = at-args.args in
     let first = at-if1.if1.false in
-    acted-round _ (workOf a.s a.words.now a.image.now) first at-if2.if2.false _ at-take-round.take-round.ensures
+    acted-round _ (work_of a.s a.words.now a.image.now) first at-if2.if2.false _ at-take-round.take-round.ensures
 
 pub take-line-spec : {M : Type 1} → statement M
 take-line-spec =

@@ -1,7 +1,7 @@
 use mathlib.Core.Path.{sym}
 use lib.Seq.{length-take-le}
 use borrow.Author.Rules.{rules}
-use Rattle.trial_lines.specs.Lines.{workOf}
+use Rattle.trial_lines.specs.Lines.{work_of}
 use Rattle.trial_lines.proofs.Taken.{round-none, round-given, few-pages, pages-room}
 use Rattle.trial_lines.proofs.take_round.Statement.{statement}
 use Rattle.trial_lines.proofs.take_round.Tie as tie
@@ -11,7 +11,7 @@ returns c =
     let q = c.before.before.before.before.parse in
     let a = c.before.before.before.before.before.before.before.args in
     let none = c.abandon.ensures a.words.now a.image.now in
-    round-none q.result _ (workOf a.s a.words.now a.image.now) q.ensures c.before.if1.true _ none
+    round-none q.result _ (work_of a.s a.words.now a.image.now) q.ensures c.before.if1.true _ none
 
 array-share-prefix-numbers : tie.Need-array-share-prefix-numbers
 array-share-prefix-numbers c =
@@ -28,7 +28,7 @@ returns-2 c =
     let q = c.before.before.before.before.before.before.before.before.before.before.before.parse in
     let a = c.before.before.before.before.before.before.before.before.before.before.before.before.before.before.args in
     let some = c.before.before.before.before.before.before.before.before.if1.false in
-    round-given q.result _ (workOf a.s a.words.now a.image.now) q.ensures some _ c.before.before.play.ensures
+    round-given q.result _ (work_of a.s a.words.now a.image.now) q.ensures some _ c.before.before.play.ensures
 
 pub take-round-spec : {M : Type 1} → statement M
 take-round-spec =

@@ -1,5 +1,5 @@
 use borrow.Author.Rules.{rules}
-use Rattle.trial_lines.specs.Lines.{workOf}
+use Rattle.trial_lines.specs.Lines.{work_of}
 use Rattle.trial_lines.proofs.Taken.{setting-none, setting-given}
 use Rattle.trial_lines.proofs.take_setting.Statement.{statement}
 use Rattle.trial_lines.proofs.take_setting.Tie as tie
@@ -8,7 +8,7 @@ returns : tie.Need-returns
 returns c =
     let q = c.before.before.parse in
     let a = c.before.before.before.before.before.args in
-    setting-none q.result _ (workOf a.s a.words.now a.image.now) q.ensures c.if1.true
+    setting-none q.result _ (work_of a.s a.words.now a.image.now) q.ensures c.if1.true
 
 returns-2 : tie.Need-returns-2
 returns-2 c =
@@ -18,7 +18,7 @@ returns-2 c =
     let at-args = at-parse.before.before.before in
     let q = at-parse.parse in
     let a = at-args.args in
-    setting-given q.result _ (workOf a.s a.words.now a.image.now) q.ensures at-if1.if1.false _ at-start.start.ensures
+    setting-given q.result _ (work_of a.s a.words.now a.image.now) q.ensures at-if1.if1.false _ at-start.start.ensures
 
 pub take-setting-spec : {M : Type 1} → statement M
 take-setting-spec =

@@ -1,10 +1,10 @@
 use Rattle.std.proofs.Common.{rules}
-use Rattle.trials.specs.Trials.{asAbandoned}
+use Rattle.trials.specs.Trials.{as_abandoned}
 use Rattle.trials.proofs.abandon.Statement.{statement}
 use Rattle.trials.proofs.abandon.Tie as tie
 
 returns : tie.Need-returns
-unfolding asAbandoned
+unfolding as_abandoned
 returns c words img = rw c.one_more.ensures
 
 pub abandon-spec : {M : Type 1} → statement M

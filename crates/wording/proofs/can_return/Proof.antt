@@ -8,8 +8,8 @@ use lib.ListN.{get_or}
 use borrow.Author.Rules.{rules}
 use native.Mathlib.Omega.{arith}
 use Rattle.bounded.specs.Tab.{tab}
-use Rattle.bounded.proofs.Tab.{getD-tab}
-use Rattle.wording.specs.Calls.{callCount, numberCount, canReturn, standsIn, places, one_of, oneMore}
+use Rattle.bounded.proofs.Tab.{get_or-tab}
+use Rattle.wording.specs.Calls.{call_count, number_count, can_return, stands_in, places, one_of, one_more}
 use Rattle.wording.proofs.Returns.{unknown-call, unknown-number}
 use Rattle.wording.proofs.can_return.Statement.{statement}
 use Rattle.wording.proofs.can_return.Tie as tie
@@ -22,20 +22,20 @@ returns-2 c = sym (unknown-number _ _ c.if2.true)
 
 -- a row for each number, with an x for each call that can return it
 abbrev table : List (List ℕ)
-table = tab numberCount (λ n. tab callCount (λ c. cond (canReturn c n) 120 32))
+table = tab number_count (λ n. tab call_count (λ c. cond (can_return c n) 120 32))
 
 marked : (b : Bool) → eqb (cond b 120 32) 120 ≡ b
 marked true = refl
 marked false = refl
 
-entry : (c n : ℕ) → c < callCount → n < numberCount → eqb (get_or (get_or table n []) c 0) 120 ≡ canReturn c n
+entry : (c n : ℕ) → c < call_count → n < number_count → eqb (get_or (get_or table n []) c 0) 120 ≡ can_return c n
 entry c n h l =
-    ap (λ (r : List ℕ). eqb (get_or r c 0) 120) (getD-tab numberCount (λ n. tab callCount (λ c. cond (canReturn c n) 120 32)) n [] l)
-    ∙ ap (λ (b : ℕ). eqb b 120) (getD-tab callCount (λ c. cond (canReturn c n) 120 32) c 0 h)
-    ∙ marked (canReturn c n)
+    ap (λ (r : List ℕ). eqb (get_or r c 0) 120) (get_or-tab number_count (λ n. tab call_count (λ c. cond (can_return c n) 120 32)) n [] l)
+    ∙ ap (λ (b : ℕ). eqb b 120) (get_or-tab call_count (λ c. cond (can_return c n) 120 32) c 0 h)
+    ∙ marked (can_return c n)
 
 returns-3 : tie.Need-returns-3
-unfolding tab canReturn standsIn places one_of oneMore
+unfolding tab can_return stands_in places one_of one_more
 returns-3 c = let x = c.before.before.before.args in entry x.call x.number (omega arith) (omega arith)
 
 pub can-return-spec : {M : Type 1} → statement M

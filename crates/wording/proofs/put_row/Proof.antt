@@ -7,7 +7,7 @@ use lib.Seq.{take_all}
 use borrow.Author.Rules.{rules}
 use Rattle.bytes.specs.Bytes.{index_of, slice}
 use Rattle.number_text.proofs.Puts.{put_as}
-use Rattle.wording.specs.Words.{upToDot}
+use Rattle.wording.specs.Words.{up_to_dot}
 use Rattle.wording.proofs.put_row.Statement.{statement}
 use Rattle.wording.proofs.put_row.Tie as tie
 
@@ -18,8 +18,8 @@ put-text-requires : tie.Need-put-text-requires
 put-text-requires c κs = simp length-take (omega arith)
 
 -- the whole row was searched
-whole : (n : ℕ) (row : List ℕ) → n ≡ 0 + index_of 46 (slice 0 (length row) row) → take n row ≡ upToDot row
-unfolding upToDot slice
+whole : (n : ℕ) (row : List ℕ) → n ≡ 0 + index_of 46 (slice 0 (length row) row) → take n row ≡ up_to_dot row
+unfolding up_to_dot slice
 whole n row e =
     let a : slice 0 (length row) row ≡ row = take_all (length row) row (omega arith) in
     let b : n ≡ index_of 46 row = e ∙ (omega arith) ∙ ap (index_of 46) a in

@@ -9,7 +9,7 @@ use borrow.Author.Rules.{rules}
 use borrow.Author.Tests.{eqb-true}
 use Rattle.bounded.specs.Below.{all_below}
 use Rattle.bounded.proofs.Below.{all-at}
-use Rattle.wording.specs.Calls.{callCount}
+use Rattle.wording.specs.Calls.{call_count}
 use Rattle.wording.specs.Words.{codes, names}
 use Rattle.wording.proofs.Tables.{mapped, rows_of}
 use Rattle.wording.proofs.starts_with.Statement.{statement}
@@ -18,12 +18,12 @@ use Rattle.wording.proofs.starts_with.Tie as tie
 abbrev entry : ℕ → ℕ → ℕ
 entry c i = get_or (get_or (rows_of 12 names) c []) i 0
 
-same : (c i : ℕ) → c < callCount → i < 3 → entry c i ≡ get_or (get_or names c []) i 0
+same : (c i : ℕ) → c < call_count → i < 3 → entry c i ≡ get_or (get_or names c []) i 0
 unfolding all_below mapped rows_of codes names
 same c i h l =
     eqb-true (entry c i) (get_or (get_or names c []) i 0)
     (all-at (λ j. eqb (entry c j) (get_or (get_or names c []) j 0)) 3 i l
-    (all-at (λ k. all_below 3 (λ j. eqb (entry k j) (get_or (get_or names k []) j 0))) callCount c h refl))
+    (all-at (λ k. all_below 3 (λ j. eqb (entry k j) (get_or (get_or names k []) j 0))) call_count c h refl))
 
 returns : tie.Need-returns
 unfolding mapped rows_of codes names

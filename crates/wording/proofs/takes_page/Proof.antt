@@ -1,10 +1,10 @@
 use mathlib.Core.Path.{refl}
-use Rattle.wording.specs.Calls.{oneMore, one_of, takesPage}
+use Rattle.wording.specs.Calls.{one_more, one_of, takes_page}
 use Rattle.wording.proofs.takes_page.Statement.{statement}
 use Rattle.wording.proofs.takes_page.Tie as tie
 
 returns : tie.Need-returns
-unfolding oneMore one_of takesPage
+unfolding one_more one_of takes_page
 returns c = refl
 
 pub takes-page-spec : {M : Type 1} → statement M

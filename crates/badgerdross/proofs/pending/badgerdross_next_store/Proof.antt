@@ -4,13 +4,13 @@ use Rattle.bounded.specs.Below.{one}
 use Rattle.answers.specs.Answers.{number_of}
 use Rattle.state_words.specs.Decoded.{decoded}
 use Rattle.call_step.specs.declared.telling.NextStore.{NextStore}
-use Rattle.call_step.specs.NextStore.{nextStoreOf}
+use Rattle.call_step.specs.NextStore.{next_store_of}
 use Rattle.badgerdross.proofs.pending.badgerdross_next_store.Statement.{statement}
 use Rattle.badgerdross.proofs.pending.badgerdross_next_store.Tie as tie
 
 -- the number is the definition's
 number : (c : tie.After-number-of) → let s = c.before.before.before.before.args in
-    c.number_of_lem.result ≡ number_of (nextStoreOf (decoded s.words.now) s.image.now).answer
+    c.number_of_lem.result ≡ number_of (next_store_of (decoded s.words.now) s.image.now).answer
 number c = c.number_of_lem.ensures ∙ ap (λ (x : NextStore). number_of x.answer) c.before.before.next-range.ensures.0
 
 returns : tie.Need-returns

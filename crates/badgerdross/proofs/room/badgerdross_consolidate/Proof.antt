@@ -1,5 +1,5 @@
 use borrow.Author.Rules.{rules}
-use Rattle.refinement.specs.Calls.{consolidateOf}
+use Rattle.refinement.specs.Calls.{consolidate_of}
 use Rattle.state_words.specs.Decoded.{decoded}
 use Rattle.badgerdross.proofs.Leaving.{starts, keeps}
 use Rattle.badgerdross.proofs.room.badgerdross_consolidate.Statement.{statement}
@@ -13,7 +13,7 @@ returns c =
     let a = f.consolidate.result in
     let h = f.consolidate.ensures in
     let n = c.number_of_lem.ensures in
-    let o = consolidateOf (decoded s.words.now) s.image.now s.page in
+    let o = consolidate_of (decoded s.words.now) s.image.now s.page in
     (starts a _ n _ _ o s.image.now _ _ u.until-of.ensures h.0, keeps a _ n _ _ h.1)
 
 pub badgerdross-consolidate-spec : {M : Type 1} → statement M

@@ -1,5 +1,5 @@
 use borrow.Author.Rules.{rules}
-use Rattle.refinement.specs.Calls.{commitOf}
+use Rattle.refinement.specs.Calls.{commit_of}
 use Rattle.state_words.specs.Decoded.{decoded}
 use Rattle.badgerdross.proofs.Leaving.{starts, keeps}
 use Rattle.badgerdross.proofs.round.badgerdross_commit.Statement.{statement}
@@ -13,7 +13,7 @@ returns c =
     let a = f.commit.result in
     let h = f.commit.ensures in
     let n = c.number_of_lem.ensures in
-    let o = commitOf (decoded s.words.now) s.image.now s.writer in
+    let o = commit_of (decoded s.words.now) s.image.now s.writer in
     (starts a _ n _ _ o s.image.now _ _ u.until-of.ensures h.0, keeps a _ n _ _ h.1)
 
 pub badgerdross-commit-spec : {M : Type 1} → statement M

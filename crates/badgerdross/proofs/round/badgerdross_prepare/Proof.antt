@@ -1,5 +1,5 @@
 use borrow.Author.Rules.{rules}
-use Rattle.refinement.specs.Calls.{prepareOf}
+use Rattle.refinement.specs.Calls.{prepare_of}
 use Rattle.state_words.specs.Decoded.{decoded}
 use Rattle.badgerdross.proofs.Leaving.{starts, keeps}
 use Rattle.badgerdross.proofs.round.badgerdross_prepare.Statement.{statement}
@@ -13,7 +13,7 @@ returns c =
     let a = f.prepare.result in
     let h = f.prepare.ensures in
     let n = c.number_of_lem.ensures in
-    let o = prepareOf (decoded s.words.now) s.image.now s.writer in
+    let o = prepare_of (decoded s.words.now) s.image.now s.writer in
     (starts a _ n _ _ o s.image.now _ _ u.until-of.ensures h.0, keeps a _ n _ _ h.1)
 
 pub badgerdross-prepare-spec : {M : Type 1} → statement M

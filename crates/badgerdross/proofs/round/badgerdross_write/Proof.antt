@@ -1,6 +1,6 @@
 use borrow.Author.Rules.{rules}
 use lib.ListN.{length}
-use Rattle.refinement.specs.Calls.{writeOf}
+use Rattle.refinement.specs.Calls.{write_of}
 use Rattle.state_words.specs.Decoded.{decoded}
 use Rattle.badgerdross.proofs.Leaving.{starts, keeps}
 use Rattle.badgerdross.proofs.round.badgerdross_write.Statement.{statement}
@@ -14,7 +14,7 @@ returns c =
     let a = f.write.result in
     let h = f.write.ensures in
     let n = c.number_of_lem.ensures in
-    let o = writeOf (decoded s.words.now) s.image.now s.writer s.page s.line s.offset (length s.«data».now) s.«data».now in
+    let o = write_of (decoded s.words.now) s.image.now s.writer s.page s.line s.offset (length s.«data».now) s.«data».now in
     (starts a _ n _ _ o s.image.now _ _ u.until-of.ensures h.0, keeps a _ n _ _ h.1)
 
 pub badgerdross-write-spec : {M : Type 1} → statement M

@@ -2,7 +2,7 @@ use borrow.Author.Rules.{rules}
 use mathlib.Core.Path.{◌≡◌, refl, sym, ◌∙◌}
 use Rattle.reason_reading.specs.declared.ReadBack.{ReadBack}
 use Rattle.reason_reading.specs.declared.ReadBack.TheVariants.{These, Nothing}
-use Rattle.reason_reading.specs.Reading.{readBack}
+use Rattle.reason_reading.specs.Reading.{read_back}
 use Rattle.badgerdross.proofs.service.badgerdross_reading.Statement.{statement}
 use Rattle.badgerdross.proofs.service.badgerdross_reading.Tie as tie
 

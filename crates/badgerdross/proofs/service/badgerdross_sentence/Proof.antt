@@ -5,19 +5,19 @@ use mathlib.Core.Path.{◌≡◌, refl, sym, ap, ◌∙◌}
 use lib.ListN.{length}
 use Rattle.reasons.specs.declared.Reason.{Reason}
 use Rattle.reasons.specs.declared.Composed.{Composed}
-use Rattle.reasons.specs.Sentence.{composeRow, composed, composedIn, sentence}
+use Rattle.reasons.specs.Sentence.{compose_row, composed, composed_in, sentence}
 use Rattle.badgerdross.proofs.service.badgerdross_sentence.Statement.{statement}
 use Rattle.badgerdross.proofs.service.badgerdross_sentence.Tie as tie
 
 -- the number of what was composed is the row's; taken, its length is the sentence's
-row : (a b : Reason) (n : ℕ) (r : Composed) → a ≡ b → r ≡ composed a n → r.number ≡ composeRow b n
+row : (a b : Reason) (n : ℕ) (r : Composed) → a ≡ b → r ≡ composed a n → r.number ≡ compose_row b n
 unfolding composed
-row a b n r q e = ap (λ (x : Composed). x.number) e ∙ ap (λ (x : Reason). composeRow x n) q
+row a b n r q e = ap (λ (x : Composed). x.number) e ∙ ap (λ (x : Reason). compose_row x n) q
 
 long : (a b : Reason) (n : ℕ) (r : Composed) → a ≡ b → r ≡ composed a n → r.number ≡ 0 → r.length ≡ length (sentence b)
 unfolding composed
 long a b n r q e z =
-    let t : composeRow a n ≡ 0 = sym (ap (λ (x : Composed). x.number) e) ∙ z in
+    let t : compose_row a n ≡ 0 = sym (ap (λ (x : Composed). x.number) e) ∙ z in
     ap (λ (x : Composed). x.length) e ∙ rw t (ap (λ (x : Reason). length (sentence x)) q)
 
 returns : tie.Need-returns

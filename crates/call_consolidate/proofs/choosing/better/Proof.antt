@@ -3,22 +3,22 @@ use mathlib.Core.Bool.{Bool}
 use mathlib.Core.Path.{◌≡◌, ap, ◌∙◌}
 use native.Mathlib.Omega.{arith}
 use borrow.Author.Rules.{rules}
-use Rattle.operations.specs.Operations.{copyCount}
-use Rattle.refinement.specs.Freeing.{mayFree, linesToCopy}
+use Rattle.operations.specs.Operations.{copy_count}
+use Rattle.refinement.specs.Freeing.{may_free, lines_to_copy}
 use Rattle.call_consolidate.proofs.Turns.{first_found, none_found, fewer-found, kept}
 use Rattle.state_words.specs.Decoded.{decoded}
 use Rattle.call_consolidate.proofs.choosing.better.Statement.{statement}
 use Rattle.call_consolidate.proofs.choosing.better.Tie as tie
 
 abbrev may : tie.Start → ℕ → Bool
-may c = mayFree (decoded c.args.words.now).table.page (decoded c.args.words.now).writers.held
+may c = may_free (decoded c.args.words.now).table.page (decoded c.args.words.now).writers.held
 
 abbrev lines : tie.Start → ℕ → ℕ
-lines c = linesToCopy (decoded c.args.words.now).table.bitmap
+lines c = lines_to_copy (decoded c.args.words.now).table.bitmap
 
 -- the lines of slot s as they were counted
 own : (c : tie.After-copy-count) → let s = c.before.before.before in c.copy-count.result ≡ lines s s.args.s
-own c = c.copy-count.ensures ∙ ap copyCount c.before.bitmap-at.ensures
+own c = c.copy-count.ensures ∙ ap copy_count c.before.bitmap-at.ensures
 
 returns : tie.Need-returns
 returns c =

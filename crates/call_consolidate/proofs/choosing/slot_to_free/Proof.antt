@@ -3,9 +3,9 @@ use Prim.Native.Nat.{◌-◌, ◌<◌, ◌≤◌}
 use native.Mathlib.Omega.{arith}
 use mathlib.Core.Path.{◌≡◌}
 use borrow.Author.Rules.{rules}
-use Rattle.bounded.specs.Below.{leastBelow}
+use Rattle.bounded.specs.Below.{least_below}
 use Rattle.bounded.proofs.Least.{least-none, least-turn, least-ends, least-finds}
-use Rattle.refinement.specs.Freeing.{mayFree, linesToCopy, slotToFree}
+use Rattle.refinement.specs.Freeing.{may_free, lines_to_copy, slot_to_free}
 use Rattle.state_words.specs.Decoded.{decoded}
 use Rattle.call_consolidate.proofs.choosing.slot_to_free.Statement.{statement}
 use Rattle.call_consolidate.proofs.choosing.slot_to_free.Tie as tie
@@ -13,8 +13,8 @@ use Rattle.call_consolidate.proofs.choosing.slot_to_free.Tie as tie
 abbrev invariant-loop : tie.invariant-loop
 invariant-loop z words best₀ s₀ best s =
     (s ≤ z.slots)
-    × ((best.slot ≡ leastBelow s (mayFree (decoded words).table.page (decoded words).writers.held) (linesToCopy (decoded words).table.bitmap))
-    × (best.slot < s → best.lines ≡ linesToCopy (decoded words).table.bitmap best.slot))
+    × ((best.slot ≡ least_below s (may_free (decoded words).table.page (decoded words).writers.held) (lines_to_copy (decoded words).table.bitmap))
+    × (best.slot < s → best.lines ≡ lines_to_copy (decoded words).table.bitmap best.slot))
 
 abbrev decreases-loop : tie.decreases-loop
 decreases-loop z words best₀ s₀ best s = z.slots - s
@@ -29,7 +29,7 @@ loop-again : tie.Need-loop-preserved invariant-loop decreases-loop
 loop-again c = (search rules, (least-turn _ _ _ _ _ c.before.before.before.loop.invariant.1.0 c.better.ensures.0, c.better.ensures.1))
 
 returns : tie.Need-returns invariant-loop decreases-loop
-unfolding slotToFree
+unfolding slot_to_free
 returns c = least-ends _ _ _ _ _ c.before.before.loop.invariant.0 c.if1.false c.before.before.loop.invariant.1.0
 
 pub slot-to-free-spec : {M : Type 1} → statement M

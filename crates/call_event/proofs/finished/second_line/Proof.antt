@@ -5,15 +5,15 @@ use borrow.Author.Rules.{rules}
 use borrow.Author.Tests.{not-true, not-false}
 use Rattle.bounded.proofs.Tests.{row-yes, row-no}
 use Rattle.words.specs.Words.{bytes_of, word_at}
-use Rattle.image.specs.Lines.{lineBytes, merged, lineWords}
+use Rattle.image.specs.Lines.{line_bytes, merged, line_words}
 use Rattle.lines.proofs.LineLaws.{first_word}
-use Rattle.meters.specs.Meters.{movesCredit, rolled}
+use Rattle.meters.specs.Meters.{moves_credit, rolled}
 use Rattle.meters.proofs.MeterLaws.{own_range}
 use Rattle.call_event.proofs.finished.second_line.Statement.{statement}
 use Rattle.call_event.proofs.finished.second_line.Tie as tie
 
 returns : tie.Need-returns
-returns c = let a = c.before.before.before.before.args in row-no (movesCredit a.kind) _ _ _ (sym c.before.moves-credit.ensures ∙ not-true _ c.if1.true) refl
+returns c = let a = c.before.before.before.before.args in row-no (moves_credit a.kind) _ _ _ (sym c.before.moves-credit.ensures ∙ not-true _ c.if1.true) refl
 
 read-line-word-requires : tie.Need-read-line-word-requires
 read-line-word-requires c κs =
@@ -36,9 +36,9 @@ returns-2 c =
     let low = (own_range a.kind a.meter s.requires.2).1 in
     let w = first_word a.image.now a.z a.f o.result s.requires.1 (omega (arith, o.ensures, low)) s.requires.3 in
     c.numbered-line.ensures
-    ∙ ap (λ (v : ℕ). lineWords (merged (lineBytes a.image.now a.z a.f o.result) 0 8 (bytes_of 8 v))) (c.before.rolled-by.ensures ∙ ap (λ (x : ℕ). rolled a.moduli.now o.result x a.amount) (c.before.before.read-line-word.ensures ∙ w))
-    ∙ ap (λ (x : ℕ). lineWords (merged (lineBytes a.image.now a.z a.f x) 0 8 (bytes_of 8 (rolled a.moduli.now x (word_at (lineBytes a.image.now a.z a.f x) 0) a.amount)))) o.ensures
-    ∙ row-yes (movesCredit a.kind) _ _ (sym c.before.before.before.before.before.moves-credit.ensures ∙ not-false _ c.before.before.before.before.if1.false)
+    ∙ ap (λ (v : ℕ). line_words (merged (line_bytes a.image.now a.z a.f o.result) 0 8 (bytes_of 8 v))) (c.before.rolled-by.ensures ∙ ap (λ (x : ℕ). rolled a.moduli.now o.result x a.amount) (c.before.before.read-line-word.ensures ∙ w))
+    ∙ ap (λ (x : ℕ). line_words (merged (line_bytes a.image.now a.z a.f x) 0 8 (bytes_of 8 (rolled a.moduli.now x (word_at (line_bytes a.image.now a.z a.f x) 0) a.amount)))) o.ensures
+    ∙ row-yes (moves_credit a.kind) _ _ (sym c.before.before.before.before.before.moves-credit.ensures ∙ not-false _ c.before.before.before.before.if1.false)
 
 pub second-line-spec : {M : Type 1} → statement M
 second-line-spec =

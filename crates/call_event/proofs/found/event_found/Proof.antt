@@ -8,16 +8,16 @@ use borrow.Author.Rules.{rules}
 use Rattle.bounded.specs.Rows.{refusal}
 use Rattle.layout.specs.Layout.{frames}
 use Rattle.words.specs.Words.{word_at}
-use Rattle.meters.specs.Meters.{firstMeter, ownMeter, amountBad}
+use Rattle.meters.specs.Meters.{first_meter, own_meter, amount_bad}
 use Rattle.state.specs.State.{State}
-use Rattle.operations.specs.Operations.{Ranged, eventNextRows}
-use Rattle.refinement.specs.Frames.{seenFrame}
-use Rattle.refinement.specs.Calls.{meterIn}
+use Rattle.operations.specs.Operations.{Ranged, event_next_rows}
+use Rattle.refinement.specs.Frames.{seen_frame}
+use Rattle.refinement.specs.Calls.{meter_in}
 use Rattle.refinement.proofs.Going.{ranges-of}
 use Rattle.call_event.specs.declared.found.Found.{Found}
 use Rattle.call_event.proofs.Asked.{Started, started, row-start, row-early, row-amount, row_room, row-taken, line_frame, narrow-line}
 use Rattle.state_words.specs.Decoded.{decoded}
-use Rattle.call_event.specs.Seen.{lineFrom}
+use Rattle.call_event.specs.Seen.{line_from}
 use Rattle.call_event.proofs.found.event_found.Statement.{statement}
 use Rattle.call_event.proofs.found.event_found.Tie as tie
 
@@ -31,36 +31,36 @@ ranges : (c : tie.Else1) → Ranged (st c.before.before.before.before)
 ranges c = ranges-of (st c.before.before.before.before) (started1 c).quiet.type-inv
 
 -- the first row before 21, and that there is none
-early : (c : tie.After-event-next-row) → let s = c.before.before.before.before.before.before in c.event-next-row.result ≡ refusal (eventNextRows (st s) s.args.kind s.args.meter)
+early : (c : tie.After-event-next-row) → let s = c.before.before.before.before.before.before in c.event-next-row.result ≡ refusal (event_next_rows (st s) s.args.kind s.args.meter)
 early c = let s = c.before.before.before.before.before.before in rw (c.before.slot_of.ensures, s.requires.0, s.requires.1) at c.event-next-row.ensures
 
-early2 : (c : tie.Else2) → let s = c.before.before.before.before.before.before.before in refusal (eventNextRows (st s) s.args.kind s.args.meter) ≡ 0
+early2 : (c : tie.Else2) → let s = c.before.before.before.before.before.before.before in refusal (event_next_rows (st s) s.args.kind s.args.meter) ≡ 0
 early2 c = sym (early c.before) ∙ c.if2.false
 
 -- a line is read from a frame
-line_low : (c : tie.Else2) (l : ℕ) → let s = c.before.before.before.before.before.before.before in lineFrom s.args.z (st s) c.before.before.slot_of.result l < frames s.args.z
-unfolding seenFrame
+line_low : (c : tie.Else2) (l : ℕ) → let s = c.before.before.before.before.before.before.before in line_from s.args.z (st s) c.before.before.slot_of.result l < frames s.args.z
+unfolding seen_frame
 line_low c l =
     let s = c.before.before.before.before.before.before.before in
     rw (c.before.before.slot_of.ensures, s.requires.0) (line_frame (st s) (length s.args.image.now) l (started1 c.before.before.before).quiet)
 
 -- what was found, as the definitions have it
 lines : (c : tie.After-lines-seen) → let s = c.before.before.before.before.before.before.before.before in let a = s.args in
-    c.lines-seen.result ≡ record { row = 0; first = seenFrame (st s) 1 0 (firstMeter a.kind a.meter); own = seenFrame (st s) 1 0 (ownMeter a.kind a.meter); stored = meterIn (st s) a.image.now (firstMeter a.kind a.meter) }
-unfolding seenFrame
+    c.lines-seen.result ≡ record { row = 0; first = seen_frame (st s) 1 0 (first_meter a.kind a.meter); own = seen_frame (st s) 1 0 (own_meter a.kind a.meter); stored = meter_in (st s) a.image.now (first_meter a.kind a.meter) }
+unfolding seen_frame
 lines c =
     let s = c.before.before.before.before.before.before.before.before in
     let a = s.args in
-    let l = firstMeter a.kind a.meter in
+    let l = first_meter a.kind a.meter in
     (rw (c.before.before.before.slot_of.ensures, s.requires.0) at c.lines-seen.ensures)
-    ∙ ap (λ (x : List ℕ). record { row = 0; first = seenFrame (st s) 1 0 l; own = seenFrame (st s) 1 0 (ownMeter a.kind a.meter); stored = word_at x 0 })
+    ∙ ap (λ (x : List ℕ). record { row = 0; first = seen_frame (st s) 1 0 l; own = seen_frame (st s) 1 0 (own_meter a.kind a.meter); stored = word_at x 0 })
     (narrow-line (st s) a.image.now l (started1 c.before.before.before.before).narrow)
 
 -- row 21, as the code found it
-amount : (c : tie.After-amount-bad) → let s = c.before.before.before.before.before.before.before.before.before in c.amount-bad.result ≡ amountBad s.args.moduli.now s.args.kind s.args.meter (meterIn (st s) s.args.image.now (firstMeter s.args.kind s.args.meter)) s.args.amount
+amount : (c : tie.After-amount-bad) → let s = c.before.before.before.before.before.before.before.before.before in c.amount-bad.result ≡ amount_bad s.args.moduli.now s.args.kind s.args.meter (meter_in (st s) s.args.image.now (first_meter s.args.kind s.args.meter)) s.args.amount
 amount c =
     let s = c.before.before.before.before.before.before.before.before.before in
-    c.amount-bad.ensures ∙ ap (λ (f : Found). amountBad s.args.moduli.now s.args.kind s.args.meter f.stored s.args.amount) (lines c.before)
+    c.amount-bad.ensures ∙ ap (λ (f : Found). amount_bad s.args.moduli.now s.args.kind s.args.meter f.stored s.args.amount) (lines c.before)
 
 returns : tie.Need-returns
 returns c =

@@ -4,23 +4,23 @@ use native.Mathlib.Omega.{arith}
 use borrow.Author.Rules.{rules}
 use Rattle.layout.specs.Layout.{frames}
 use Rattle.words.specs.Words.{word_at}
-use Rattle.image.specs.Lines.{lineBytes}
+use Rattle.image.specs.Lines.{line_bytes}
 use Rattle.lines.proofs.LineLaws.{first_word}
-use Rattle.meters.specs.Meters.{firstMeter, ownMeter}
+use Rattle.meters.specs.Meters.{first_meter, own_meter}
 use Rattle.meters.proofs.MeterLaws.{first-low, own_range}
 use Rattle.state.specs.State.{State}
 use Rattle.state_words.specs.Decoded.{decoded}
-use Rattle.call_event.specs.Seen.{lineFrom}
+use Rattle.call_event.specs.Seen.{line_from}
 use Rattle.call_event.proofs.found.lines_seen.Statement.{statement}
 use Rattle.call_event.proofs.found.lines_seen.Tie as tie
 
 abbrev st : tie.Start → State
 st s = decoded s.args.words.now
 
-first-line : (s : tie.Start) (l : ℕ) → l ≡ firstMeter s.args.kind s.args.meter → l < 64
+first-line : (s : tie.Start) (l : ℕ) → l ≡ first_meter s.args.kind s.args.meter → l < 64
 first-line s l e = omega (arith, e, first-low s.args.kind s.args.meter s.requires.1)
 
-own_line : (s : tie.Start) (l : ℕ) → l ≡ ownMeter s.args.kind s.args.meter → l < 64
+own_line : (s : tie.Start) (l : ℕ) → l ≡ own_meter s.args.kind s.args.meter → l < 64
 own_line s l e = omega (arith, e, (own_range s.args.kind s.args.meter s.requires.1).1)
 
 seen-frame-requires : tie.Need-seen-frame-requires
@@ -41,13 +41,13 @@ returns c =
     let l = c.before.before.before.before.first-meter in
     let z = s.args.z in
     let img = s.args.image.now in
-    let from : ℕ → ℕ = lineFrom z (st s) s.args.s in
-    let one : c.before.before.seen-frame.result ≡ from (firstMeter s.args.kind s.args.meter) = c.before.before.seen-frame.ensures ∙ ap from l.ensures in
-    let two : c.before.seen-frame2.result ≡ from (ownMeter s.args.kind s.args.meter) = c.before.seen-frame2.ensures ∙ ap from c.before.before.before.own-meter.ensures in
-    let number : c.read-line-word.result ≡ word_at (lineBytes img z (from (firstMeter s.args.kind s.args.meter)) (firstMeter s.args.kind s.args.meter)) 0 =
+    let from : ℕ → ℕ = line_from z (st s) s.args.s in
+    let one : c.before.before.seen-frame.result ≡ from (first_meter s.args.kind s.args.meter) = c.before.before.seen-frame.ensures ∙ ap from l.ensures in
+    let two : c.before.seen-frame2.result ≡ from (own_meter s.args.kind s.args.meter) = c.before.seen-frame2.ensures ∙ ap from c.before.before.before.own-meter.ensures in
+    let number : c.read-line-word.result ≡ word_at (line_bytes img z (from (first_meter s.args.kind s.args.meter)) (first_meter s.args.kind s.args.meter)) 0 =
     c.read-line-word.ensures
     ∙ first_word img z c.before.before.seen-frame.result l.result (first_frame c.before) (first-line s l.result l.ensures) s.requires.3
-    ∙ ap₂ (λ (f i : ℕ). word_at (lineBytes img z f i) 0) one l.ensures in
+    ∙ ap₂ (λ (f i : ℕ). word_at (line_bytes img z f i) 0) one l.ensures in
     rw (one, two, number)
 
 pub lines-seen-spec : {M : Type 1} → statement M

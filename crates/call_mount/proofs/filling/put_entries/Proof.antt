@@ -5,13 +5,13 @@ use lib.ListN.{length}
 use Rattle.bounded.proofs.Below.{ends}
 use Rattle.state.specs.State.{State}
 use Rattle.state.specs.Wide.{wide_of}
-use Rattle.state_words.specs.Decoded.{decoded, withWide}
-use Rattle.call_mount.proofs.Columns.{column, keysTo, keys_none, keys-turn, keys-all}
+use Rattle.state_words.specs.Decoded.{decoded, with_wide}
+use Rattle.call_mount.proofs.Columns.{column, keys_to, keys_none, keys-turn, keys-all}
 use Rattle.call_mount.proofs.filling.put_entries.Statement.{statement}
 use Rattle.call_mount.proofs.filling.put_entries.Tie as tie
 
 abbrev invariant-loop : tie.invariant-loop
-invariant-loop words₀ n keys e₀ words e = (e ≤ 64) × (decoded words ≡ keysTo (decoded words₀) (column keys e (decoded words₀).wide.keys))
+invariant-loop words₀ n keys e₀ words e = (e ≤ 64) × (decoded words ≡ keys_to (decoded words₀) (column keys e (decoded words₀).wide.keys))
 
 abbrev decreases-loop : tie.decreases-loop
 decreases-loop words₀ n keys e₀ words e = 64 - e
@@ -33,9 +33,9 @@ returns c =
     let st = decoded s.args.words.now in
     let long : length s.args.t3 ≡ 64 = search rules in
     c.put-wide.ensures
-    ∙ ap (λ (u : State). withWide u (wide_of 4 s.args.n u.wide.keys))
+    ∙ ap (λ (u : State). with_wide u (wide_of 4 s.args.n u.wide.keys))
     (l.loop.invariant.1
-    ∙ ap (keysTo st) (ends (λ k. column s.args.t3 k st.wide.keys) 64 l.loop.e l.loop.invariant.0 i.loop-test.false ∙ keys-all s.args.words.now s.args.t3 l.before.All-words.ensures long))
+    ∙ ap (keys_to st) (ends (λ k. column s.args.t3 k st.wide.keys) 64 l.loop.e l.loop.invariant.0 i.loop-test.false ∙ keys-all s.args.words.now s.args.t3 l.before.All-words.ensures long))
 
 pub put-entries-spec : {M : Type 1} → statement M
 put-entries-spec =

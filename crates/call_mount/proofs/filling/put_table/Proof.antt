@@ -4,13 +4,13 @@ use mathlib.Core.Path.{◌≡◌, refl, ap, ◌∙◌}
 use lib.ListN.{length}
 use Rattle.bounded.proofs.Below.{ends}
 use Rattle.replay.specs.declared.Table.{Table}
-use Rattle.state_words.specs.Decoded.{decoded, withTable}
-use Rattle.call_mount.proofs.Columns.{tableTo, table_none, table-turn, table-all}
+use Rattle.state_words.specs.Decoded.{decoded, with_table}
+use Rattle.call_mount.proofs.Columns.{table_to, table_none, table-turn, table-all}
 use Rattle.call_mount.proofs.filling.put_table.Statement.{statement}
 use Rattle.call_mount.proofs.filling.put_table.Tie as tie
 
 abbrev invariant-loop : tie.invariant-loop
-invariant-loop words₀ t s₀ words s = (s ≤ 16) × (decoded words ≡ withTable (decoded words₀) (tableTo t s (decoded words₀).table))
+invariant-loop words₀ t s₀ words s = (s ≤ 16) × (decoded words ≡ with_table (decoded words₀) (table_to t s (decoded words₀).table))
 
 abbrev decreases-loop : tie.decreases-loop
 decreases-loop words₀ t s₀ words s = 16 - s
@@ -37,7 +37,7 @@ returns c =
     let e : length t.bitmap ≡ 16 = search rules in
     let f : length t.last ≡ 16 = search rules in
     l.loop.invariant.1
-    ∙ ap (withTable (decoded words)) (ends (λ k. tableTo t k (decoded words).table) 16 l.loop.s l.loop.invariant.0 c.loop-test.false ∙ table-all words t l.before.All-words.ensures a b d e f)
+    ∙ ap (with_table (decoded words)) (ends (λ k. table_to t k (decoded words).table) 16 l.loop.s l.loop.invariant.0 c.loop-test.false ∙ table-all words t l.before.All-words.ensures a b d e f)
 
 pub put-table-spec : {M : Type 1} → statement M
 put-table-spec =

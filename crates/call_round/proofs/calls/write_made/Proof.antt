@@ -1,5 +1,5 @@
 use Rattle.std.proofs.Common.{refl, rules}
-use Rattle.refinement.specs.Calls.{worldOf}
+use Rattle.refinement.specs.Calls.{world_of}
 use Rattle.refinement.specs.Run.{write, exec}
 use Rattle.refinement.proofs.Reports.{stores-reported}
 use Rattle.refinement.proofs.Refused.{refused-unchanged}
@@ -17,7 +17,7 @@ returns c =
     let s = at_call.before.before.before.before.before.before.before.before.before in
     let a = s.args in
     let f = at_call.write-valid in
-    let v = worldOf (decoded a.words.now) a.image.now in
+    let v = world_of (decoded a.words.now) a.image.now in
     let d = write a.writer a.a.page a.a.line a.a.offset a.a.length a.«data».now in
     let e =
     call-made d a.t _ a.words.now a.image.now f.result _ _

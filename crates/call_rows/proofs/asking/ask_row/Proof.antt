@@ -3,8 +3,8 @@ use mathlib.Core.Path.{◌≡◌, ap, ◌∙◌}
 use Rattle.bounded.specs.Rows.{refusal}
 use Rattle.bounded.proofs.Rows.{rows-first, rows_then}
 use Rattle.state.specs.State.{State}
-use Rattle.operations.specs.Operations.{opRows}
-use Rattle.refinement.specs.Calls.{quietRows}
+use Rattle.operations.specs.Operations.{op_rows}
+use Rattle.refinement.specs.Calls.{quiet_rows}
 use Rattle.refinement.proofs.Quiet.{quiet}
 use Rattle.asked.proofs.Rows.{first-ranges}
 use Rattle.op_rows.specs.Seen.{seen}
@@ -20,7 +20,7 @@ same : (s : tie.Start) → seen s.args.z s.args.at (st s) ≡ st s
 same s = rw (s.requires.0, s.requires.1)
 
 returns : tie.Need-returns
-returns c = let s = c.before.before in rows-first (quietRows (st s) s.args.n) (opRows (st s) s.args.op) _ c.before.quiet_row.ensures c.if1.true
+returns c = let s = c.before.before in rows-first (quiet_rows (st s) s.args.n) (op_rows (st s) s.args.op) _ c.before.quiet_row.ensures c.if1.true
 
 op-row-requires : tie.Need-op-row-requires
 op-row-requires c κs =
@@ -32,8 +32,8 @@ returns-2 : tie.Need-returns-2
 returns-2 c =
     let e = c.before in
     let s = e.before.before in
-    rows_then (quietRows (st s) s.args.n) (opRows (st s) s.args.op) _ (quiet (st s) s.args.n _ e.before.quiet_row.ensures e.if1.false).past
-    (c.op_row.ensures ∙ ap (λ (u : State). refusal (opRows u s.args.op)) (same s))
+    rows_then (quiet_rows (st s) s.args.n) (op_rows (st s) s.args.op) _ (quiet (st s) s.args.n _ e.before.quiet_row.ensures e.if1.false).past
+    (c.op_row.ensures ∙ ap (λ (u : State). refusal (op_rows u s.args.op)) (same s))
 
 pub ask-row-spec : {M : Type 1} → statement M
 ask-row-spec = tie.close (tie.spec (λ c κs. search rules) returns op-row-requires returns-2)

@@ -2,7 +2,7 @@ use borrow.Author.Rules.{rules}
 use Prim.Native.Nat.{◌≤◌}
 use mathlib.Core.Path.{◌≡◌, ap, sym, ◌∙◌}
 use lib.ListN.{length}
-use Rattle.layout.specs.Layout.{imageLength}
+use Rattle.layout.specs.Layout.{image_length}
 use Rattle.state.specs.State.{State}
 use Rattle.op_writer.specs.Served.{Served}
 use Rattle.state_words.specs.Decoded.{decoded}
@@ -25,7 +25,7 @@ returns c =
 
 -- what is pending may go on
 may : (c : tie.Else1) → let r = c.before in let p = r.before in let s = p.before.before.before in
-    Served p.before.sizes-in.result p.places-in.result (st s) × (imageLength p.before.sizes-in.result ≤ length s.args.image.now)
+    Served p.before.sizes-in.result p.places-in.result (st s) × (image_length p.before.sizes-in.result ≤ length s.args.image.now)
 may c =
     let r = c.before in
     let p = r.before in

@@ -6,8 +6,8 @@ use Rattle.state.specs.State.{Wide}
 use Rattle.state.specs.Wide.{wide_of}
 use Rattle.operations.proofs.Taken.{ArgsGood, args-good}
 use Rattle.call_write.proofs.FoundLine.{back-row, has-entry, has-none}
-use Rattle.refinement.specs.Frames.{seenFrame}
-use Rattle.op_rows.specs.Seen.{logRowsIn}
+use Rattle.refinement.specs.Frames.{seen_frame}
+use Rattle.op_rows.specs.Seen.{log_rows_in}
 use Rattle.state_words.specs.Decoded.{decoded}
 use Rattle.call_write.proofs.found.entry_found.Statement.{statement}
 use Rattle.call_write.proofs.found.entry_found.Tie as tie
@@ -18,7 +18,7 @@ wide s = wide_of s.args.at.wide s.args.at.count (decoded s.args.words.now).wide.
 good1 : (c : tie.Else1) → let a = c.before.before.args in ArgsGood a.z a.at.wide a.a.page a.a.line a.a.offset a.a.length
 good1 c =
     let a = c.before.before.args in
-    let rows = logRowsIn a.z a.at (decoded a.words.now) a.a in
+    let rows = log_rows_in a.z a.at (decoded a.words.now) a.a in
     args-good a.z a.at.wide a.a.page a.a.line a.a.offset a.a.length (none-apply rows (omega arith) (sym c.before.log-row.ensures ∙ c.if1.false)).0
 
 returns : tie.Need-returns
@@ -44,7 +44,7 @@ seen-frame-requires c κs =
     (s.requires.0, (good1 e).writer-low, omega (arith, s.requires.2, s.requires.0.pages-high), (good1 e).line_low)
 
 returns-3 : tie.Need-returns-3
-unfolding seenFrame
+unfolding seen_frame
 returns-3 c =
     let o = c.before in
     let f = o.before.before.before in

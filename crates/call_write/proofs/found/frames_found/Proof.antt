@@ -4,8 +4,8 @@ use borrow.Author.Rules.{rules}
 use Rattle.bounded.proofs.Rows.{none-apply}
 use Rattle.operations.proofs.Taken.{ArgsGood, args-good}
 use Rattle.call_write.proofs.FoundLine.{back-row}
-use Rattle.refinement.specs.Frames.{seenFrame}
-use Rattle.op_rows.specs.Seen.{writeRowsIn}
+use Rattle.refinement.specs.Frames.{seen_frame}
+use Rattle.op_rows.specs.Seen.{write_rows_in}
 use Rattle.state_words.specs.Decoded.{decoded}
 use Rattle.call_write.proofs.found.frames_found.Statement.{statement}
 use Rattle.call_write.proofs.found.frames_found.Tie as tie
@@ -13,7 +13,7 @@ use Rattle.call_write.proofs.found.frames_found.Tie as tie
 good1 : (c : tie.Else1) → let a = c.before.before.before.args in ArgsGood a.z a.writer a.a.page a.a.line a.a.offset a.a.length
 good1 c =
     let a = c.before.before.before.args in
-    let rows = writeRowsIn a.z a.at (decoded a.words.now) a.writer a.a c.before.before.slot_of.result in
+    let rows = write_rows_in a.z a.at (decoded a.words.now) a.writer a.a c.before.before.slot_of.result in
     args-good a.z a.writer a.a.page a.a.line a.a.offset a.a.length (none-apply rows (omega arith) (sym c.before.write-row.ensures ∙ c.if1.false)).0
 
 returns : tie.Need-returns
@@ -30,7 +30,7 @@ holds-line-requires : tie.Need-holds-line-requires
 holds-line-requires c κs = (c.before.before.before.before.requires.0, (good1 c.before).writer-low, (good1 c.before).line_low)
 
 returns-2 : tie.Need-returns-2
-unfolding seenFrame
+unfolding seen_frame
 returns-2 c =
     let slot = c.before.before.before.before.slot_of.ensures in
     (rw slot at c.before.before.before.write-row.ensures, λ z. (rw slot at c.before.seen-frame.ensures, rw slot at c.holds-line.ensures, refl))

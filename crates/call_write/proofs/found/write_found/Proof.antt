@@ -8,7 +8,7 @@ use lib.ListN.{length}
 use borrow.Author.Tests.{leb-false, eq-eqb, ne_eqb}
 use borrow.Author.Rules.{rules}
 use Rattle.bounded.proofs.Tests.{or_left, or_right}
-use Rattle.layout.specs.Layout.{Legal, imageLength}
+use Rattle.layout.specs.Layout.{Legal, image_length}
 use Rattle.layout.specs.declared.Sizes.{Sizes}
 use Rattle.state.specs.State.{State}
 use Rattle.state.specs.declared.Places.{Places}
@@ -44,7 +44,7 @@ page-low : (c : tie.Else2) → c.before.before.before.before.before.before.befor
 page-low c = let s = c.before.before.before.before.before.before.before.before in leb-false _ _ (or_right (short s) (leb s.args.z.pages s.args.a.page) c.if2.false)
 
 -- what the rest leans on
-leans : (c : tie.Else2) → let a = c.before.before.before.before.before.before.before.before.args in Legal a.z × (a.at.next < a.z.slots) × (a.at.count ≤ 64) × (imageLength a.z ≤ length a.image.now)
+leans : (c : tie.Else2) → let a = c.before.before.before.before.before.before.before.before.args in Legal a.z × (a.at.next < a.z.slots) × (a.at.count ≤ 64) × (image_length a.z ≤ length a.image.now)
 leans c =
     let s = c.before.before.before.before.before.before.before.before in
     rw (s.requires.0, s.requires.1) (first-known (st s) s.args.image.now _ c.before.before.before.before.before.valid-row.ensures c.before.before.before.before.if1.false)

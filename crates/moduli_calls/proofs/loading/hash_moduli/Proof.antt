@@ -3,7 +3,7 @@ use mathlib.Core.Path.{◌≡◌, sym, ap, ◌∙◌}
 use borrow.Author.Rules.{rules}
 use native.Mathlib.Omega.{arith}
 use lib.ListN.{length}
-use Rattle.hashing.specs.Hash.{hashOf}
+use Rattle.hashing.specs.Hash.{hash_of}
 use Rattle.moduli_calls.proofs.Hashed.{Laid, laid_none, laid-turn, laid-length, laid_end}
 use Rattle.moduli_calls.proofs.loading.hash_moduli.Statement.{statement}
 use Rattle.moduli_calls.proofs.loading.hash_moduli.Tie as tie
@@ -40,7 +40,7 @@ returns : tie.Need-returns invariant-loop decreases-loop
 returns c =
     let l = c.before.before.before in
     let laid = laid_end l.before.args.t1 l.loop.i l.loop.bytes l.loop.invariant.1 in
-    c.hash.ensures ∙ ap hashOf (laid l.loop.invariant.0 c.before.before.loop-test.false)
+    c.hash.ensures ∙ ap hash_of (laid l.loop.invariant.0 c.before.before.loop-test.false)
 
 pub hash-moduli-spec : {M : Type 1} → statement M
 hash-moduli-spec =

@@ -12,7 +12,7 @@ use Rattle.words.specs.Words.{part}
 use Rattle.state_words.specs.Decoded.{decoded}
 use Rattle.refinement.specs.Calls.{load_of}
 use Rattle.workbench.specs.Turns.{arg}
-use Rattle.moduli_calls.specs.Calls.{loadForm, loadedSaid, tableBy}
+use Rattle.moduli_calls.specs.Calls.{load_form, loaded_said, table_by}
 use Rattle.moduli_calls.proofs.Lent.{least-within, take-least}
 use Rattle.moduli_calls.proofs.loading.load.Statement.{statement}
 use Rattle.moduli_calls.proofs.loading.load.Tie as tie
@@ -20,7 +20,7 @@ use Rattle.moduli_calls.proofs.loading.load.Tie as tie
 abbrev start : tie.Then1 → tie.Start
 start c = c.before.before.before.before.before
 
-form : (c : tie.Then1) → let a = (start c).args in loadForm (length a.buffer.now) a.t5 ≡ true
+form : (c : tie.Then1) → let a = (start c).args in load_form (length a.buffer.now) a.t5 ≡ true
 form c = rw c.before.is_Within.ensures at c.if1.true
 
 -- the text is within the buffer
@@ -47,7 +47,7 @@ returns c =
     let count : (at + n) - at ≡ n = omega arith in
     let text : take ((at + n) - at) (drop at a.buffer.now) ≡ part a.buffer.now at n = ap (λ (k : ℕ). take k (drop at a.buffer.now)) count in
     let whole = ap₂ (load_of (decoded a.words.now)) lent text in
-    rw (form r.before) (c.load-text.ensures.0 ∙ ap loadedSaid whole, c.load-text.ensures.1 ∙ ap (tableBy a.table.now) whole)
+    rw (form r.before) (c.load-text.ensures.0 ∙ ap loaded_said whole, c.load-text.ensures.1 ∙ ap (table_by a.table.now) whole)
 
 returns-2 : tie.Need-returns-2
 returns-2 c = let no = rw c.before.is_Within.ensures at c.if1.false in rw no (refl, refl)

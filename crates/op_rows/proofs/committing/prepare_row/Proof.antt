@@ -8,9 +8,9 @@ use lib.Dec.{ltb, leb}
 use lib.ListN.{length}
 use borrow.Author.Tests.{ltb-false, le-leb, le-ltb, leb-true}
 use Rattle.bounded.specs.Rows.{Row, refusal}
-use Rattle.bounded.proofs.Tests.{caseOn, and_left, and_right}
-use Rattle.state.specs.Held.{isOpen, somePrepared, heldSlots}
-use Rattle.operations.specs.Operations.{journalFullOf}
+use Rattle.bounded.proofs.Tests.{case_on, and_left, and_right}
+use Rattle.state.specs.Held.{is_open, some_prepared, held_slots}
+use Rattle.operations.specs.Operations.{journal_full_of}
 use Rattle.op_rows.proofs.committing.prepare_row.Statement.{statement}
 use Rattle.op_rows.proofs.committing.prepare_row.Tie as tie
 
@@ -19,7 +19,7 @@ use Rattle.op_rows.proofs.committing.prepare_row.Tie as tie
 -- the row of a writer above 3 comes first; else 29, where there is a wide transaction, before the others
 put_in : (w wide n : ℕ) (x : ℕ) → (leb w 3 && ltb wide 4) ≡ false → n ≡ cond (ltb 3 w) 11 x → n ≡ cond (ltb 3 w) 11 (cond (ltb wide 4) 29 x)
 put_in w wide n x e h =
-    caseOn (ltb 3 w)
+    case_on (ltb 3 w)
     (λ t. rw t (rw t at h))
     (λ t.
     let low : leb w 3 ≡ true = le-leb w 3 (ltb-false 3 w t) in
@@ -36,9 +36,9 @@ returns-2 : tie.Need-returns-2
 returns-2 c =
     let a = c.before.before.before.args in
     let others : List Row =
-    (not (isOpen (decoded a.words.now).writers.opened a.writer), 13)
-    ∷ (somePrepared a.at.prepared, 23)
-    ∷ (journalFullOf a.z a.at.head a.at.tail (length (heldSlots a.z (decoded a.words.now).writers.held a.writer)), 19)
+    (not (is_open (decoded a.words.now).writers.opened a.writer), 13)
+    ∷ (some_prepared a.at.prepared, 23)
+    ∷ (journal_full_of a.z a.at.head a.at.tail (length (held_slots a.z (decoded a.words.now).writers.held a.writer)), 19)
     ∷ [] in
     put_in a.writer a.at.wide c.commit-row.result (refusal others) c.before.if1.false c.commit-row.ensures
 

@@ -5,7 +5,7 @@ use Prim.Native.Nat.{ℕ, ◌<◌}
 use mathlib.Core.Path.{sym, ap, ◌∙◌, subst}
 use native.Mathlib.Omega.{arith}
 use Rattle.state.specs.declared.Op.{Op}
-use Rattle.operations.specs.Operations.{Asked, commitNeeds, prepareNeeds, confirmNeeds, consolidateNeeds, rules as storesNeeded}
+use Rattle.operations.specs.Operations.{Asked, commit_needs, prepare_needs, confirm_needs, consolidate_needs, rules as stores_needed}
 use Rattle.op_rows.specs.Seen.{seen}
 use Rattle.state.proofs.Numbers.{held-le}
 use Rattle.op_rows.proofs.counting.op_needs.Statement.{statement}
@@ -15,7 +15,7 @@ use Rattle.op_rows.proofs.counting.op_needs.Tie as tie
 abbrev stores : tie.Start → Op → ℕ
 stores c op =
     let a = c.args in
-    storesNeeded (seen a.z a.at (decoded a.words.now)) op
+    stores_needed (seen a.z a.at (decoded a.words.now)) op
 
 -- the slot of the page to consolidate
 slot-low : (c : tie.After-slot-of) → c.slot_of.result < c.before.before.before.before.args.z.slots
@@ -41,51 +41,51 @@ bitmap-at-requires : tie.Need-bitmap-at-requires
 bitmap-at-requires c κs = omega (arith, slot-low c, c.before.before.before.before.requires.0)
 
 returns : tie.Need-returns
-unfolding storesNeeded
+unfolding stores_needed
 returns c = sym (ap (stores c.before.before) c.enum_told.given.1)
 
 returns-2 : tie.Need-returns-2
-unfolding storesNeeded
+unfolding stores_needed
 returns-2 c = sym (ap (stores c.before.before) c.enum-told2.given.1)
 
 returns-3 : tie.Need-returns-3
-unfolding storesNeeded
-returns-3 c = c.commit-needs.ensures ∙ ap commitNeeds c.before.held-count.ensures ∙ sym (ap (stores c.before.before.before.before.before) c.before.before.before.op.given.1)
+unfolding stores_needed
+returns-3 c = c.commit-needs.ensures ∙ ap commit_needs c.before.held-count.ensures ∙ sym (ap (stores c.before.before.before.before.before) c.before.before.before.op.given.1)
 
 returns-4 : tie.Need-returns-4
-unfolding storesNeeded
+unfolding stores_needed
 returns-4 c =
     let a = c.before.before.before.before.before.before.args in
     c.consolidate-needs.ensures
-    ∙ ap consolidateNeeds (c.before.bitmap-at.ensures ∙ ap (λ (s : ℕ). get_or (decoded a.words.now).table.bitmap s 0) c.before.before.slot_of.ensures)
+    ∙ ap consolidate_needs (c.before.bitmap-at.ensures ∙ ap (λ (s : ℕ). get_or (decoded a.words.now).table.bitmap s 0) c.before.before.slot_of.ensures)
     ∙ sym (ap (stores c.before.before.before.before.before.before) c.before.before.before.before.op2.given.1)
 
 returns-5 : tie.Need-returns-5
-unfolding storesNeeded
+unfolding stores_needed
 returns-5 c = c.checkpoint-needs.ensures ∙ sym (ap (stores c.before.before.before) c.before.enum-told3.given.1)
 
 returns-6 : tie.Need-returns-6
-unfolding storesNeeded
+unfolding stores_needed
 returns-6 c = c.event-needs.ensures ∙ sym (ap (stores c.before.before.before.before) c.before.before.op3.given.1)
 
 returns-7 : tie.Need-returns-7
-unfolding storesNeeded
-returns-7 c = c.prepare-needs.ensures ∙ ap prepareNeeds c.before.held-count2.ensures ∙ sym (ap (stores c.before.before.before.before.before) c.before.before.before.op4.given.1)
+unfolding stores_needed
+returns-7 c = c.prepare-needs.ensures ∙ ap prepare_needs c.before.held-count2.ensures ∙ sym (ap (stores c.before.before.before.before.before) c.before.before.before.op4.given.1)
 
 returns-8 : tie.Need-returns-8
-unfolding storesNeeded
-returns-8 c = c.confirm-needs.ensures ∙ ap confirmNeeds c.before.held-count3.ensures ∙ sym (ap (stores c.before.before.before.before.before) c.before.before.before.op5.given.1)
+unfolding stores_needed
+returns-8 c = c.confirm-needs.ensures ∙ ap confirm_needs c.before.held-count3.ensures ∙ sym (ap (stores c.before.before.before.before.before) c.before.before.before.op5.given.1)
 
 returns-9 : tie.Need-returns-9
-unfolding storesNeeded
+unfolding stores_needed
 returns-9 c = sym (ap (stores c.before.before) c.enum-told4.given.1)
 
 returns-10 : tie.Need-returns-10
-unfolding storesNeeded
+unfolding stores_needed
 returns-10 c = c.copy_needs.ensures ∙ sym (ap (stores c.before.before.before) c.before.enum-told5.given.1)
 
 returns-11 : tie.Need-returns-11
-unfolding storesNeeded
+unfolding stores_needed
 returns-11 c = c.format-needs.ensures ∙ sym (ap (stores c.before.before.before) c.before.enum-told6.given.1)
 
 pub op-needs-spec : {M : Type 1} → statement M

@@ -8,10 +8,10 @@ use native.Mathlib.Omega.{arith}
 use borrow.Author.Tests.{lt-ltb, le-ltb}
 use Rattle.bounded.specs.Rows.{Row, Past}
 use Rattle.bounded.proofs.Rows.{row_at, row-none}
-use Rattle.meters.specs.Meters.{firstMeter, ownMeter}
+use Rattle.meters.specs.Meters.{first_meter, own_meter}
 use Rattle.meters.proofs.MeterLaws.{own_range, first-low}
-use Rattle.operations.specs.Operations.{lineTaken}
-use Rattle.op_rows.specs.Seen.{eventNextRowsIn}
+use Rattle.operations.specs.Operations.{line_taken}
+use Rattle.op_rows.specs.Seen.{event_next_rows_in}
 use Rattle.op_rows.proofs.events.event_next_row.Statement.{statement}
 use Rattle.op_rows.proofs.events.event_next_row.Tie as tie
 
@@ -20,7 +20,7 @@ use Rattle.op_rows.proofs.events.event_next_row.Tie as tie
 abbrev rows : tie.Start → List Row
 rows c =
     let a = c.args in
-    eventNextRowsIn a.z a.at (decoded a.words.now) a.kind a.meter a.s
+    event_next_rows_in a.z a.at (decoded a.words.now) a.kind a.meter a.s
 
 past1 : (c : tie.Else1) → Past (rows c.before.before) 1
 past1 c = (sym c.before.open_at.ensures ∙ c.if1.false, tt)
@@ -50,10 +50,10 @@ line-taken-requires-2 c κs =
 lines : (c : tie.After-line-taken2)
     → let a = c.before.before.before.before.before.before.before.before.args in
     c.before.before.line_taken.result || c.line-taken2.result
-    ≡ lineTaken a.z (decoded a.words.now).writers.held 1 a.s (firstMeter a.kind a.meter) || lineTaken a.z (decoded a.words.now).writers.held 1 a.s (ownMeter a.kind a.meter)
+    ≡ line_taken a.z (decoded a.words.now).writers.held 1 a.s (first_meter a.kind a.meter) || line_taken a.z (decoded a.words.now).writers.held 1 a.s (own_meter a.kind a.meter)
 lines c =
     let a = c.before.before.before.before.before.before.before.before.args in
-    let taken : ℕ → Bool = lineTaken a.z (decoded a.words.now).writers.held 1 a.s in
+    let taken : ℕ → Bool = line_taken a.z (decoded a.words.now).writers.held 1 a.s in
     ap₂ (λ (x y : Bool). x || y) (c.before.before.line_taken.ensures ∙ ap taken c.before.before.before.first-meter.ensures) (c.line-taken2.ensures ∙ ap taken c.before.own-meter.ensures)
 
 past3 : (c : tie.Else3) → Past (rows c.before.before.before.before.before.before.before.before.before) 3

@@ -9,10 +9,10 @@ use lib.Dec.{ltb}
 use borrow.Author.Tests.{not-false, lt-ltb, le-ltb}
 use Rattle.bounded.specs.Rows.{Row, refusal}
 use Rattle.bounded.proofs.Tests.{row-yes, row-no}
-use Rattle.meters.specs.Meters.{eventKnown}
-use Rattle.state.specs.Slots.{slotOfPage}
-use Rattle.operations.specs.Operations.{journalFullOf}
-use Rattle.op_rows.specs.Seen.{eventNextRowsIn}
+use Rattle.meters.specs.Meters.{event_known}
+use Rattle.state.specs.Slots.{slot_of_page}
+use Rattle.operations.specs.Operations.{journal_full_of}
+use Rattle.op_rows.specs.Seen.{event_next_rows_in}
 use Rattle.operations.proofs.Joined.{joined-first, joined-rest}
 use Rattle.op_rows.proofs.events.event_row.Statement.{statement}
 use Rattle.op_rows.proofs.events.event_row.Tie as tie
@@ -20,21 +20,21 @@ use Rattle.op_rows.proofs.events.event_row.Tie as tie
 abbrev first : tie.Start → List Row
 first c =
     let a = c.args in
-    eventNextRowsIn a.z a.at (decoded a.words.now) a.kind a.meter (slotOfPage a.z (decoded a.words.now).table.page 0)
+    event_next_rows_in a.z a.at (decoded a.words.now) a.kind a.meter (slot_of_page a.z (decoded a.words.now).table.page 0)
 
 abbrev last : tie.Start → List Row
-last c = let a = c.args in (journalFullOf a.z a.at.head a.at.tail 1, 19) ∷ []
+last c = let a = c.args in (journal_full_of a.z a.at.head a.at.tail 1, 19) ∷ []
 
 -- the rows from 20 on
 abbrev known-rows : tie.Start → ℕ
-known-rows c = let a = c.args in cond (not (eventKnown a.kind a.meter)) 20 (refusal (first c ++ last c))
+known-rows c = let a = c.args in cond (not (event_known a.kind a.meter)) 20 (refusal (first c ++ last c))
 
 -- row 29 does not apply
 narrow : (c : tie.Else1) {n : ℕ} → n ≡ known-rows c.before.before → n ≡ cond (ltb c.before.before.args.at.wide 4) 29 (known-rows c.before.before)
 narrow c {n = n} e = row-no (ltb c.before.before.args.at.wide 4) 29 (known-rows c.before.before) n (le-ltb _ _ c.if1.false) e
 
 -- nor does row 20
-known : (c : tie.Else2) → let a = c.before.before.before.before.args in not (eventKnown a.kind a.meter) ≡ false
+known : (c : tie.Else2) → let a = c.before.before.before.before.args in not (event_known a.kind a.meter) ≡ false
 known c = sym (ap not c.before.is_Known.ensures) ∙ c.if2.false
 
 found : (c : tie.After-event-next-row) → c.event-next-row.result ≡ refusal (first c.before.before.before.before.before.before)
@@ -47,19 +47,19 @@ returns-2 : tie.Need-returns-2
 returns-2 c = narrow c.before.before (row-yes _ 20 _ (sym (ap not c.before.is_Known.ensures) ∙ c.if2.true))
 
 event-next-row-requires : tie.Need-event-next-row-requires
-event-next-row-requires c κs = let s = c.before.before.before.before.before in (s.requires.0, s.requires.4, not-false (eventKnown s.args.kind s.args.meter) (known c.before))
+event-next-row-requires c κs = let s = c.before.before.before.before.before in (s.requires.0, s.requires.4, not-false (event_known s.args.kind s.args.meter) (known c.before))
 
 returns-3 : tie.Need-returns-3
 returns-3 c =
     let s = c.before.before.before.before.before.before.before in
     let e = found c.before in
     narrow c.before.before.before.before.before
-    (row-no (not (eventKnown s.args.kind s.args.meter)) 20 _ _ (known c.before.before.before) (e ∙ joined-first (first s) (last s) (λ z. c.if3.true (e ∙ z))))
+    (row-no (not (event_known s.args.kind s.args.meter)) 20 _ _ (known c.before.before.before) (e ∙ joined-first (first s) (last s) (λ z. c.if3.true (e ∙ z))))
 
 rest : (c : tie.Else3) → refusal (last c.before.before.before.before.before.before.before) ≡ known-rows c.before.before.before.before.before.before.before
 rest c =
     let s = c.before.before.before.before.before.before.before in
-    row-no (not (eventKnown s.args.kind s.args.meter)) 20 (refusal (first s ++ last s)) (refusal (last s)) (known c.before.before.before)
+    row-no (not (event_known s.args.kind s.args.meter)) 20 (refusal (first s ++ last s)) (refusal (last s)) (known c.before.before.before)
     (joined-rest (first s) (last s) (omega arith) (sym (found c.before) ∙ c.if3.false))
 
 returns-4 : tie.Need-returns-4

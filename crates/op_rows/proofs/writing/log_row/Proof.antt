@@ -6,7 +6,7 @@ use mathlib.Core.Path.{sym, ap, ◌∙◌}
 use native.Mathlib.Omega.{arith}
 use Rattle.bounded.specs.Rows.{Row, Past}
 use Rattle.bounded.proofs.Rows.{row_at, row-none}
-use Rattle.op_rows.specs.Seen.{logRowsIn}
+use Rattle.op_rows.specs.Seen.{log_rows_in}
 use Rattle.operations.proofs.Taken.{ArgsGood, args-good}
 use Rattle.op_rows.proofs.writing.log_row.Statement.{statement}
 use Rattle.op_rows.proofs.writing.log_row.Tie as tie
@@ -16,7 +16,7 @@ use Rattle.op_rows.proofs.writing.log_row.Tie as tie
 abbrev rows : tie.Start → List Row
 rows c =
     let a = c.args in
-    logRowsIn a.z a.at (decoded a.words.now) a.span
+    log_rows_in a.z a.at (decoded a.words.now) a.span
 
 past1 : (c : tie.Else1) → Past (rows c.before.before) 1
 past1 c = (sym c.before.write-args-bad.ensures ∙ c.if1.false, tt)

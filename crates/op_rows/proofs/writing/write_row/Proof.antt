@@ -7,7 +7,7 @@ use native.Mathlib.Omega.{arith}
 use borrow.Author.Tests.{eq-eqb, ne_eqb}
 use Rattle.bounded.specs.Rows.{Row, Past}
 use Rattle.bounded.proofs.Rows.{row_at, row-none}
-use Rattle.op_rows.specs.Seen.{writeRowsIn}
+use Rattle.op_rows.specs.Seen.{write_rows_in}
 use Rattle.operations.proofs.Taken.{ArgsGood, args-good}
 use Rattle.op_rows.proofs.writing.write_row.Statement.{statement}
 use Rattle.op_rows.proofs.writing.write_row.Tie as tie
@@ -17,7 +17,7 @@ use Rattle.op_rows.proofs.writing.write_row.Tie as tie
 abbrev rows : tie.Start → List Row
 rows c =
     let a = c.args in
-    writeRowsIn a.z a.at (decoded a.words.now) a.writer a.span a.s
+    write_rows_in a.z a.at (decoded a.words.now) a.writer a.span a.s
 
 past1 : (c : tie.Else1) → Past (rows c.before.before) 1
 past1 c = (sym c.before.write-args-bad.ensures ∙ c.if1.false, tt)

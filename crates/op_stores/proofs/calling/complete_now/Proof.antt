@@ -3,7 +3,7 @@ use mathlib.Core.Path.{sym, ap, ◌∙◌}
 use Rattle.bounded.proofs.Tests.{contradicts}
 use Rattle.state.specs.State.{State}
 use Rattle.state.specs.declared.Places.{Places}
-use Rattle.operations.specs.Operations.{isIdle, rules as needsOf}
+use Rattle.operations.specs.Operations.{is_idle, rules as needs_of}
 use Rattle.refinement.specs.Stores.{completed}
 use Rattle.refinement.proofs.Going.{ranges-of}
 use Rattle.asked.proofs.Asked.{write-needs, consolidate-needs, event-needs, log-needs, format-needs}
@@ -46,12 +46,12 @@ complete-copy-requires c κs =
 returns : tie.Need-returns
 returns c =
     let s = c.before.before in
-    contradicts (ap isIdle c.enum_told.given.1) s.requires.0.busy
+    contradicts (ap is_idle c.enum_told.given.1) s.requires.0.busy
 
 returns-2 : tie.Need-returns-2
 returns-2 c =
     let s = c.before.before in
-    absurd (write-needs (st s) _ _ _ _ _ (sym (ap (needsOf (st s)) c.enum-told2.given.1) ∙ s.requires.1))
+    absurd (write-needs (st s) _ _ _ _ _ (sym (ap (needs_of (st s)) c.enum-told2.given.1) ∙ s.requires.1))
 
 returns-3 : tie.Need-returns-3
 returns-3 c =
@@ -61,7 +61,7 @@ returns-3 c =
 returns-4 : tie.Need-returns-4
 returns-4 c =
     let s = c.before.before in
-    absurd (consolidate-needs (st s) _ (sym (ap (needsOf (st s)) c.enum-told3.given.1) ∙ s.requires.1))
+    absurd (consolidate-needs (st s) _ (sym (ap (needs_of (st s)) c.enum-told3.given.1) ∙ s.requires.1))
 
 returns-5 : tie.Need-returns-5
 returns-5 c =
@@ -71,7 +71,7 @@ returns-5 c =
 returns-6 : tie.Need-returns-6
 returns-6 c =
     let s = c.before.before in
-    absurd (event-needs (st s) _ _ _ (sym (ap (needsOf (st s)) c.enum-told5.given.1) ∙ s.requires.1))
+    absurd (event-needs (st s) _ _ _ (sym (ap (needs_of (st s)) c.enum-told5.given.1) ∙ s.requires.1))
 
 returns-7 : tie.Need-returns-7
 returns-7 c =
@@ -86,7 +86,7 @@ returns-8 c =
 returns-9 : tie.Need-returns-9
 returns-9 c =
     let s = c.before.before in
-    absurd (log-needs (st s) _ _ _ _ (sym (ap (needsOf (st s)) c.enum-told6.given.1) ∙ s.requires.1))
+    absurd (log-needs (st s) _ _ _ _ (sym (ap (needs_of (st s)) c.enum-told6.given.1) ∙ s.requires.1))
 
 returns-10 : tie.Need-returns-10
 returns-10 c =
@@ -96,7 +96,7 @@ returns-10 c =
 returns-11 : tie.Need-returns-11
 returns-11 c =
     let s = c.before.before in
-    absurd (format-needs (st s) (sym (ap (needsOf (st s)) c.enum-told8.given.1) ∙ s.requires.1))
+    absurd (format-needs (st s) (sym (ap (needs_of (st s)) c.enum-told8.given.1) ∙ s.requires.1))
 
 pub complete-now-spec : {M : Type 1} → statement M
 complete-now-spec =

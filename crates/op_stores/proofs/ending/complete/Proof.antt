@@ -4,7 +4,7 @@ use native.Mathlib.Omega.{arith}
 use Rattle.bounded.proofs.Tests.{contradicts}
 use Rattle.state.specs.State.{State}
 use Rattle.state.specs.declared.Places.{Places}
-use Rattle.operations.specs.Operations.{isIdle}
+use Rattle.operations.specs.Operations.{is_idle}
 use Rattle.refinement.specs.Stores.{completed}
 use Rattle.refinement.proofs.Going.{ranges-of}
 use Rattle.state_words.specs.Decoded.{decoded}
@@ -73,7 +73,7 @@ complete-copy-requires c κs =
 returns : tie.Need-returns
 returns c =
     let s = c.before.before in
-    contradicts (ap isIdle (sym s.requires.1 ∙ c.enum_told.given.1)) s.requires.0.busy
+    contradicts (ap is_idle (sym s.requires.1 ∙ c.enum_told.given.1)) s.requires.0.busy
 
 returns-2 : tie.Need-returns-2
 returns-2 c =

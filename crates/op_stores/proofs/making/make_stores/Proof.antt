@@ -4,8 +4,8 @@ use native.Mathlib.Omega.{arith}
 use lib.ListN.{length}
 use Rattle.bounded.proofs.Below.{up_none, up_ends}
 use Rattle.state.specs.State.{State}
-use Rattle.operations.specs.Operations.{rules as needsOf}
-use Rattle.refinement.specs.Stores.{storeAt, storeValue, storesMade}
+use Rattle.operations.specs.Operations.{rules as needs_of}
+use Rattle.refinement.specs.Stores.{store_at, store_value, stores_made}
 use Rattle.op_pieces.proofs.Turns.{piece-turn}
 use Rattle.state_words.specs.Decoded.{decoded}
 use Rattle.op_stores.proofs.Leaning.{pending_next}
@@ -14,7 +14,7 @@ use Rattle.op_stores.proofs.making.make_stores.Statement.{statement}
 use Rattle.op_stores.proofs.making.make_stores.Tie as tie
 
 abbrev invariant-loop : tie.invariant-loop
-invariant-loop image₀ z at words op made n i₀ image i = (i ≤ n) × (length image ≡ length image₀) × (image ≡ storesMade (decoded words) i image₀)
+invariant-loop image₀ z at words op made n i₀ image i = (i ≤ n) × (length image ≡ length image₀) × (image ≡ stores_made (decoded words) i image₀)
 
 abbrev decreases-loop : tie.decreases-loop
 decreases-loop image₀ z at words op made n i₀ image i = n - i
@@ -43,7 +43,7 @@ put-piece-requires c κs =
     let l = c.before.before.before.before.before.before.loop in
     let s = c.before.before.before.before.before.before.before.before in
     let m = c.before.smaller.ensures in
-    let all : needsOf (st s) s.args.op ≡ needsOf (st s) (st s).pending.op = ap (needsOf (st s)) s.requires.1 in
+    let all : needs_of (st s) s.args.op ≡ needs_of (st s) (st s).pending.op = ap (needs_of (st s)) s.requires.1 in
     record {
       i = l.i;
       start = s.args.image.now;
@@ -69,7 +69,7 @@ loop-again c =
     let s = c.before.before.before.before.before.before.before.before.before.before.before in (
       omega (arith, m, c.before.before.before.before.before.before.before.before.loop-test.true),
       search rules,
-      piece-turn (λ u. storeAt (st s) (st s).pending.op) (λ u. storeValue (st s) u (st s).pending.op) (st s).pending.made l.i _ _ _ s.args.image.now l.image _ l.invariant.2
+      piece-turn (λ u. store_at (st s) (st s).pending.op) (λ u. store_value (st s) u (st s).pending.op) (st s).pending.made l.i _ _ _ s.args.image.now l.image _ l.invariant.2
           (pending_next s.args.z (st s) s.args.op s.args.made l.i l.image _ s.requires.1 s.requires.2 (omega (arith, s.requires.5, l.invariant.1)) h)
           (omega (arith, h.some, m)) c.before.before.put-piece.ensures,
     )

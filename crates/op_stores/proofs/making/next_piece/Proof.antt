@@ -3,7 +3,7 @@ use mathlib.Core.Path.{sym, ap, ◌∙◌}
 use Rattle.bounded.proofs.Tests.{contradicts}
 use Rattle.state.specs.State.{State}
 use Rattle.state.specs.declared.Places.{Places}
-use Rattle.operations.specs.Operations.{isIdle}
+use Rattle.operations.specs.Operations.{is_idle}
 use Rattle.state_words.specs.Decoded.{decoded}
 use Rattle.op_stores.proofs.Leaning.{legal, head-low, next_low, shapes, few, write-taken, commit-low, prepare-low, confirm-low, consolidate-leans, event-leans, log-leans, copy-pages, write-below, log-below, next_of, commit-next, prepare-next, confirm-next, copy-next, format-below, format-next}
 use Rattle.op_stores.proofs.making.next_piece.Statement.{statement}
@@ -74,7 +74,7 @@ format-piece-requires c κs =
 returns : tie.Need-returns
 returns c =
     let s = c.before.before.before.before in
-    contradicts (ap isIdle (sym s.requires.1 ∙ c.before.enum_told.given.1)) s.requires.0.busy
+    contradicts (ap is_idle (sym s.requires.1 ∙ c.before.enum_told.given.1)) s.requires.0.busy
 
 returns-2 : tie.Need-returns-2
 returns-2 c =

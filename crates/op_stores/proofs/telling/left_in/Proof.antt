@@ -3,7 +3,7 @@ use mathlib.Core.Path.{◌≡◌, ap, ap₂, ◌∙◌}
 use native.Mathlib.Omega.{arith}
 use Prim.Native.Nat.{◌-◌}
 use Rattle.state.specs.State.{State}
-use Rattle.operations.specs.Operations.{rules as needsOf}
+use Rattle.operations.specs.Operations.{rules as needs_of}
 use Rattle.state_words.specs.Decoded.{decoded}
 use Rattle.op_stores.proofs.Leaning.{needs-leans, needs-seen, made-low}
 use Rattle.op_stores.proofs.telling.left_in.Statement.{statement}
@@ -16,10 +16,10 @@ op-needs-requires : tie.Need-op-needs-requires
 op-needs-requires c κs = let s = c.before in needs-leans s.args.z s.args.at (st s) s.requires _ c.op-in.ensures
 
 -- the stores as they were counted
-all : (c : tie.After-op-needs) → let s = c.before.before in c.op-needs.result ≡ needsOf (st s) (st s).pending.op
+all : (c : tie.After-op-needs) → let s = c.before.before in c.op-needs.result ≡ needs_of (st s) (st s).pending.op
 all c =
     let s = c.before.before in
-    c.op-needs.ensures ∙ needs-seen s.args.z s.args.at (st s) s.requires _ ∙ ap (needsOf (st s)) c.before.op-in.ensures
+    c.op-needs.ensures ∙ needs-seen s.args.z s.args.at (st s) s.requires _ ∙ ap (needs_of (st s)) c.before.op-in.ensures
 
 sub-result : tie.Need-overflow-sub-result
 sub-result c =

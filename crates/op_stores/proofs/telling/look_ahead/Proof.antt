@@ -3,10 +3,10 @@ use Prim.Native.Nat.{ℕ, ◌+◌, ◌<◌}
 use mathlib.Core.List.{List}
 use mathlib.Core.Path.{◌≡◌, refl, sym, ap, ap₂, ◌∙◌}
 use native.Mathlib.Omega.{arith}
-use Rattle.layout.specs.Layout.{imageLength}
+use Rattle.layout.specs.Layout.{image_length}
 use Rattle.state.specs.State.{State}
-use Rattle.operations.specs.Operations.{rules as needsOf}
-use Rattle.refinement.specs.Stores.{storeAt, storeValue}
+use Rattle.operations.specs.Operations.{rules as needs_of}
+use Rattle.refinement.specs.Stores.{store_at, store_value}
 use Rattle.op_pieces.specs.declared.Piece.{Piece}
 use Rattle.op_pieces.specs.Pieces.{Next}
 use Rattle.state_words.specs.Decoded.{decoded}
@@ -19,9 +19,9 @@ st s = decoded s.args.words.now
 
 -- the words of a piece lie side by side
 beside : (st : State) (bound : ℕ) (img : List ℕ) (p : Piece)
-    → Next (λ m. storeAt st st.pending.op) (λ m. storeValue st m st.pending.op) st.pending.made bound img p
+    → Next (λ m. store_at st st.pending.op) (λ m. store_value st m st.pending.op) st.pending.made bound img p
     → (d : ℕ) → p.from + d < p.count
-    → storeAt st st.pending.op (st.pending.made + d) ≡ storeAt st st.pending.op st.pending.made + d
+    → store_at st st.pending.op (st.pending.made + d) ≡ store_at st st.pending.op st.pending.made + d
 beside st bound img p n d l =
     let first = first-place st st.pending.op st.pending.made bound img p refl refl n in
     let e : p.at + (p.from + d) ≡ p.at + p.from + d = omega arith in
@@ -32,7 +32,7 @@ next-piece-requires c κs =
     let o = c.before in
     let s = o.before.before in
     let low = made-low s.args.z s.args.at (st s) s.pre.0 in
-    let all : needsOf (st s) o.op-in.result ≡ needsOf (st s) (st s).pending.op = ap (needsOf (st s)) o.op-in.ensures in
+    let all : needs_of (st s) o.op-in.result ≡ needs_of (st s) (st s).pending.op = ap (needs_of (st s)) o.op-in.ensures in
     (s.pre.0, o.op-in.ensures, omega (arith, c.made_in.ensures, all, low), s.pre.1)
 
 left-in-requires : tie.Need-left-in-requires

@@ -5,14 +5,14 @@ use lib.Dec.{leb}
 use lib.ListN.{length}
 use borrow.Author.Rules.{rules}
 use borrow.Author.Tests.{leb-true, not-true, not-false}
-use Rattle.executing.specs.Called.{Machine, machineAt, turnAt}
+use Rattle.executing.specs.Called.{Machine, machine_at, turn_at}
 use Rattle.script.specs.Performed.{room}
 use Rattle.script.proofs.Printed.{perform-none, perform-done}
 use Rattle.script.proofs.performing.perform.Statement.{statement}
 use Rattle.script.proofs.performing.perform.Tie as tie
 
 abbrev machine : tie.Start → Machine
-machine s = machineAt s.args.m s.args.words.now
+machine s = machine_at s.args.m s.args.words.now
 
 abbrev start : tie.After-has-room → tie.Start
 start c = c.before.before.before.before
@@ -40,7 +40,7 @@ returns-2 c =
     let s = start else.before in
     let a = s.args in
     let p = printed.put-output.ensures in
-    perform-done (machine s) a.image.now a.n a.line.now a.out.now a.at read.parse.result (turnAt turned.turn.result _ _) _ _
+    perform-done (machine s) a.image.now a.n a.line.now a.out.now a.at read.parse.result (turn_at turned.turn.result _ _) _ _
     (room-found else) read.parse.ensures turned.turn.ensures p.laid p.place
 
 pub perform-spec : {M : Type 1} → statement M

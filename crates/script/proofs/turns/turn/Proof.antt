@@ -5,13 +5,13 @@ use borrow.Author.Rules.{rules}
 use Rattle.forms.specs.declared.Form.TheVariants.{Cuts, Other}
 use Rattle.forms.proofs.Formed.{write-data}
 use Rattle.executing.specs.declared.Turned.{Turned}
-use Rattle.executing.specs.Called.{Machine, machineAt, turnAt}
+use Rattle.executing.specs.Called.{Machine, machine_at, turn_at}
 use Rattle.script.proofs.Turning.{by_form, by-format, by_call, by_read}
 use Rattle.script.proofs.turns.turn.Statement.{statement}
 use Rattle.script.proofs.turns.turn.Tie as tie
 
 abbrev machine : tie.Start → Machine
-machine s = machineAt s.args.m s.args.words.now
+machine s = machine_at s.args.m s.args.words.now
 
 abbrev bytes : tie.Start → List ℕ
 bytes s = s.args.image.now
@@ -60,7 +60,7 @@ returns-4 c =
     let form = told.before.before in
     let s = start form in
     by_form (machine s) (bytes s) s.args.t4 form.form_of.result form.form_of.ensures Cuts _ told.enum-told3.given.1
-    (ap (λ (r : Turned). turnAt r s.args.words.now (bytes s)) c.answered.ensures)
+    (ap (λ (r : Turned). turn_at r s.args.words.now (bytes s)) c.answered.ensures)
 
 returns-5 : tie.Need-returns-5
 returns-5 c =

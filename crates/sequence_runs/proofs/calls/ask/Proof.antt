@@ -2,14 +2,14 @@
 use borrow.Author.Rules.{rules}
 use Rattle.refinement.specs.Stores.{World}
 use Rattle.refinement.specs.Run.{exec}
-use Rattle.sequence_runs.specs.Turns.{worldIn}
+use Rattle.sequence_runs.specs.Turns.{world_in}
 use Rattle.sequence_runs.proofs.Called.{quiet_told, asked-told, told, past-eleven, told-last}
 use Rattle.sequence_runs.proofs.calls.ask.Statement.{statement}
 use Rattle.sequence_runs.proofs.calls.ask.Tie as tie
 
 -- the world that the call is made in
 abbrev made_in : tie.Start → World
-made_in s = worldIn s.args.words.now s.args.image.now
+made_in s = world_in s.args.words.now s.args.image.now
 
 returns : tie.Need-returns
 unfolding exec

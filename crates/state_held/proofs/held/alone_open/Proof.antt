@@ -9,7 +9,7 @@ use Prim.Native.Nat.{ℕ}
 use mathlib.Core.Bool.{Bool, not, ◌&&◌, ◌||◌}
 use mathlib.Core.Path.{◌≡◌, ap}
 use lib.Dec.{eqb}
-use Rattle.state.specs.Held.{isOpen}
+use Rattle.state.specs.Held.{is_open}
 use Rattle.state_held.proofs.held.alone_open.Statement.{statement}
 use Rattle.state_held.proofs.held.alone_open.Tie as tie
 
@@ -17,7 +17,7 @@ abbrev test : ℕ → ℕ → Bool → Bool
 test w v o = (o && eqb v w) || (not o && not (eqb v w))
 
 abbrev invariant-loop : tie.invariant-loop
-invariant-loop words w v₀ v = (v ≤ 4) × (all_below v (λ k. test w k (isOpen (decoded words).writers.opened k)) ≡ true)
+invariant-loop words w v₀ v = (v ≤ 4) × (all_below v (λ k. test w k (is_open (decoded words).writers.opened k)) ≡ true)
 
 abbrev decreases-loop : tie.decreases-loop
 decreases-loop words w v₀ v = 4 - v

@@ -6,13 +6,13 @@ use lib.ListN.{get_or}
 use lib.Dec.{eqb}
 use borrow.Author.Tests.{eq-eqb, ne_eqb}
 use Rattle.bounded.proofs.Below.{first-none, first-turn, first_stops, first_ends}
-use Rattle.bounded.specs.Below.{firstBelow}
+use Rattle.bounded.specs.Below.{first_below}
 use Rattle.state_words.specs.Decoded.{decoded}
 use Rattle.state_held.proofs.held.find_entry.Statement.{statement}
 use Rattle.state_held.proofs.held.find_entry.Tie as tie
 
 abbrev invariant-loop : tie.invariant-loop
-invariant-loop words n key e₀ e = (e ≤ n) × (firstBelow e (λ k. eqb (get_or (decoded words).wide.keys k 0) key) ≡ e)
+invariant-loop words n key e₀ e = (e ≤ n) × (first_below e (λ k. eqb (get_or (decoded words).wide.keys k 0) key) ≡ e)
 
 abbrev decreases-loop : tie.decreases-loop
 decreases-loop words n key e₀ e = n - e

@@ -6,15 +6,15 @@ use native.Mathlib.Omega.{arith}
 use lib.Dec.{eqb}
 use Rattle.bounded.proofs.Those.{length-those}
 use Rattle.bounded.proofs.Below.{count_none, count_turn, count-ends}
-use Rattle.bounded.specs.Below.{one, countBelow}
-use Rattle.state.specs.Held.{heldAt, heldSlots}
+use Rattle.bounded.specs.Below.{one, count_below}
+use Rattle.state.specs.Held.{held_at, held_slots}
 use Rattle.state.proofs.Numbers.{one-small}
 use Rattle.state_words.specs.Decoded.{decoded}
 use Rattle.state_held.proofs.held.held_count.Statement.{statement}
 use Rattle.state_held.proofs.held.held_count.Tie as tie
 
 abbrev invariant-loop : tie.invariant-loop
-invariant-loop z words w n₀ s₀ n s = (s ≤ z.slots) × (n ≤ s) × (n ≡ countBelow s (λ k. not (eqb (heldAt (decoded words).writers.held w k) 0)))
+invariant-loop z words w n₀ s₀ n s = (s ≤ z.slots) × (n ≤ s) × (n ≡ count_below s (λ k. not (eqb (held_at (decoded words).writers.held w k) 0)))
 
 abbrev decreases-loop : tie.decreases-loop
 decreases-loop z words w n₀ s₀ n s = z.slots - s
@@ -29,7 +29,7 @@ loop-again : tie.Need-loop-preserved invariant-loop decreases-loop
 loop-again c = (search rules, omega (arith, one-small _ _ c.one-if.ensures), count_turn _ _ _ _ c.before.before.before.before.loop.invariant.2 (c.one-if.ensures ∙ ap (λ (m : ℕ). one (not (eqb m 0))) c.before.held_at.ensures))
 
 returns : tie.Need-returns invariant-loop decreases-loop
-unfolding heldSlots
+unfolding held_slots
 returns c = count-ends _ _ _ _ c.before.before.loop.invariant.0 c.if1.false c.before.before.loop.invariant.2 ∙ sym (length-those _ _)
 
 pub held-count-spec : {M : Type 1} → statement M

@@ -8,13 +8,13 @@ use Rattle.state_words.specs.Decoded.{decoded}
 use mathlib.Core.Path.{◌≡◌, ap, ◌∙◌}
 use borrow.Author.Tests.{eq-eqb, ne_eqb}
 use Rattle.masks.specs.Lines.{disjoint}
-use Rattle.state.specs.Held.{heldAt}
+use Rattle.state.specs.Held.{held_at}
 use Prim.Native.Nat.{ℕ}
 use Rattle.state_held.proofs.held.holder_ok.Statement.{statement}
 use Rattle.state_held.proofs.held.holder_ok.Tie as tie
 
 abbrev invariant-loop : tie.invariant-loop
-invariant-loop words free s w m v₀ v = (v ≤ w) × (all_below v (λ k. disjoint m (heldAt (decoded words).writers.held k s)) ≡ true)
+invariant-loop words free s w m v₀ v = (v ≤ w) × (all_below v (λ k. disjoint m (held_at (decoded words).writers.held k s)) ≡ true)
 
 abbrev decreases-loop : tie.decreases-loop
 decreases-loop words free s w m v₀ v = w - v

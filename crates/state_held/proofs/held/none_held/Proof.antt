@@ -6,12 +6,12 @@ use mathlib.Core.Bool.{true}
 use Rattle.state_words.specs.Decoded.{decoded}
 use mathlib.Core.Bool.{not}
 use mathlib.Core.Path.{◌≡◌, ap}
-use Rattle.state.specs.Held.{someHold}
+use Rattle.state.specs.Held.{some_hold}
 use Rattle.state_held.proofs.held.none_held.Statement.{statement}
 use Rattle.state_held.proofs.held.none_held.Tie as tie
 
 abbrev invariant-loop : tie.invariant-loop
-invariant-loop z words s₀ s = (s ≤ z.slots) × (all_below s (λ k. not (someHold (decoded words).writers.held k)) ≡ true)
+invariant-loop z words s₀ s = (s ≤ z.slots) × (all_below s (λ k. not (some_hold (decoded words).writers.held k)) ≡ true)
 
 abbrev decreases-loop : tie.decreases-loop
 decreases-loop z words s₀ s = z.slots - s

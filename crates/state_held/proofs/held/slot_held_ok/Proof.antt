@@ -6,13 +6,13 @@ use mathlib.Core.Bool.{true}
 use borrow.Author.Tests.{not-true, not-false}
 use Rattle.state_words.specs.Decoded.{decoded}
 use mathlib.Core.Path.{◌≡◌, sym, ◌∙◌}
-use Rattle.state.specs.Held.{holderOk}
+use Rattle.state.specs.Held.{holder_ok}
 use Rattle.state.proofs.Unheld.{unheld-ok}
 use Rattle.state_held.proofs.held.slot_held_ok.Statement.{statement}
 use Rattle.state_held.proofs.held.slot_held_ok.Tie as tie
 
 abbrev invariant-loop : tie.invariant-loop
-invariant-loop words free s w₀ w = (w ≤ 4) × (all_below w (holderOk (decoded words).writers.opened (decoded words).writers.held free s) ≡ true)
+invariant-loop words free s w₀ w = (w ≤ 4) × (all_below w (holder_ok (decoded words).writers.opened (decoded words).writers.held free s) ≡ true)
 
 abbrev decreases-loop : tie.decreases-loop
 decreases-loop words free s w₀ w = 4 - w

@@ -6,13 +6,13 @@ use lib.ListN.{get_or}
 use lib.Dec.{eqb}
 use borrow.Author.Tests.{eq-eqb, ne_eqb}
 use Rattle.bounded.proofs.Below.{first-none, first-turn, first_stops, first_ends}
-use Rattle.bounded.specs.Below.{firstBelow}
+use Rattle.bounded.specs.Below.{first_below}
 use Rattle.state_words.specs.Decoded.{decoded}
 use Rattle.state_held.proofs.slots.slot_of.Statement.{statement}
 use Rattle.state_held.proofs.slots.slot_of.Tie as tie
 
 abbrev invariant-loop : tie.invariant-loop
-invariant-loop z words p s₀ s = (s ≤ z.slots) × (firstBelow s (λ k. eqb (get_or (decoded words).table.page k 0) p) ≡ s)
+invariant-loop z words p s₀ s = (s ≤ z.slots) × (first_below s (λ k. eqb (get_or (decoded words).table.page k 0) p) ≡ s)
 
 abbrev decreases-loop : tie.decreases-loop
 decreases-loop z words p s₀ s = z.slots - s

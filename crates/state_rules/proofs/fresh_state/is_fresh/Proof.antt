@@ -2,7 +2,7 @@ use borrow.Author.Rules.{rules}
 use mathlib.Core.Bool.{Bool, false}
 use mathlib.Core.Path.{◌≡◌}
 use Rattle.bounded.proofs.Tests.{and-stops, and-goes}
-use Rattle.validity.specs.Validity.{isFresh}
+use Rattle.validity.specs.Validity.{is_fresh}
 use Rattle.state.specs.State.{State}
 use Rattle.state_words.specs.Decoded.{decoded}
 use Rattle.op_rows.specs.Seen.{seen}
@@ -23,7 +23,7 @@ returns-2 c =
     not-closed (st h.before.before.before.before.before) h.if1.false _ o.some-open.ensures c.if2.true
 
 -- past the tests of places and writers
-rest : (c : tie.After-slots-fresh) (r : Bool) → r ≡ slots (st c.before.before.before.before.before.before.before.before.before.before) → r ≡ isFresh (st c.before.before.before.before.before.before.before.before.before.before)
+rest : (c : tie.After-slots-fresh) (r : Bool) → r ≡ slots (st c.before.before.before.before.before.before.before.before.before.before) → r ≡ is_fresh (st c.before.before.before.before.before.before.before.before.before.before)
 rest c r e =
     let i = c.before in
     let o = i.before.before.before in

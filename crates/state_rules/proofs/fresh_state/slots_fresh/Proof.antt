@@ -5,13 +5,13 @@ use mathlib.Core.Path.{◌≡◌}
 use borrow.Author.Tests.{not-true, not-false}
 use Rattle.bounded.specs.Below.{all_below}
 use Rattle.bounded.proofs.Below.{all_none, all-turn, all-stops, all-ends}
-use Rattle.validity.specs.Validity.{freshAt}
+use Rattle.validity.specs.Validity.{fresh_at}
 use Rattle.state_words.specs.Decoded.{decoded}
 use Rattle.state_rules.proofs.fresh_state.slots_fresh.Statement.{statement}
 use Rattle.state_rules.proofs.fresh_state.slots_fresh.Tie as tie
 
 abbrev invariant-loop : tie.invariant-loop
-invariant-loop z words s₀ s = (s ≤ z.slots) × (all_below s (freshAt z (decoded words).table) ≡ true)
+invariant-loop z words s₀ s = (s ≤ z.slots) × (all_below s (fresh_at z (decoded words).table) ≡ true)
 
 abbrev decreases-loop : tie.decreases-loop
 decreases-loop z words s₀ s = z.slots - s

@@ -6,16 +6,16 @@ use mathlib.Core.Bool.{true}
 use borrow.Author.Tests.{not-true, not-false}
 use Rattle.state_words.specs.Decoded.{decoded}
 use mathlib.Core.Path.{◌≡◌}
-use Rattle.slot_rules.specs.Slots.{slotFine}
+use Rattle.slot_rules.specs.Slots.{slot_fine}
 use Rattle.state_rules.specs.Met.{Met}
 use Rattle.state_rules.proofs.MetLaws.{met-none, met-more}
-use Rattle.state.specs.State.{ownFrame}
+use Rattle.state.specs.State.{own_frame}
 use Rattle.state_rules.proofs.slots.each_fine.Statement.{statement}
 use Rattle.state_rules.proofs.slots.each_fine.Tie as tie
 
 abbrev invariant-loop : tie.invariant-loop
 invariant-loop z words met₀ s₀ met s =
-    (s ≤ z.slots) × ((all_below s (slotFine (ownFrame (decoded words)) z (decoded words).table) ≡ true) × Met (decoded words).table.page s met)
+    (s ≤ z.slots) × ((all_below s (slot_fine (own_frame (decoded words)) z (decoded words).table) ≡ true) × Met (decoded words).table.page s met)
 
 abbrev decreases-loop : tie.decreases-loop
 decreases-loop z words met₀ s₀ met s = z.slots - s

@@ -8,7 +8,7 @@ use borrow.Author.Tests.{not-true}
 use native.Mathlib.Omega.{arith}
 use lib.ListN.{length, get_or, drop, length-set}
 use Rattle.bounded.proofs.Tests.{held}
-use Rattle.text.specs.Fields.{fields, withByte, line_of}
+use Rattle.text.specs.Fields.{fields, with_byte, line_of}
 use Rattle.text.specs.Digits.{takes, closes}
 use Rattle.text.proofs.Reading.{State, Kept, going, going_start, going-comma, going-full, going_end, going-digit, going-bad}
 use Rattle.text.proofs.Reading.{at-comma, at_byte, at-end, some-fields, Digit, digit, closes-room}
@@ -47,7 +47,7 @@ comma c =
     at-comma (bytes h) h.loop.i c.before.before.loop-test.true c.if1.true
 
 byte : (c : tie.Else1 invariant-loop decreases-loop)
-    → (let h = c.before.before.before in fields (drop h.loop.i (bytes h)) ≡ withByte (here h) (fields (later h)))
+    → (let h = c.before.before.before in fields (drop h.loop.i (bytes h)) ≡ with_byte (here h) (fields (later h)))
 byte c =
     let h = c.before.before.before in
     at_byte (bytes h) h.loop.i c.before.before.loop-test.true c.if1.false

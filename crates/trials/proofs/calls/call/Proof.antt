@@ -1,6 +1,6 @@
 use Rattle.std.proofs.Common.{◌≡◌, ℕ, List, refl, rules}
 use Rattle.answers.specs.declared.Answer.{Answer}
-use Rattle.refinement.specs.Calls.{worldOf, beginRows, beginOf, abortRows, abortOf}
+use Rattle.refinement.specs.Calls.{world_of, begin_rows, begin_of, abort_rows, abort_of}
 use Rattle.bounded.specs.Rows.{refusal}
 use Rattle.refinement.specs.Run.{free, checkpoint, commit, exec}
 use Rattle.refinement.proofs.Refused.{refused-unchanged}
@@ -20,13 +20,13 @@ told : (s : tie.Start) (b : Ask) (answer : Answer) (words img : List ℕ) → s.
 told s b answer words img e h = rw e h
 
 returns : tie.Need-returns
-unfolding exec beginOf
+unfolding exec begin_of
 returns c =
     let s = c.before.before.before.before.before in
     let a = s.args in
     let f = c.begin in
     told s Begin f.result _ _ c.before.before.enum_told.given.1
-    (finishes-at-once _ a.image.now (no_stores (refusal (beginRows (decoded a.words.now) 0)))
+    (finishes-at-once _ a.image.now (no_stores (refusal (begin_rows (decoded a.words.now) 0)))
     (call_of Begin) a.words.now refl f.result _ f.ensures.0)
 
 returns-2 : tie.Need-returns-2
@@ -43,7 +43,7 @@ returns-3 c =
     let s = c.before.before.before.before.before.before.before.before in
     let a = s.args in
     let f = c.before.before.free-slot in
-    let v = worldOf (decoded a.words.now) a.image.now in
+    let v = world_of (decoded a.words.now) a.image.now in
     told s Free f.result _ _ c.before.before.before.before.before.enum-told2.given.1
     (finishes _ a.image.now (λ n. (stores-reported free v n).all_left) (λ n. (refused-unchanged free v n).stores)
     free a.words.now refl f.result _ _ f.ensures.0)
@@ -54,7 +54,7 @@ returns-4 c =
     let s = c.before.before.before.before.before.before.before.before in
     let a = s.args in
     let f = c.before.before.checkpoint in
-    let v = worldOf (decoded a.words.now) a.image.now in
+    let v = world_of (decoded a.words.now) a.image.now in
     told s Checkpoint f.result _ _ c.before.before.before.before.before.enum-told3.given.1
     (finishes _ a.image.now (λ n. (stores-reported checkpoint v n).all_left) (λ n. (refused-unchanged checkpoint v n).stores)
     checkpoint a.words.now refl f.result _ _ f.ensures.0)
@@ -65,19 +65,19 @@ returns-5 c =
     let s = c.before.before.before.before.before.before.before.before in
     let a = s.args in
     let f = c.before.before.commit in
-    let v = worldOf (decoded a.words.now) a.image.now in
+    let v = world_of (decoded a.words.now) a.image.now in
     told s Commit f.result _ _ c.before.before.before.before.before.enum-told4.given.1
     (finishes _ a.image.now (λ n. (stores-reported (commit 0) v n).all_left) (λ n. (refused-unchanged (commit 0) v n).stores)
     (commit 0) a.words.now refl f.result _ _ f.ensures.0)
 
 returns-6 : tie.Need-returns-6
-unfolding exec abortOf
+unfolding exec abort_of
 returns-6 c =
     let s = c.before.before.before.before.before in
     let a = s.args in
     let f = c.abort in
     told s Abort f.result _ _ c.before.before.enum-told5.given.1
-    (finishes-at-once _ a.image.now (no_stores (refusal (abortRows (decoded a.words.now) 0)))
+    (finishes-at-once _ a.image.now (no_stores (refusal (abort_rows (decoded a.words.now) 0)))
     (call_of Abort) a.words.now refl f.result _ f.ensures.0)
 
 pub call-spec : {M : Type 1} → statement M

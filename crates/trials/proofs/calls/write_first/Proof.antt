@@ -2,7 +2,7 @@ use Rattle.std.proofs.Common.{[], ◌∷◌, refl, rules}
 use Rattle.refinement.specs.Run.{write, exec}
 use Rattle.refinement.proofs.Reports.{stores-reported}
 use Rattle.refinement.proofs.Refused.{refused-unchanged}
-use Rattle.refinement.specs.Calls.{worldOf}
+use Rattle.refinement.specs.Calls.{world_of}
 use Rattle.state_words.specs.Decoded.{decoded}
 use Rattle.trials.proofs.Finishing.{finishes}
 use Rattle.trials.proofs.calls.write_first.Statement.{statement}
@@ -13,7 +13,7 @@ unfolding exec
 returns c =
     let a = c.before.before.before.before.before.before.before.args in
     let f = c.before.before.write in
-    let v = worldOf (decoded a.words.now) a.image.now in
+    let v = world_of (decoded a.words.now) a.image.now in
     let d = write 0 a.page 0 0 1 (a.byte ∷ []) in
     finishes _ a.image.now (λ n. (stores-reported d v n).all_left) (λ n. (refused-unchanged d v n).stores)
     d a.words.now refl f.result _ _ f.ensures.0

@@ -1,6 +1,6 @@
 -- At the head of the loop the pages before i are written.
 use Rattle.std.proofs.Common.{◌≡◌, ◌-◌, ◌≤◌, length, drop, refl, ◌∙◌, arith, rules}
-use Rattle.trials.specs.Trials.{trialOf, put_all}
+use Rattle.trials.specs.Trials.{trial_of, put_all}
 use Rattle.trials.proofs.Playing.{all_more, all-stop, all_end}
 use Rattle.trials.proofs.rounds.put_pages.Statement.{statement}
 use Rattle.trials.proofs.rounds.put_pages.Tie as tie
@@ -9,7 +9,7 @@ abbrev invariant-loop : tie.invariant-loop
 invariant-loop image₀ words₀ pages byte t₀ i₀ image words t i =
     (i ≤ length pages)
     × (length image ≡ length image₀)
-    × (put_all byte (drop i pages) (trialOf t words image) ≡ put_all byte pages (trialOf t₀ words₀ image₀))
+    × (put_all byte (drop i pages) (trial_of t words image) ≡ put_all byte pages (trial_of t₀ words₀ image₀))
 
 abbrev decreases-loop : tie.decreases-loop
 decreases-loop image₀ words₀ pages byte t₀ i₀ image words t i = length pages - i

@@ -1,8 +1,8 @@
 use Rattle.std.proofs.Common.{◌≡◌, ◌+◌, ◌-◌, ◌%◌, ◌^◌, ◌≤◌, length, get_or, refl, ◌∙◌, arith, length-set, rules}
-use Rattle.bounded.specs.Below.{countBelow}
+use Rattle.bounded.specs.Below.{count_below}
 use Rattle.bounded.specs.Tab.{filled}
 use Rattle.bounded.proofs.Tab.{filled_none, filled-ends}
-use Rattle.wear.specs.Shares.{wearAt}
+use Rattle.wear.specs.Shares.{wear_at}
 use Rattle.wear.proofs.Counting.{counted-turn}
 use Rattle.wear.proofs.shares.count.Statement.{statement}
 use Rattle.wear.proofs.shares.count.Tie as tie
@@ -10,7 +10,7 @@ use Rattle.wear.proofs.shares.count.Tie as tie
 abbrev invariant-loop : tie.invariant-loop
 invariant-loop counts₀ e written n k₀ counts k =
     (k ≤ 22) × (length counts ≡ length counts₀)
-    × (counts ≡ filled k (λ k. (get_or counts₀ k 0 + countBelow n (λ i. wearAt e written i k)) % 2 ^ 64) counts₀)
+    × (counts ≡ filled k (λ k. (get_or counts₀ k 0 + count_below n (λ i. wear_at e written i k)) % 2 ^ 64) counts₀)
 
 abbrev decreases-loop : tie.decreases-loop
 decreases-loop counts₀ e written n k₀ counts k = 22 - k
@@ -26,7 +26,7 @@ loop-again c =
     let a = s.args in (
       omega arith,
       length-set at.counts k _ ∙ at.invariant.1,
-      counted-turn (λ k. countBelow a.n (λ i. wearAt a.e a.written i k)) a.counts.now at.counts k _ _ at.invariant.2 c.before.worn.ensures
+      counted-turn (λ k. count_below a.n (λ i. wear_at a.e a.written i k)) a.counts.now at.counts k _ _ at.invariant.2 c.before.worn.ensures
           c.wrapping-add-u64.ensures,
     )
 
