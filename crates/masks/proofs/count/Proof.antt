@@ -5,7 +5,7 @@ use Rattle.masks.proofs.Counts.{ones-count}
 use Rattle.masks.proofs.count.Statement.{statement}
 use Rattle.masks.proofs.count.Tie as tie
 
-cast-result : tie.Need-overflow-cast-result
+cast-result : tie.Need-overflow_cast-result
 cast-result c = omega (arith, ones-le 64 c.args.m c.ranges.m.fits)
 
 returns : tie.Need-returns
