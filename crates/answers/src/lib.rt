@@ -1,9 +1,10 @@
 // Answers by the numbers of documents 01 and 02.
+#![tactic(auto)]
 ghost use Rattle.std.specs.Prelude.{◌≡◌};
 ghost use Rattle.answers.specs.Answers.{number_of, as_answer};
 
 // A taken call says how many stores it needs or made; a refused one names the first rule that it breaks.
-#[derive(Drop)]
+#[derive(Clone, Copy)]
 pub enum Answer {
     Taken(usize),
     ImageTooShort,

@@ -1,4 +1,5 @@
 // The store for a host in C: the calls on the words that the host keeps, with the names and forms of include/badgerdross.h. Each returns its number.
+#![tactic(auto)]
 mod meters;
 mod pending;
 mod room;

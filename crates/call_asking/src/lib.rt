@@ -1,4 +1,5 @@
 // A call on a state in words that asks for an operation by the operation's own rows.
+#![tactic(auto)]
 
 ghost use Rattle.std.specs.Prelude.{◌≡◌, Bool, true, false, ℕ, length};
 ghost use Rattle.operations.specs.Operations.{is_idle};

@@ -18,7 +18,7 @@ fn may_free(words: &Words, s: usize) -> bool
 }
 
 // The best slot so far, and how many lines it needs copied: counted once.
-#[derive(Drop)]
+#[derive(Clone, Copy)]
 struct Best {
     slot: usize,
     lines: usize,

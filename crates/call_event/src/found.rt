@@ -12,7 +12,7 @@ use state::Places;
 use state_words::Words;
 
 // The row, 0 where none turns the event back; then the frames that its lines are read from, and the stored number of the meter whose line goes first.
-#[derive(Drop)]
+#[derive(Clone, Copy)]
 pub struct Found {
     pub row: usize,
     pub first: usize,

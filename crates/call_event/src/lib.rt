@@ -1,4 +1,5 @@
 // Event, on a state in words.
+#![tactic(auto)]
 mod finished;
 pub mod found;
 

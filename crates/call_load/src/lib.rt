@@ -1,4 +1,5 @@
 // Load on a state in words: a venue's own moduli (document 02, L10). Nothing is stored and no word changes.
+#![tactic(auto)]
 ghost use Rattle.std.specs.Prelude.{◌≡◌, ℕ, ◌<◌, ◌≤◌, length, replicate, true};
 ghost use Rattle.bounded.specs.Below.{some_below};
 ghost use Rattle.layout.specs.Layout.{Legal, frames as frames_of, image_length};
@@ -14,7 +15,7 @@ use layout::Sizes;
 use state_words::Words;
 
 // The answer and the moduli; of a refused load these are zeros, which no event takes.
-#[derive(Drop)]
+#[derive(Clone, Copy)]
 pub struct Loaded {
     pub answer: Answer,
     pub moduli: [u64; 24],

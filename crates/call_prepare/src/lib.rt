@@ -1,4 +1,5 @@
 // The calls that commit in two parts, on a state in words (document 02, L8).
+#![tactic(auto)]
 mod withdrawing;
 
 ghost use Rattle.std.specs.Prelude.{◌≡◌};

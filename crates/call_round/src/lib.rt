@@ -1,5 +1,6 @@
 // A round in one call: begin, writes and a commit, one after the other, each run to its end, with an abort behind the first refusal. Row 8 is tested once:
 // each of these calls leaves a state that it accepts.
+#![tactic(auto)]
 mod again;
 mod calls;
 mod typed;
@@ -14,14 +15,14 @@ use call_write::Span;
 use state_words::Words;
 
 // What a round does for want of room: where the journal is full (19) a checkpoint, where no slot is free (15) it frees one.
-#[derive(Drop)]
+#[derive(Clone, Copy)]
 pub struct Room {
     pub checkpoint: bool,
     pub free: bool,
 }
 
 // What comes of a round: the number of its last answer, which call gave it (0 is begin, then the writes, then the commit), and the stores made.
-#[derive(Drop)]
+#[derive(Clone, Copy)]
 pub struct Round {
     pub number: usize,
     pub call: usize,

@@ -10,7 +10,7 @@ use answers::Answer;
 use state_words::Words;
 
 // What next_store tells; how many stores, from that one on, go to words side by side; and how many are left in all. Zeros where it is turned back.
-#[derive(Drop)]
+#[derive(Clone, Copy)]
 pub struct NextRange {
     pub next: NextStore,
     pub beside: usize,

@@ -7,7 +7,7 @@ use answers::Answer;
 use state_words::Words;
 
 // Taken, with the word that the next store goes to, whether it decides, and how many stores come before the next one that decides; or a refusal, and zeros.
-#[derive(Drop)]
+#[derive(Clone, Copy)]
 pub struct NextStore {
     pub answer: Answer,
     pub at: usize,

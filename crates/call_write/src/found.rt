@@ -18,7 +18,7 @@ use state_words::Words;
 
 // The row, 0 where none turns the write back; then the frame that the line is read from, whether the writer holds the line, and whether it is the wide
 // one. That one holds a line as an entry: it is then `seen`.
-#[derive(Drop)]
+#[derive(Clone, Copy)]
 pub struct Found {
     pub row: usize,
     pub seen: usize,

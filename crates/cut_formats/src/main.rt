@@ -2,13 +2,14 @@
 // counts an entry. P=2, S=1, J=2, so that it has 1,561 stores. For each cut five things are told: the numbers of a mount and of a recall of what is left, of
 // a begin on the words that the format left, and of a mount after a second format, run to its end; and whether the bytes past the image, and with no store
 // made all of them, are the old ones. A line is printed where they change.
+#![tactic(auto)]
 use call_write::Span;
 use layout::Sizes;
 use op_stores::Until;
 use state_words::WORD_COUNT;
 
 // What a cut comes to.
-#[derive(Drop)]
+#[derive(Clone, Copy)]
 struct Told {
     mount: usize,
     recall: usize,

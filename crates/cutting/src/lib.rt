@@ -1,4 +1,5 @@
 // Lines cut out of input that comes in pieces.
+#![tactic(auto)]
 ghost use Rattle.std.specs.Prelude.{◌≡◌, ◌+◌, ◌-◌, length};
 ghost use Rattle.words.specs.Words.{over};
 ghost use Rattle.cutting.specs.Pieces.{line_end, fitting};

@@ -1,9 +1,10 @@
 // The form of a line of powerhit's script, by its letter and how many numbers follow it.
+#![tactic(auto)]
 ghost use Rattle.std.specs.Prelude.{◌≡◌};
 ghost use Rattle.forms.specs.Forms.{as_line, form_of};
 
 // The calls that a line asks for, beside format and read.
-#[derive(Drop)]
+#[derive(Clone, Copy)]
 pub enum Ask {
     Begin,
     Commit,
@@ -15,7 +16,7 @@ pub enum Ask {
 }
 
 // What a line is.
-#[derive(Drop)]
+#[derive(Clone, Copy)]
 pub enum Form {
     Formats,
     Asks(Ask),

@@ -1,4 +1,5 @@
 // Where the copies of a line lie.
+#![tactic(auto)]
 ghost use Rattle.std.specs.Prelude.{◌≡◌, ◌<◌};
 ghost use Rattle.refinement.specs.Frames.{committed_frame, other_frame};
 

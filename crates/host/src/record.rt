@@ -2,13 +2,13 @@
 use answers::Answer;
 use state_words::Words;
 
-#[derive(Drop)]
+#[derive(Clone, Copy)]
 pub struct State {
     pub words: Words,
 }
 
 // A call's answer and the state after it.
-#[derive(Drop)]
+#[derive(Clone, Copy)]
 pub struct Done {
     pub answer: Answer,
     pub state: State,

@@ -1,4 +1,5 @@
 // The journal: slots, records and live positions.
+#![tactic(auto)]
 pub mod records;
 pub mod slots;
 
@@ -8,7 +9,7 @@ pub const NO_PAGE: usize = 18446744073709551615;
 pub const NO_FRAME: usize = 4294967295;
 
 // One slot. A free one has no page and no original frame.
-#[derive(Drop)]
+#[derive(Clone, Copy)]
 pub struct Slot {
     pub page: usize,
     pub original: usize,
@@ -17,7 +18,7 @@ pub struct Slot {
 }
 
 // One journal record: the position of its transaction's first record, the slot that it replaces, and the slot's words.
-#[derive(Drop)]
+#[derive(Clone, Copy)]
 pub struct Record {
     pub first: usize,
     pub slot: usize,

@@ -1,1 +1,2 @@
 // No code: what leftovers in the image cannot change (request L13), as one theorem.
+#![tactic(auto)]

@@ -1,4 +1,5 @@
 // Whole lines of the frames: read, and merged with data.
+#![tactic(auto)]
 ghost use Rattle.std.specs.Prelude.{◌≡◌, ◌+◌, ◌≤◌, ◌<◌, not, eqb, length, get_or};
 ghost use Rattle.words.specs.Words.{part, over};
 ghost use Rattle.layout.specs.Layout.{Legal, frames, image_length};
@@ -37,7 +38,7 @@ pub fn words_differ<'a>(a: &'a [u64; 8], b: &'a [u64; 8]) -> bool
 }
 
 // The words of a line that data were laid over, and whether any byte changed.
-#[derive(Drop)]
+#[derive(Clone, Copy)]
 pub struct Merged {
     pub words: [u64; 8],
     pub changed: bool,

@@ -1,6 +1,7 @@
 // A committed wide round whose copying is still to be made is not lost. P=2, S=1, J=2, L=1: a wide round writes A to line 0 of page 0, and its commit is cut
 // after one store. From the mount on the copying is pending in the words, so every call but step and run is answered 9; once it has been run the calls
 // go on: B is written over A, and stays when the image is mounted again.
+#![tactic(auto)]
 use answers::Answer;
 use call_write::Span;
 use layout::Sizes;

@@ -1,6 +1,7 @@
 // Asks for 1,000 events, one after the other, on a store of 2 pages, 2 slots and 4 journal places: kinds, meters and amounts right and wrong, some of them
 // cut short by a mount, and a checkpoint where the journal is full. Half-way a venue's moduli are loaded. Prints how many, a checksum of the answers and
 // the meters, and credit.
+#![tactic(auto)]
 mod play;
 
 use state_words::WORD_COUNT;

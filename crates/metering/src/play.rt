@@ -18,7 +18,7 @@ const SMALL: [u8; 158] = *b"0,100\n1,100\n2,100\n3,100\n4,100\n5,100\n6,100\n7,1
         16,100\n17,100\n18,100\n19,100\n20,100\n21,100\n22,100\n23,100\n";
 
 // The moduli, the checksum so far, and the number drawn last. The state is in words beside it.
-#[derive(Drop)]
+#[derive(Clone, Copy)]
 pub struct Game {
     pub moduli: [u64; 24],
     pub sum: u64,

@@ -1,5 +1,6 @@
 // A table of moduli as text: 24 lines `meter,modulus`, each ended by a newline, meters 0 to 23 in order, plain decimals. A modulus may have any
 // number of digits: no sum wraps.
+#![tactic(auto)]
 ghost use Rattle.std.specs.Prelude.{◌≡◌, ◌+◌, ◌-◌, ◌*◌, ◌<◌, ◌≤◌, min, length, replicate};
 ghost use Rattle.bounded.specs.Rows.{refusal};
 ghost use Rattle.moduli_text.specs.Text.{place_of, is_digit, plain_decimal, value_of, modulus_in, entry_rows, line_rows, first_line, first_rows, read_of};
@@ -8,7 +9,7 @@ ghost use Rattle.moduli_text.specs.Text.{place_of, is_digit, plain_decimal, valu
 const BEYOND: u64 = 1000000000001;
 
 // A line's row, 0 where none turns it back; then its length without the newline, and its modulus.
-#[derive(Drop)]
+#[derive(Clone, Copy)]
 pub struct Entry {
     pub row: usize,
     pub length: usize,
@@ -16,7 +17,7 @@ pub struct Entry {
 }
 
 // A text's row, 0 where none turns it back; then its moduli, zeros where one does.
-#[derive(Drop)]
+#[derive(Clone, Copy)]
 pub struct Moduli {
     pub row: usize,
     pub moduli: [u64; 24],

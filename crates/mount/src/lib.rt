@@ -1,4 +1,5 @@
 // What a mount finds on any bytes.
+#![tactic(auto)]
 ghost use Rattle.std.specs.Prelude.{◌≡◌, ◌<◌, ◌≤◌, length};
 ghost use Rattle.words.specs.Words.{word};
 ghost use Rattle.mount.specs.Mount.{wide_word, sizes_from, turned_back, mount_of, judged};
@@ -8,7 +9,7 @@ use replay::Table;
 
 // What a mount finds but for the map: row 0 and the header with the slots and the keys of the entries that are counted, or the row that turns the image
 // back and nothing else.
-#[derive(Drop)]
+#[derive(Clone, Copy)]
 pub struct Judged {
     pub row: usize,
     pub sizes: Sizes,

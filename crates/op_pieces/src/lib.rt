@@ -1,11 +1,12 @@
 // Pieces: words that lie side by side and that an operation stores one after the other. Nothing here writes an image.
+#![tactic(auto)]
 ghost use Rattle.std.specs.Prelude.{◌≡◌, ◌+◌, ◌*◌, ◌≤◌, length};
 ghost use Rattle.op_pieces.specs.Pieces.{Fits, one_piece, record_piece, line_piece, slot_piece, copy_piece};
 
 use journal::Record;
 
 // `count` words for the words of an image from word `at` on. Those from its word `from` on are still to be stored.
-#[derive(Drop)]
+#[derive(Clone, Copy)]
 pub struct Piece {
     pub at: usize,
     pub from: usize,

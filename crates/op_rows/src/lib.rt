@@ -1,4 +1,5 @@
 // The rows from 11 on of each operation on a state in words, and the stores that it needs.
+#![tactic(auto)]
 mod committing;
 mod counting;
 mod events;
@@ -24,7 +25,7 @@ use state_words::Words;
 pub use writing::{log_row, write_row};
 
 // Where a write goes: a page, a line of it, and the bytes of that line.
-#[derive(Drop)]
+#[derive(Clone, Copy)]
 pub struct Span {
     pub page: usize,
     pub line: usize,

@@ -1,4 +1,5 @@
 // What is pending in a state in words taken further, and an operation started.
+#![tactic(auto)]
 mod calling;
 mod ending;
 mod making;
@@ -23,7 +24,7 @@ use state_words::Words;
 pub use telling::{Ahead, left_in, look_ahead};
 
 // How far a call goes with the operation that it asks for: not at all, to before the first store that decides, or to its end.
-#[derive(Drop)]
+#[derive(Clone, Copy)]
 pub enum Until {
     Asked,
     Fence,

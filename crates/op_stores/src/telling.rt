@@ -25,7 +25,7 @@ pub fn left_in(z: Sizes, at: Places, words: &Words) -> usize
 
 // What comes next: the word that its next store goes to, how many stores from that one on go to words side by side (there may be more of them), how many
 // come before the next one that decides, and how many are left.
-#[derive(Drop)]
+#[derive(Clone, Copy)]
 pub struct Ahead {
     pub at: usize,
     pub beside: usize,

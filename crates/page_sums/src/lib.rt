@@ -1,4 +1,5 @@
 // A checksum of the pages, line by line through read.
+#![tactic(auto)]
 ghost use Rattle.std.specs.Prelude.{◌≡◌, ◌+◌, ◌*◌, ◌%◌};
 
 use state_words::Words;

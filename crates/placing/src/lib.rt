@@ -1,1 +1,2 @@
 // No code: where the stores of each operation go, store by store (specs/Placing.antt).
+#![tactic(auto)]

@@ -1,5 +1,6 @@
 // Program powerhit: calls as lines of standard input, each answered by a line of standard output (document 01).
 // What a line does and prints is script's. Here the input is cut into lines and the output is collected.
+#![tactic(auto)]
 ghost use Rattle.std.specs.Prelude.{◌≡◌, ℕ, ◌≤◌, List, [], ◌∷◌, length};
 ghost use Rattle.cutting.specs.Pieces.{line_end};
 ghost use Rattle.powerhit.specs.Program.{roomed, Shows, first, Takes, Lines, Closes, Reads, TakesSome, Ran};
@@ -10,7 +11,7 @@ use script::performing;
 use state_words::{WORD_COUNT, Words};
 
 // The program between two pieces of the input.
-#[derive(Drop)]
+#[derive(Clone, Copy)]
 struct Session {
     mode: Mode,
     // lines performed

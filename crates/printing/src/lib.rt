@@ -1,4 +1,5 @@
 // The line that a line of a script prints, in powerhit and in probe. Each part gives where the next one goes.
+#![tactic(auto)]
 ghost use Rattle.std.specs.Prelude.{[], ◌∷◌, ◌+◌, ◌≤◌, length};
 ghost use Rattle.number_text.specs.Text.{Put};
 ghost use Rattle.printing.specs.declared.Output.TheVariants.{Answered, Shown, Unknown};
@@ -7,7 +8,7 @@ ghost use Rattle.printing.specs.Output.{commas, fields_of, output_line};
 use number_text::put_after;
 
 // What a line prints after its number: a call's answer and stores, the byte that was read, or `?`.
-#[derive(Drop)]
+#[derive(Clone, Copy)]
 pub enum Output {
     Answered {
         letter: u8,

@@ -1,5 +1,6 @@
 // Program probe: every call on any state and any bytes, as lines of standard input, each answered by a line of standard
 // output (PROBE.md). Here the input is cut into lines and the output is collected; what a line does is `lines`'.
+#![tactic(auto)]
 mod lines;
 mod reading;
 
@@ -12,7 +13,7 @@ ghost use Rattle.probe.specs.Program.{stand, Shows, first};
 use state_words::WORD_COUNT;
 
 // What a printed line leaves beside the state: what later calls are lent, and where the next line is printed.
-#[derive(Drop)]
+#[derive(Clone, Copy)]
 struct Printed {
     lent: usize,
     next: usize,
@@ -20,7 +21,7 @@ struct Printed {
 
 // The program between two lines: how many of the buffer's first bytes the calls are lent, how many lines it performed, how many bytes it kept of the next
 // one, how many bytes of output are not written yet, and whether there is more to read and writes go well.
-#[derive(Drop)]
+#[derive(Clone, Copy)]
 struct Session {
     lent: usize,
     lines: u64,

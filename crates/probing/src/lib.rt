@@ -1,4 +1,5 @@
 // A line of probe (PROBE.md) performed: its letter chooses what it does.
+#![tactic(auto)]
 mod calls;
 
 ghost use Rattle.std.specs.Prelude.{◌≡◌, take, drop, ◌++◌};

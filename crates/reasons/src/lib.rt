@@ -1,4 +1,5 @@
 // Reasons in words: a refusal as a sentence for the service screen.
+#![tactic(auto)]
 ghost use Rattle.std.specs.Prelude.{◌≡◌, cond, ◌+◌, ◌<◌, ◌≤◌, length};
 ghost use Rattle.number_text.specs.Text.{Put};
 ghost use Rattle.wording.specs.Calls.{call_count, number_count};
@@ -6,7 +7,7 @@ ghost use Rattle.reasons.specs.Sentence.{opening, field, closing, composed, comp
 
 // A refused call, the number of the row that turned it back, and what it met: the writer, page and line that it was given
 // and the lowest writer in its way. Where the call is given none, or none is in its way, the field says nothing.
-#[derive(Drop)]
+#[derive(Clone, Copy)]
 pub struct Reason {
     pub call: usize,
     pub number: usize,
@@ -17,7 +18,7 @@ pub struct Reason {
 }
 
 // What comes of composing: 0 and the sentence's length, or 11.
-#[derive(Drop)]
+#[derive(Clone, Copy)]
 pub struct Composed {
     pub number: usize,
     pub length: usize,

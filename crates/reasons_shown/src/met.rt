@@ -9,7 +9,7 @@ use reasons::Reason;
 use state_words::{WORD_COUNT, Words};
 
 // A call with its writer, page and line; an event with its kind, meter and amount.
-#[derive(Drop)]
+#[derive(Clone, Copy)]
 struct Row {
     call: usize,
     writer: usize,

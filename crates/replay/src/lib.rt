@@ -1,4 +1,5 @@
 // The slots as a mount makes them: the slot table, then the live records.
+#![tactic(auto)]
 ghost use Rattle.std.specs.Prelude.{◌≡◌, true, ◌+◌, ◌*◌, ◌≤◌, ◌<◌, length};
 ghost use Rattle.layout.specs.Layout.{Legal, image_length};
 ghost use Rattle.words.specs.Words.{word};
@@ -12,7 +13,7 @@ use layout::Sizes;
 pub const NO_POSITION: usize = 18446744073709551615;
 
 // Up to 16 slots, and for each the position of its last live record, or none.
-#[derive(Drop)]
+#[derive(Clone, Copy)]
 pub struct Table {
     pub page: [usize; 16],
     pub original: [usize; 16],

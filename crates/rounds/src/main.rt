@@ -1,5 +1,6 @@
 // Plays N game rounds on a store of 16 pages, 4 slots and 64 journal places. Prints N, the rounds that a pair of pages stays, the stores made and a checksum
 // of the pages as read shows them.
+#![tactic(auto)]
 mod arguments;
 mod game;
 

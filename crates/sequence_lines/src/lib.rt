@@ -1,4 +1,5 @@
 // The line of a sequence of at most three calls, its last one cut.
+#![tactic(auto)]
 ghost use Rattle.std.specs.Prelude.{◌≡◌, [], ◌∷◌, ◌+◌, ◌*◌, ◌≤◌, length};
 ghost use Rattle.number_text.specs.Text.{Put};
 ghost use Rattle.sequences.specs.Sequences.{sequence};
@@ -8,7 +9,7 @@ ghost use Rattle.sequence_lines.specs.Parts.{followed, PutLine};
 use sequence_runs::Played;
 
 // Where the next text goes, and the stores that the sequence's last call needs.
-#[derive(Drop)]
+#[derive(Clone, Copy)]
 pub struct Line {
     pub next: usize,
     pub needed: usize,

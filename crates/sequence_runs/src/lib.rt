@@ -1,4 +1,5 @@
 // A sequence of calls on a fresh image, the last one cut, and what a mount then finds.
+#![tactic(auto)]
 mod calls;
 mod turns;
 
@@ -11,7 +12,7 @@ use state_words::WORD_COUNT;
 
 // What comes of a sequence beside its answers: the stores that its last call needs (0 where there is none), and the first bytes of lines 0
 // and 1 of page 0 after a mount.
-#[derive(Drop)]
+#[derive(Clone, Copy)]
 pub struct Played {
     pub needed: usize,
     pub first: u8,

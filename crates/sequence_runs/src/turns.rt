@@ -7,7 +7,7 @@ use crate::calls;
 use state_words::Words;
 
 // The number of a call's answer, and the stores that it needs.
-#[derive(Drop)]
+#[derive(Clone, Copy)]
 struct Made {
     number: usize,
     needed: usize,

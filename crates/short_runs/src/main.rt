@@ -1,5 +1,6 @@
 // Program short_runs: for a digit n of 0 to 3 every sequence of n calls on a fresh image, its last call cut after each count of stores, and the first
 // bytes that a mount then shows (request L9). A line is sequence_lines'; here the input is read and the output is collected.
+#![tactic(auto)]
 ghost use Rattle.std.specs.Prelude.{◌≡◌, ◌^◌, ◌≤◌, length};
 ghost use Rattle.cutting.specs.Buffers.{Ends};
 ghost use Rattle.sequences.specs.Sequences.{sequence};
@@ -9,14 +10,14 @@ ghost use Rattle.short_runs.specs.Program.{roomed, digit_of, wanted_of, mark, wi
 use libc::{STDIN_FILENO, STDOUT_FILENO};
 
 // The output so far: how many of its bytes wait in the buffer, and whether every write went well.
-#[derive(Drop)]
+#[derive(Clone, Copy)]
 struct Output {
     at: usize,
     ok: bool,
 }
 
 // The output after a line, and the stores that the sequence's last call needs.
-#[derive(Drop)]
+#[derive(Clone, Copy)]
 struct Cut {
     output: Output,
     needed: usize,

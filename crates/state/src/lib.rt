@@ -1,10 +1,11 @@
 // Operations, and the numbers of a state that go by value.
+#![tactic(auto)]
 pub mod held;
 pub mod slots;
 
 // An operation that has been asked for, with its arguments. `Log` and `Copy` are the wide writer's write and commit;
 // `Format` is of the sizes that the state has.
-#[derive(Drop)]
+#[derive(Clone, Copy)]
 pub enum Op {
     Idle,
     Write {
@@ -47,7 +48,7 @@ pub const NO_WRITER: usize = 4;
 
 // The pending operation, how many of its stores are made, and for a write the finished line's words. An event has the same, and the second line's
 // words where it has two.
-#[derive(Drop)]
+#[derive(Clone, Copy)]
 pub struct Pending {
     pub op: Op,
     pub made: usize,
@@ -56,7 +57,7 @@ pub struct Pending {
 }
 
 // Head, tail, the next slot to try, the prepared writer, the wide one, and how many entries it uses.
-#[derive(Drop)]
+#[derive(Clone, Copy)]
 pub struct Places {
     pub head: usize,
     pub tail: usize,

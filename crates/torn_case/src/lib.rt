@@ -1,1 +1,2 @@
 // No code: an image that a cut may leave and that no stores in order leave.
+#![tactic(auto)]

@@ -1,4 +1,5 @@
 // The lines of a trial: a setting, then rounds; and the line that is printed (request L11).
+#![tactic(auto)]
 pub mod output;
 
 ghost use Rattle.std.specs.Prelude.{◌≡◌, List, ℕ, ◌≤◌, replicate};
@@ -10,7 +11,7 @@ use state_words::Words;
 use trials::Trial;
 
 // The trial, the lines read, and whether the first gave a setting.
-#[derive(Drop)]
+#[derive(Clone, Copy)]
 pub struct Session {
     pub trial: Trial,
     pub lines: usize,

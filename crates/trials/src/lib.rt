@@ -1,4 +1,5 @@
 // Rounds tried on a store of one setting, and what their stores were for (request L11).
+#![tactic(auto)]
 mod calls;
 mod counts;
 pub mod rounds;
@@ -12,7 +13,7 @@ use layout::Sizes;
 use state_words::Words;
 
 // The calls that a round makes, all by writer 0; a write puts a byte at the start of a page.
-#[derive(Drop)]
+#[derive(Clone, Copy)]
 pub enum Ask {
     Begin,
     Write { page: usize, byte: u8 },
@@ -23,7 +24,7 @@ pub enum Ask {
 }
 
 // Stores by what they were for.
-#[derive(Drop)]
+#[derive(Clone, Copy)]
 pub struct Spent {
     pub written: u64,
     pub journal: u64,
@@ -32,7 +33,7 @@ pub struct Spent {
 }
 
 // The number of the last call's answer, the stores made and the rounds so far. The store's state and image are lent beside it.
-#[derive(Drop)]
+#[derive(Clone, Copy)]
 pub struct Trial {
     pub number: usize,
     pub spent: Spent,

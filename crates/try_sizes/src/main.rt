@@ -1,5 +1,6 @@
 // Program try_sizes: a setting `P,S,J` and rounds as lines of standard input; the rounds done and abandoned and the stores by what they were
 // for as one line of standard output (request L11). What a line does is trial_lines'. Here the input is cut into lines.
+#![tactic(auto)]
 ghost use Rattle.std.specs.Prelude.{◌≡◌, List, [], ◌∷◌, ℕ, ◌≤◌, length, replicate};
 ghost use Rattle.try_sizes.specs.Program.{nothing_read, reads_on, Shows, Takes, Reads, TakesSome, Closes, Responds};
 
@@ -8,7 +9,7 @@ use state_words::{WORD_COUNT, Words};
 use trial_lines::{Session, output};
 
 // The program between two bytes.
-#[derive(Drop)]
+#[derive(Clone, Copy)]
 struct Reading {
     session: Session,
     // bytes in the line buffer: a letter, a comma, and a line that is not at its end

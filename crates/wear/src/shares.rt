@@ -9,7 +9,7 @@ use layout::Sizes;
 
 // The number of the first store past each part, the parts in the order in which they are stored to: a format's header, tables, journal and padding;
 // frames, from this one on; a word of a table, a record. What follows is the header's.
-#[derive(Drop)]
+#[derive(Clone, Copy)]
 pub struct Ends {
     pub header: usize,
     pub tables: usize,

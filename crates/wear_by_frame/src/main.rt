@@ -1,5 +1,6 @@
 // Program wear_by_frame: inputs of powerhit, parted by lines `=`, as standard input; over all of them the line copies of each frame and the
 // stores by where they went as 22 lines of standard output (request L12). What a line does is wear_lines'. Here the input is cut into lines.
+#![tactic(auto)]
 ghost use Rattle.std.specs.Prelude.{◌≡◌, List, [], ◌∷◌, ℕ, ◌≤◌, length, replicate};
 ghost use Rattle.wear_by_frame.specs.Program.{nothing_read, Shows, Sound, Takes, Reads, TakesSome, Closes, Responds};
 
@@ -9,7 +10,7 @@ use state_words::Words;
 use wear_lines::output;
 
 // The program between two bytes.
-#[derive(Drop)]
+#[derive(Clone, Copy)]
 struct Reading {
     mode: Mode,
     // bytes in the line buffer, of a line that is not at its end

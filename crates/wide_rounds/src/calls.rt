@@ -8,7 +8,7 @@ use layout::Sizes;
 use op_stores::Until;
 use state_words::Words;
 
-#[derive(Drop)]
+#[derive(Clone, Copy)]
 pub struct Row {
     pub call: usize,
     pub writer: usize,

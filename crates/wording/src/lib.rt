@@ -1,4 +1,5 @@
 // The words of a refusal: which numbers each call can return, the calls' names and the numbers' texts, each in a constant table.
+#![tactic(auto)]
 ghost use Rattle.std.specs.Prelude.{◌≡◌, ◌+◌, ◌<◌, ◌≤◌, length};
 ghost use Rattle.number_text.specs.Text.{Put};
 ghost use Rattle.wording.specs.Calls.{call_count, number_count, can_return, takes_writer, takes_page, takes_line, meets_writer};

@@ -1,4 +1,5 @@
 // What probe's lines print. The state that they work on is lent as words; what a line leaves of it stands in each line's contract.
+#![tactic(auto)]
 pub mod finished;
 pub mod moduli;
 pub mod starting;
@@ -8,7 +9,7 @@ ghost use Rattle.workbench.specs.Turns.{done};
 
 // What a line prints after its number: that it is of another form; its answer and a count; where a store goes and whether it decides; a hash; the state's
 // numbers.
-#[derive(Drop)]
+#[derive(Clone, Copy)]
 pub enum Said {
     OtherForm,
     Answered { number: usize, count: usize },
