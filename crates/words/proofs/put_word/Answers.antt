@@ -8,4 +8,4 @@ use Rattle.words.proofs.put_word.Goals as goal
 pub returns : goal.returns
 unfolding put_word bytes_of
 returns c =
-    over-back c.args.s-1.now c.args.at (c.args.at + 8) c.put_bytes.ensures (omega arith)
+    over-back c.args.s.now c.args.at (c.args.at + 8) c.put_bytes.ensures (omega arith)

@@ -1,8 +1,0 @@
--- The sum is the definition's.
-use mathlib.Core.Path.{refl}
-use borrow.Author.Rules.{rules}
-use Rattle.layout.proofs.padding_word.Statement.{statement}
-use Rattle.layout.proofs.padding_word.Tie as tie
-
-pub padding-word-spec : {M : Type 1} → statement M
-padding-word-spec = tie.close (tie.spec (λ c. search rules) (λ c. search rules) (λ c. search rules) (λ c. search rules) (λ c. search rules) (λ c. refl))

@@ -1,0 +1,33 @@
+use Rattle.naming.proofs.NamingLaws.{runs-at, runs_none, turn-own, turn-marked}
+use Rattle.masks.proofs.Bits.{in-none}
+use native.Mathlib.Omega.{arith}
+use lib.ListN.{length}
+use Prim.Native.Nat.{◌*◌, ◌-◌, min}
+use mathlib.Core.Bool.{false}
+use mathlib.Core.Logic.{⊎_elim}
+use mathlib.Core.Path.{◌≡◌, ◌∙◌}
+use borrow.Author.Rules.{rules}
+use Rattle.naming.proofs.mark_moved.Goals as goal
+
+pub loop-k-init : goal.loop-k-init
+loop-k-init c = (search rules, (c.requires.0, ((λ y h. in-none y), runs_none c.args.homes.now c.args.seen.now)))
+
+pub loop-k-preserved : goal.loop-k-preserved
+loop-k-preserved c = let b = c.args.homes.now in
+    let before = c.args.seen.now in
+    let short = c.loop-k-test.true in
+    let end = c.smaller-end in
+    let i = c.loop-k.invariant.1 in
+    let own = turn-own c.loop-k.own c.loop-k.k i.1.0 b before c.loop-k.seen short i.0 i.1.1 _ end.ensures in
+    let moved = turn-marked c.loop-k.own c.loop-k.k i.1.0 b before c.loop-k.seen short i.0 i.1.1 _ end.ensures in (
+      search rules,
+      ⊎_elim
+          (λ w. own _ _ _ c.run_own.ensures w.0.taken w.2 (w.3 ∙ w.1.ensures))
+          (λ w. moved _ _ (w.4 ∙ w.3.ensures) w.5)
+          c.if-run_own.branch,
+    )
+
+pub returns : goal.returns
+returns c = let b = c.args.homes.now in
+    let e : min (64 * c.loop-k.k) (length b) ≡ length b = omega (arith, c.loop-k-test.false) in
+    runs-at b c.args.seen.now c.loop-k.seen c.loop-k.own _ _ e c.loop-k.invariant.1.1.1
