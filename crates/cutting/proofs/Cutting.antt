@@ -4,13 +4,47 @@ use mathlib.Core.List.{List, [], ◌∷◌, ◌++◌}
 use Prim.Native.Nat.{ℕ, zero, suc, ◌+◌, ◌-◌, ◌<◌, ◌≤◌, min}
 use native.Mathlib.Omega.{arith}
 use lib.Dec.{eqb}
-use lib.ListN.{length, take, drop, length-take, length-drop, drop_of_length-le}
-use lib.Seq.{take-length, drop-drop}
+use lib.ListN.{length, get_or, take, drop, length-take, length-drop, drop_of_length-le}
+use lib.Seq.{take-length, drop-drop, drop-cons}
+use mathlib.Core.Bool.{true, false}
+use borrow.Author.Tests.{eq-eqb, ne_eqb}
+use Rattle.std.proofs.lemmas.List.{get_or-take}
 use Rattle.bounded.proofs.Tests.{case_on}
-use Rattle.bytes.specs.Bytes.{index_of, index_after, slice}
+use Rattle.cutting.specs.Finding.{index_of, index_after, slice}
 use Rattle.words.specs.Words.{part, over}
-use Rattle.words.proofs.Parts.{over-nil, over-back, copied}
+use Rattle.words.proofs.Parts.{over-nil, over-back}
 use Rattle.cutting.specs.Pieces.{line_end, fitting}
+
+-- ---- one byte
+
+slice-more : (l : List ℕ) (at to : ℕ) → at < to → to ≤ length l → slice at to l ≡ get_or l at 0 ∷ slice (at + 1) to l
+unfolding slice
+slice-more l at to h k =
+    let e : at < length (take to l) = simp length-take (omega arith) in
+    drop-cons (take to l) at 0 e
+    ∙ ap (λ (x : ℕ). x ∷ drop (suc at) (take to l)) (get_or-take to l at 0 h)
+    ∙ (let n : suc at ≡ at + 1 = omega arith in ap (λ (n : ℕ). get_or l at 0 ∷ drop n (take to l)) n)
+
+-- it stands here,
+pub stands_here : (b : ℕ) (l : List ℕ) (at to : ℕ) → at < to → to ≤ length l → get_or l at 0 ≡ b → at ≡ at + index_of b (slice at to l)
+unfolding index_of index_after
+stands_here b l at to h k e =
+    let q : eqb (get_or l at 0) b ≡ true = eq-eqb _ _ e in
+    rw (slice-more l at to h k, q) (omega arith)
+
+-- or further on,
+pub stands_later : (b : ℕ) (l : List ℕ) (at to : ℕ) → at < to → to ≤ length l → (get_or l at 0 ≡ b → ⊥) → at + index_of b (slice at to l) ≡ at + 1 + index_of b (slice (at + 1) to l)
+unfolding index_of index_after
+stands_later b l at to h k e =
+    let q : eqb (get_or l at 0) b ≡ false = ne_eqb _ _ e in
+    rw (slice-more l at to h k, q) (omega arith)
+
+-- and there is none in nothing
+pub stands_not : (b : ℕ) (l : List ℕ) (at to : ℕ) → to ≤ at → index_of b (slice at to l) ≡ 0
+unfolding index_of index_after slice
+stands_not b l at to h =
+    let e : drop at (take to l) ≡ [] = drop_of_length-le (take to l) {i = at} (simp length-take (omega arith)) in
+    rw e refl
 
 -- ---- line ends
 
@@ -91,15 +125,11 @@ module _ (line : List ℕ) (have : ℕ) (input : List ℕ) (from to : ℕ) where
 
   -- the line's part comes back as a copy of the input's
   pub keeps-copy : (n : ℕ) (back : List ℕ) → n ≡ length (fitting line have input from to) → from + n ≤ length input → have + n ≤ length line
-      → (let src : List ℕ = take (from + n - from) (drop from input) in
-      back ≡ take (length src) src ++ drop (length src) (take (have + n - have) (drop have line)))
+      → back ≡ take (from + n - from) (drop from input)
       → take have line ++ (back ++ drop (have + n - have) (drop have line)) ≡ over line have (fitting line have input from to)
   keeps-copy n back e f g h =
       let a : from + n - from ≡ n = omega arith in
       let b : have + n - have ≡ n = omega arith in
-      let src : List ℕ = take n (drop from input) in
-      let k : length src ≡ n = simp (length-take, length-drop) (omega arith) in
-      let d : length (take n (drop have line)) ≡ n = simp (length-take, length-drop) (omega arith) in
-      let p : back ≡ src = rw (a, b) at h ∙ copied src (take n (drop have line)) (d ∙ sym k) in
-      let q : src ≡ fitting line have input from to = ap (λ (m : ℕ). take m (drop from input)) e ∙ sym fitting-part in
+      let p : back ≡ take n (drop from input) = rw a at h in
+      let q : take n (drop from input) ≡ fitting line have input from to = ap (λ (m : ℕ). take m (drop from input)) e ∙ sym fitting-part in
       over-back line have (have + n) (p ∙ q) (b ∙ e)

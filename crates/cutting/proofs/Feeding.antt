@@ -7,7 +7,7 @@ use lib.Dec.{eqb}
 use lib.ListN.{length, take, drop, length-drop}
 use lib.Seq.{drop-drop}
 use Rattle.bounded.proofs.Tests.{case_on}
-use Rattle.bytes.specs.Bytes.{index_of, index_after}
+use Rattle.cutting.specs.Finding.{index_of, index_after}
 use Rattle.words.specs.Words.{part}
 use Rattle.cutting.specs.Pieces.{line_end}
 use Rattle.cutting.specs.Feeding.{Fed, fed_byte, fed}

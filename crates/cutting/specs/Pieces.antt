@@ -1,6 +1,6 @@
 -- Lines cut out of input that comes in pieces of any size.
 use Rattle.std.specs.Prelude.{ℕ, ◌+◌, ◌-◌, min, List, length, take, drop}
-use Rattle.bytes.specs.Bytes.{index_of}
+use Rattle.cutting.specs.Finding.{index_of}
 use Rattle.words.specs.Words.{part}
 
 -- the place of the first newline from `from` on, or the input's length where there is none

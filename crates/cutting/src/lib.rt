@@ -1,8 +1,26 @@
 // Lines cut out of input that comes in pieces.
 #![tactic(auto)]
-ghost use Rattle.std.specs.Prelude.{◌≡◌, ◌+◌, ◌-◌, length};
+
+ghost use Rattle.std.specs.Prelude.{◌≡◌, ◌+◌, ◌-◌, ◌≤◌, length};
 ghost use Rattle.words.specs.Words.{over};
+ghost use Rattle.cutting.specs.Finding.{index_of, slice};
 ghost use Rattle.cutting.specs.Pieces.{line_end, fitting};
+
+// Where the byte b first stands from `from` on and before `to`, or `to`.
+pub fn find(input: &[u8], from: usize, to: usize, b: u8) -> usize
+    requires low { from ≤ to }
+    requires high { to ≤ length input.now }
+    ensures { result ≡ from + index_of b (slice from to input.now) }
+{
+    let mut at = from;
+    while at < to {
+        if input[at] == b {
+            return at;
+        }
+        at += 1;
+    }
+    at
+}
 
 // Where the line that goes on at byte `from` ends: the next newline, or the input's end.
 pub fn line_end(input: &[u8], from: usize) -> usize
@@ -11,7 +29,7 @@ pub fn line_end(input: &[u8], from: usize) -> usize
     if from > input.len() {
         return input.len();
     }
-    bytes::scan::find(input, from, input.len(), 10)
+    find(input, from, input.len(), 10)
 }
 
 // What is left of a after b.
@@ -33,6 +51,6 @@ pub fn keep(line: &mut [u8], have: usize, input: &[u8], from: usize, to: usize) 
     if n == 0 {
         return have;
     }
-    bytes::copy(&input[from..from + n], &mut line[have..have + n]);
+    line[have..have + n].copy_from_slice(&input[from..from + n]);
     have + n
 }

@@ -1,5 +1,6 @@
 // Numbers and single bytes, printed into a buffer; each call gives where the next goes.
 #![tactic(auto)]
+
 ghost use Rattle.std.specs.Prelude.{◌≡◌, [], ◌∷◌, ◌+◌, ◌<◌, ◌≤◌, length};
 ghost use Rattle.words.specs.Words.{over};
 ghost use Rattle.decimals.specs.Decimal.{decimal_of};

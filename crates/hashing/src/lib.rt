@@ -1,5 +1,6 @@
 // A hash of bytes, by which the test programs print an image or a page in a number.
 #![tactic(auto)]
+
 ghost use Rattle.std.specs.Prelude.{◌≡◌};
 ghost use Rattle.hashing.specs.Hash.{hash_of};
 

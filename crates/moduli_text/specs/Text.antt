@@ -1,5 +1,5 @@
 -- A table of moduli as text (document 02, L10): 24 lines `meter,modulus`, each ended by a newline, meters 0 to 23 in order, plain decimals.
-use Rattle.std.specs.Prelude.{ℕ, zero, suc, ◌+◌, ◌-◌, ◌*◌, Bool, ◌&&◌, ◌||◌, not, cond, List, [], ◌∷◌, ltb, leb, eqb, length, get_or, take, drop, replicate}
+use Rattle.std.specs.Prelude.{ℕ, zero, suc, ◌+◌, ◌-◌, ◌*◌, Bool, ◌&&◌, not, cond, List, [], ◌∷◌, ltb, leb, eqb, length, get_or, take, drop, replicate}
 use Rattle.bounded.specs.Below.{all_below, first_below, up_to}
 use Rattle.bounded.specs.Rows.{Row, refusal}
 use Rattle.bounded.specs.Tab.{tab}

@@ -1,6 +1,7 @@
 // A table of moduli as text: 24 lines `meter,modulus`, each ended by a newline, meters 0 to 23 in order, plain decimals. A modulus may have any
 // number of digits: no sum wraps.
 #![tactic(auto)]
+
 ghost use Rattle.std.specs.Prelude.{◌≡◌, ◌+◌, ◌-◌, ◌*◌, ◌<◌, ◌≤◌, min, length, replicate};
 ghost use Rattle.bounded.specs.Rows.{refusal};
 ghost use Rattle.moduli_text.specs.Text.{place_of, is_digit, plain_decimal, value_of, modulus_in, entry_rows, line_rows, first_line, first_rows, read_of};

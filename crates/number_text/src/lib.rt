@@ -1,5 +1,6 @@
 // Numbers, each after a comma or a blank.
 #![tactic(auto)]
+
 ghost use Rattle.std.specs.Prelude.{◌∷◌, ◌+◌, ◌*◌, ◌≤◌, length};
 ghost use Rattle.decimals.specs.Decimal.{decimal_of};
 ghost use Rattle.number_text.specs.Text.{Put, blanked};

@@ -1,5 +1,6 @@
 // The sequences of so many numbers of 1 to 12, counted from 0 in rising order.
 #![tactic(auto)]
+
 ghost use Rattle.std.specs.Prelude.{◌≡◌, length};
 ghost use Rattle.sequences.specs.Sequences.{sequence};
 

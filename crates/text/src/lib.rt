@@ -1,5 +1,6 @@
 // Text of scripts: a line as a letter and numbers.
 #![tactic(auto)]
+
 pub mod parse;
 
 // A line of a script: one letter, then numbers, each after a comma. A line of another form has letter 0.

@@ -3,7 +3,7 @@ use Rattle.std.specs.Prelude.{ℕ, Bool, true, ◌&&◌, not, List, [], ◌∷�
 use Prim.Native.Char.{code}
 use Prim.Native.String.{String, [] as end_text, ◌∷◌ as ◌then◌}
 use Rattle.bounded.specs.Below.{first_below}
-use Rattle.bytes.specs.Bytes.{index_of}
+use Rattle.cutting.specs.Finding.{index_of}
 use Rattle.wording.specs.Calls.{call_count}
 
 -- the bytes of a text

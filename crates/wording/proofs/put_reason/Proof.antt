@@ -2,7 +2,7 @@
 use mathlib.Core.Path.{refl, sym}
 use native.Mathlib.Omega.{arith}
 use borrow.Author.Rules.{rules}
-use Rattle.bytes.specs.Bytes.{index_of, index_after}
+use Rattle.cutting.specs.Finding.{index_of, index_after}
 use Rattle.wording.specs.Calls.{number_count}
 use Rattle.wording.specs.Words.{codes, texts, up_to_dot}
 use Rattle.wording.proofs.Tables.{mapped, rows_of, put-text-at, length_at, room_at}

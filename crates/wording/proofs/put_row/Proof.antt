@@ -5,7 +5,7 @@ use native.Mathlib.Omega.{arith}
 use lib.ListN.{length, take, length-take}
 use lib.Seq.{take_all}
 use borrow.Author.Rules.{rules}
-use Rattle.bytes.specs.Bytes.{index_of, slice}
+use Rattle.cutting.specs.Finding.{index_of, slice}
 use Rattle.number_text.proofs.Puts.{put_as}
 use Rattle.wording.specs.Words.{up_to_dot}
 use Rattle.wording.proofs.put_row.Statement.{statement}
