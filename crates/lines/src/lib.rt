@@ -53,7 +53,7 @@ pub fn merged_at(bytes: &[u8], at: usize, offset: usize, data: &[u8], n: usize) 
     let mut line = [0u8; 64];
     runs::copy_words(bytes, at, &mut line, 0, 8);
     let before = runs::words_of(&line);
-    bytes::copy(&data[0..n], &mut line[offset..offset + n]);
+    line[offset..offset + n].copy_from_slice(&data[0..n]);
     let words = runs::words_of(&line);
     let changed = words_differ(&words, &before);
     Merged { words, changed }

@@ -1,11 +1,10 @@
 use Rattle.naming.proofs.NamingLaws.{all_first, told-turn-own, told-turn-marked, told-past}
 use native.Mathlib.Omega.{arith}
-use borrow.Author.Tests.{not-true, not-false}
 use Prim.Native.Nat.{◌*◌, ◌-◌, min}
-use mathlib.Core.Logic.{⊎_elim}
 use mathlib.Core.Path.{◌≡◌, sym, ◌∙◌}
 use borrow.Author.Rules.{rules}
 use Rattle.naming.proofs.all_told.Goals as goal
+use Rattle.naming.proofs.all_told.Goals.{then-not-has, else-not-has}
 
 pub loop-k-init : goal.loop-k-init
 loop-k-init c = (search rules, all_first _ _)
@@ -16,10 +15,9 @@ loop-k-preserved c = let a = c.args in
     let own = told-turn-own a.p a.own a.seen.now c.loop-k.k short c.loop-k.all c.loop-k.invariant.1 c.if-not-has.all in
     let moved = told-turn-marked a.p a.own a.seen.now c.loop-k.k short c.loop-k.all c.loop-k.invariant.1 c.if-not-has.all in (
       search rules,
-      ⊎_elim
-          (λ w. moved w.2.result w.1.result (sym c.has.ensures ∙ not-true _ w.0.taken) w.1.ensures w.2.ensures w.3)
-          (λ w. own (sym c.has.ensures ∙ not-false _ w.0.left) w.1)
-          c.if-not-has.branch,
+      elim c.if-not-has.branch [
+        then-not-has w ↦ moved _ _ (sym c.has.ensures ∙ w.if-not-has.true) w.smaller.ensures w.marked_from-all.ensures w.all-is
+      | else-not-has w ↦ own (sym c.has.ensures ∙ w.if-not-has.false) w.all-is ],
     )
 
 pub returns : goal.returns

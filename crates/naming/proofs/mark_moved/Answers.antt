@@ -4,10 +4,10 @@ use native.Mathlib.Omega.{arith}
 use lib.ListN.{length}
 use Prim.Native.Nat.{◌*◌, ◌-◌, min}
 use mathlib.Core.Bool.{false}
-use mathlib.Core.Logic.{⊎_elim}
 use mathlib.Core.Path.{◌≡◌, ◌∙◌}
 use borrow.Author.Rules.{rules}
 use Rattle.naming.proofs.mark_moved.Goals as goal
+use Rattle.naming.proofs.mark_moved.Goals.{then-run_own, else-run_own}
 
 pub loop-k-init : goal.loop-k-init
 loop-k-init c = (search rules, (c.requires.0, ((λ y h. in-none y), runs_none c.args.homes.now c.args.seen.now)))
@@ -21,10 +21,9 @@ loop-k-preserved c = let b = c.args.homes.now in
     let own = turn-own c.loop-k.own c.loop-k.k i.1.0 b before c.loop-k.seen short i.0 i.1.1 _ end.ensures in
     let moved = turn-marked c.loop-k.own c.loop-k.k i.1.0 b before c.loop-k.seen short i.0 i.1.1 _ end.ensures in (
       search rules,
-      ⊎_elim
-          (λ w. own _ _ _ c.run_own.ensures w.0.taken w.2 (w.3 ∙ w.1.ensures))
-          (λ w. moved _ _ (w.4 ∙ w.3.ensures) w.5)
-          c.if-run_own.branch,
+      elim c.if-run_own.branch [
+        then-run_own w ↦ own _ _ _ c.run_own.ensures w.if-run_own.true w.seen-is (w.own-is ∙ w.with-own.ensures)
+      | else-run_own w ↦ moved _ _ (w.seen-is ∙ w.mark.ensures) w.own-is ],
     )
 
 pub returns : goal.returns

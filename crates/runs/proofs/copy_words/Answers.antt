@@ -13,10 +13,10 @@ loop-i-init c = (search rules, refl, refl)
 pub loop-i-preserved : goal.loop-i-preserved
 loop-i-preserved c =
     let x = c.args in
-    (search rules, search rules, cc (puts-words x.dst-1.now x.to x.src.now x.from c.loop-i.i))
+    (search rules, search rules, cc (puts-words x.dst.now x.to x.src.now x.from c.loop-i.i))
 
 pub returns : goal.returns
 returns c =
     let x = c.args in
     let e : c.loop-i.i ≡ x.n = omega arith in
-    cc (puts-copied x.dst-1.now x.to x.src.now x.from x.n (λ i. (c.shared_slice_known-1.given i).fits) (search rules) (search rules))
+    cc (puts-copied x.dst.now x.to x.src.now x.from x.n (λ i. (c.type_inv.src i).fits) (search rules) (search rules))

@@ -13,7 +13,7 @@ loop-i-init c = (search rules, refl, refl)
 pub loop-i-preserved : goal.loop-i-preserved
 loop-i-preserved c =
     let x = c.args in
-    (search rules, search rules, cc (puts-replicate x.s-1.now x.at x.v c.loop-i.i))
+    (search rules, search rules, cc (puts-replicate x.s.now x.at x.v c.loop-i.i))
 
 pub returns : goal.returns
 returns c =

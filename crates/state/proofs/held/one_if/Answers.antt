@@ -1,0 +1,10 @@
+use Rattle.bounded.specs.Below.{one}
+use Rattle.state.proofs.held.one_if.Goals as goal
+
+pub returns-then-b : goal.returns-then-b
+unfolding one
+returns-then-b c = rw c.if-b.true
+
+pub returns-else-b : goal.returns-else-b
+unfolding one
+returns-else-b c = rw c.if-b.false
