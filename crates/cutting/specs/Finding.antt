@@ -1,4 +1,5 @@
--- Where a byte stands in a list. The library of an older kit had these definitions and the call that finds it.
+-- Where a byte stands in a list. These definitions stand for those of an older library that is no longer there: they are written anew, from how the
+-- definitions and proofs that cite them use them.
 use Rattle.std.specs.Prelude.{ℕ, suc, Bool, true, false, List, [], ◌∷◌, take, drop, ◌==◌}
 
 -- the part from `from` up to `to`

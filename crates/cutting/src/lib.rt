@@ -10,7 +10,8 @@ ghost use Rattle.cutting.specs.Pieces.{line_end, fitting};
 pub fn find(input: &[u8], from: usize, to: usize, b: u8) -> usize
     requires low { from ≤ to }
     requires high { to ≤ length input.now }
-    ensures { result ≡ from + index_of b (slice from to input.now) }
+    ensures value { result ≡ from + index_of b (slice from to input.now) }
+    ensures within { result ≤ to }
 {
     let mut at = from;
     while at < to {

@@ -1,5 +1,6 @@
 // The line that a line of a script prints, in powerhit and in probe. Each part gives where the next one goes.
 #![tactic(auto)]
+
 ghost use Rattle.std.specs.Prelude.{[], ◌∷◌, ◌+◌, ◌≤◌, length};
 ghost use Rattle.number_text.specs.Text.{Put};
 ghost use Rattle.printing.specs.declared.Output.TheVariants.{Answered, Shown, Unknown};

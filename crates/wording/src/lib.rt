@@ -1,5 +1,6 @@
 // The words of a refusal: which numbers each call can return, the calls' names and the numbers' texts, each in a constant table.
 #![tactic(auto)]
+
 ghost use Rattle.std.specs.Prelude.{◌≡◌, ◌+◌, ◌<◌, ◌≤◌, length};
 ghost use Rattle.number_text.specs.Text.{Put};
 ghost use Rattle.wording.specs.Calls.{call_count, number_count, can_return, takes_writer, takes_page, takes_line, meets_writer};
@@ -197,7 +198,7 @@ pub fn put_text(out: &mut [u8], at: usize, text: &[u8]) -> usize
     ensures { Put out.old at text.now out.new result }
 {
     let n = text.len();
-    bytes::copy(text, &mut out[at..at + n]);
+    out[at..at + n].copy_from_slice(text);
     at + n
 }
 
@@ -206,7 +207,7 @@ fn put_row(out: &mut [u8], at: usize, row: &[u8]) -> usize
     requires { at + length row.now ≤ length out.old }
     ensures { Put out.old at (up_to_dot row.now) out.new result }
 {
-    let n = bytes::scan::find(row, 0, row.len(), b'.');
+    let n = cutting::find(row, 0, row.len(), b'.');
     put_text(out, at, &row[..n])
 }
 

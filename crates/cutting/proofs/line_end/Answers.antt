@@ -10,4 +10,4 @@ returns-then-from-input c =
 pub returns : goal.returns
 returns c =
     let x = c.args in
-    end-found x.input.now x.from c.find.result c.if-from-input.false c.find.ensures
+    end-found x.input.now x.from c.find.result c.if-from-input.false c.find.ensures.value

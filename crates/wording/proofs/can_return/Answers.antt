@@ -1,24 +1,22 @@
--- The code's table is document 01's and 02's: one test over its places.
 use mathlib.Core.Path.{◌≡◌, refl, sym, ap, ◌∙◌}
 use Prim.Native.Nat.{ℕ, ◌<◌}
 use mathlib.Core.List.{List, []}
 use mathlib.Core.Bool.{Bool, true, false, cond}
 use lib.Dec.{eqb}
 use lib.ListN.{get_or}
-use borrow.Author.Rules.{rules}
 use native.Mathlib.Omega.{arith}
 use Rattle.bounded.specs.Tab.{tab}
 use Rattle.bounded.proofs.Tab.{get_or-tab}
 use Rattle.wording.specs.Calls.{call_count, number_count, can_return, stands_in, places, one_of, one_more}
 use Rattle.wording.proofs.Returns.{unknown-call, unknown-number}
-use Rattle.wording.proofs.can_return.Statement.{statement}
-use Rattle.wording.proofs.can_return.Tie as tie
+use Rattle.wording.proofs.can_return.Goals as goal
 
-returns : tie.Need-returns
-returns c = sym (unknown-call _ _ c.if1.true)
+-- The code's table is document 01's and 02's: one test over its places.
+pub returns-then-call-ge-CALLS : goal.returns-then-call-ge-CALLS
+returns-then-call-ge-CALLS c = sym (unknown-call _ _ c.if-call-ge-CALLS.true)
 
-returns-2 : tie.Need-returns-2
-returns-2 c = sym (unknown-number _ _ c.if2.true)
+pub returns-then-number-ge-NUMBERS : goal.returns-then-number-ge-NUMBERS
+returns-then-number-ge-NUMBERS c = sym (unknown-number _ _ c.if-number-ge-NUMBERS.true)
 
 -- a row for each number, with an x for each call that can return it
 abbrev table : List (List ℕ)
@@ -34,9 +32,6 @@ entry c n h l =
     ∙ ap (λ (b : ℕ). eqb b 120) (get_or-tab call_count (λ c. cond (can_return c n) 120 32) c 0 h)
     ∙ marked (can_return c n)
 
-returns-3 : tie.Need-returns-3
+pub returns : goal.returns
 unfolding tab can_return stands_in places one_of one_more
-returns-3 c = let x = c.before.before.before.args in entry x.call x.number (omega arith) (omega arith)
-
-pub can-return-spec : {M : Type 1} → statement M
-can-return-spec = tie.close (tie.spec returns returns-2 (λ c. search rules) (λ c. search rules) (λ c. search rules) returns-3)
+returns c = let x = c.args in entry x.call x.number (omega arith) (omega arith)
