@@ -53,9 +53,9 @@ module _ (st : State) where
             (not-false (eqb (held_at st.writers.held w s) 0) (none-at (λ v. not (eqb (held_at st.writers.held v s) 0)) 4 w m (not-true b (and_right (not a) (not b) e))));
       }
 
-  pub may_free : (s : ℕ) → Freeable st s → may s ≡ true
+  pub freeable_may : (s : ℕ) → Freeable st s → may s ≡ true
   unfolding some_hold
-  may_free s h = rw (h.taken, none_made (λ v. not (eqb (held_at st.writers.held v s) 0)) 4 (λ w m. ap not (eq-eqb (held_at st.writers.held w s) 0 (h.unheld w m))))
+  freeable_may s h = rw (h.taken, none_made (λ v. not (eqb (held_at st.writers.held v s) 0)) 4 (λ w m. ap not (eq-eqb (held_at st.writers.held w s) 0 (h.unheld w m))))
 
   -- ---- in a valid state
 

@@ -23,7 +23,7 @@ use Rattle.refinement.specs.Freed.{FreesSlot}
 use Rattle.refinement.specs.Outcome.{Outcome}
 use Rattle.refinement.specs.Run.{Call, consolidate, free, result, exec, after}
 use Rattle.refinement.specs.Calls.{quiet_rows, world_of, asked, consolidate_call_rows, free_call_rows, consolidate_of, free_of}
-use Rattle.refinement.proofs.Choice.{finds, freeable, may_free, page-fits, has-slot, none-held}
+use Rattle.refinement.proofs.Choice.{finds, freeable, freeable_may, page-fits, has-slot, none-held}
 
 module _ (st : State) where
   abbrev slots : ℕ
@@ -34,13 +34,13 @@ module _ (st : State) where
   chosen l =
       record {
         freeable = freeable st (freed_slot st) l ((finds st).passes l);
-        fewest = λ k h. (finds st).least l k h.low (may_free st k h);
-        lowest = λ k m h. (finds st).lowest l k m (may_free st k h);
+        fewest = λ k h. (finds st).least l k h.low (freeable_may st k h);
+        lowest = λ k m h. (finds st).lowest l k m (freeable_may st k h);
       }
 
   -- and where there is none
   no_slot : slots ≤ freed_slot st → (s : ℕ) → Freeable st s → ⊥
-  no_slot l s h = contradicts (may_free st s h) ((finds st).none (le_antisymm (finds st).le l) s h.low)
+  no_slot l s h = contradicts (freeable_may st s h) ((finds st).none (le_antisymm (finds st).le l) s h.low)
 
   -- there is one choice
   one_choice : (s : ℕ) → Chosen st s → (freed_slot st < slots) × (freed_slot st ≡ s)

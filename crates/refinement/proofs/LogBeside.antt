@@ -11,7 +11,7 @@ use Rattle.bounded.specs.Rows.{refusal}
 use Rattle.bounded.proofs.Rows.{none-apply, row-none}
 use Rattle.state.specs.State.{State}
 use Rattle.state.specs.declared.Op.{Op}
-use Rattle.state.specs.declared.Op.TheVariants.{Consolidate, Checkpoint, Copy}
+use Rattle.state.specs.declared.Op.TheVariants.{Consolidate, Checkpoint, Copy, Commit, Confirm, Event, Format, Idle, Log, Prepare, Write}
 use Rattle.operations.specs.Operations.{is_idle, needs, op_rows, slot_for, consolidate_rows}
 use Rattle.operations.proofs.Taken.{consolidate-taken}
 use Rattle.validity.specs.Validity.{op_fits, is_fresh}
@@ -54,6 +54,15 @@ module _ {past : List ℕ} (st : State) (img : List ℕ) (b : Reference) (G : Lo
   unfolding needs
   rest-needs (Consolidate p) s = refl
   rest-needs Checkpoint s = refl
+  rest-needs Idle s = elim s [ ]
+  rest-needs (Write _ _ _ _ _) s = elim s [ ]
+  rest-needs (Commit _) s = elim s [ ]
+  rest-needs (Event _ _ _) s = elim s [ ]
+  rest-needs (Prepare _) s = elim s [ ]
+  rest-needs (Confirm _) s = elim s [ ]
+  rest-needs (Log _ _ _ _) s = elim s [ ]
+  rest-needs Copy s = elim s [ ]
+  rest-needs Format s = elim s [ ]
 
   -- it is pending in the state without the wide transaction
   rest-busy : (op : Op) → Beside op → 0 < needs rest op → refusal (op_rows rest op) ≡ 0
@@ -62,10 +71,28 @@ module _ {past : List ℕ} (st : State) (img : List ℕ) (b : Reference) (G : Lo
       asked-busy rest img (with_work idle (emptied w b)) (Consolidate p) (replicate 8 0) nothing (at_rest st img b G) refl l r (all_left rest (Consolidate p) (replicate 8 0) nothing)
   rest-busy Checkpoint s l r =
       asked-busy rest img (with_work idle (emptied w b)) Checkpoint (replicate 8 0) nothing (at_rest st img b G) refl l r (all_left rest Checkpoint (replicate 8 0) nothing)
+  rest-busy Idle s l r = elim s [ ]
+  rest-busy (Write _ _ _ _ _) s l r = elim s [ ]
+  rest-busy (Commit _) s l r = elim s [ ]
+  rest-busy (Event _ _ _) s l r = elim s [ ]
+  rest-busy (Prepare _) s l r = elim s [ ]
+  rest-busy (Confirm _) s l r = elim s [ ]
+  rest-busy (Log _ _ _ _) s l r = elim s [ ]
+  rest-busy Copy s l r = elim s [ ]
+  rest-busy Format s l r = elim s [ ]
 
   beside-fits : (op : Op) → Beside op → op_fits w (is_fresh st) op ≡ true
   beside-fits (Consolidate p) s = refl
   beside-fits Checkpoint s = refl
+  beside-fits Idle s = elim s [ ]
+  beside-fits (Write _ _ _ _ _) s = elim s [ ]
+  beside-fits (Commit _) s = elim s [ ]
+  beside-fits (Event _ _ _) s = elim s [ ]
+  beside-fits (Prepare _) s = elim s [ ]
+  beside-fits (Confirm _) s = elim s [ ]
+  beside-fits (Log _ _ _ _) s = elim s [ ]
+  beside-fits Copy s = elim s [ ]
+  beside-fits Format s = elim s [ ]
 
   -- so it is in this one
   pub beside-asked : (op : Op) → Beside op → 0 < needs st op → refusal (op_rows st op) ≡ 0 → refusal (op_rows rest op) ≡ 0

@@ -15,7 +15,7 @@ use Rattle.words.proofs.WordLaws.{word-store-other}
 use Rattle.replay.proofs.Tables.{Sixteen}
 use Rattle.state.specs.State.{State}
 use Rattle.state.specs.declared.Op.{Op}
-use Rattle.state.specs.declared.Op.TheVariants.{Consolidate, Checkpoint, Copy}
+use Rattle.state.specs.declared.Op.TheVariants.{Consolidate, Checkpoint, Copy, Commit, Confirm, Event, Format, Idle, Log, Prepare, Write}
 use Rattle.operations.specs.Operations.{is_idle, needs}
 use Rattle.validity.specs.Validity.{state_ok}
 use Rattle.refinement.specs.Commit.{closed_writer}
@@ -57,31 +57,85 @@ module _ (st : State) where
   unfolding needs
   same-needs (Consolidate p) s = refl
   same-needs Checkpoint s = refl
+  same-needs Idle s = elim s [ ]
+  same-needs (Write _ _ _ _ _) s = elim s [ ]
+  same-needs (Commit _) s = elim s [ ]
+  same-needs (Event _ _ _) s = elim s [ ]
+  same-needs (Prepare _) s = elim s [ ]
+  same-needs (Confirm _) s = elim s [ ]
+  same-needs (Log _ _ _ _) s = elim s [ ]
+  same-needs Copy s = elim s [ ]
+  same-needs Format s = elim s [ ]
 
   pub same_store : (op : Op) → Beside op → (img : List ℕ) (i : ℕ) → store_made (shut st) img op i ≡ store_made st img op i
   unfolding consolidate_at consolidate_value freeing_record checkpoint_at_of checkpoint_value_of
   same_store (Consolidate p) s img i = refl
   same_store Checkpoint s img i = refl
+  same_store Idle s img i = elim s [ ]
+  same_store (Write _ _ _ _ _) s img i = elim s [ ]
+  same_store (Commit _) s img i = elim s [ ]
+  same_store (Event _ _ _) s img i = elim s [ ]
+  same_store (Prepare _) s img i = elim s [ ]
+  same_store (Confirm _) s img i = elim s [ ]
+  same_store (Log _ _ _ _) s img i = elim s [ ]
+  same_store Copy s img i = elim s [ ]
+  same_store Format s img i = elim s [ ]
 
   same-done : (op : Op) → Beside op → completed (shut st) op ≡ shut (completed st op)
   unfolding freeing_record
   same-done (Consolidate p) s = refl
   same-done Checkpoint s = refl
+  same-done Idle s = elim s [ ]
+  same-done (Write _ _ _ _ _) s = elim s [ ]
+  same-done (Commit _) s = elim s [ ]
+  same-done (Event _ _ _) s = elim s [ ]
+  same-done (Prepare _) s = elim s [ ]
+  same-done (Confirm _) s = elim s [ ]
+  same-done (Log _ _ _ _) s = elim s [ ]
+  same-done Copy s = elim s [ ]
+  same-done Format s = elim s [ ]
 
   -- of no entry
   unlogged : (op : Op) → Beside op → (e : ℕ) → Logged st.wide op e → ⊥
   unlogged (Consolidate p) s e x = x
   unlogged Checkpoint s e x = x
+  unlogged Idle s e x = elim s [ ]
+  unlogged (Write _ _ _ _ _) s e x = elim s [ ]
+  unlogged (Commit _) s e x = elim s [ ]
+  unlogged (Event _ _ _) s e x = elim s [ ]
+  unlogged (Prepare _) s e x = elim s [ ]
+  unlogged (Confirm _) s e x = elim s [ ]
+  unlogged (Log _ _ _ _) s e x = elim s [ ]
+  unlogged Copy s e x = elim s [ ]
+  unlogged Format s e x = elim s [ ]
 
   -- its stores go before the entries
   below : (op : Op) → Beside op → st.pending.op ≡ op → state_ok st ≡ true → Sixteen st.table → (img : List ℕ) (i : ℕ) → store_at st op i < entry_word st.sizes 0
   below (Consolidate p) s e ok full img i = consolidate-in st ok p i (pends st (Consolidate p) ok e refl).taken
   below Checkpoint s e ok full img i = checkpoint-in st ok i
+  below Idle s e ok full img i = elim s [ ]
+  below (Write _ _ _ _ _) s e ok full img i = elim s [ ]
+  below (Commit _) s e ok full img i = elim s [ ]
+  below (Event _ _ _) s e ok full img i = elim s [ ]
+  below (Prepare _) s e ok full img i = elim s [ ]
+  below (Confirm _) s e ok full img i = elim s [ ]
+  below (Log _ _ _ _) s e ok full img i = elim s [ ]
+  below Copy s e ok full img i = elim s [ ]
+  below Format s e ok full img i = elim s [ ]
 
   -- what the reference machine has under way for it does nothing
   doing-nothing : (img : List ℕ) (b : Reference) (op : Op) → Beside op → Doing st img b op → b.work ≡ under nothing (needs st op - st.pending.made)
   doing-nothing img b (Consolidate p) s d = d
   doing-nothing img b Checkpoint s d = d
+  doing-nothing img b Idle s d = elim s [ ]
+  doing-nothing img b (Write _ _ _ _ _) s d = elim s [ ]
+  doing-nothing img b (Commit _) s d = elim s [ ]
+  doing-nothing img b (Event _ _ _) s d = elim s [ ]
+  doing-nothing img b (Prepare _) s d = elim s [ ]
+  doing-nothing img b (Confirm _) s d = elim s [ ]
+  doing-nothing img b (Log _ _ _ _) s d = elim s [ ]
+  doing-nothing img b Copy s d = elim s [ ]
+  doing-nothing img b Format s d = elim s [ ]
 
 pub beside-work : {past : List ℕ} (st : State) (img : List ℕ) (b : Reference) (op : Op) → st.pending.op ≡ op → Beside op → Busy past (shut st) img (emptied st.wide.writer b)
     → b.work ≡ under nothing (needs st op - st.pending.made)
@@ -197,6 +251,15 @@ ends st img b G Checkpoint is s B last =
     regain (completed st Checkpoint) (image st img b G Checkpoint is s B) (c st img b G Checkpoint is s B) (checkpoint-valid st G.valid (full st img b G Checkpoint is s B))
     G.low G.book G.four G.sixty-four G.alone (record { keys = E.keys; line = E.line; no_writes = E.no_writes }) (λ B. absurd B.doing)
     (last-next st img b G Checkpoint is s B last)
+ends {past = past} st img b G Idle is s B last = elim s [ ]
+ends {past = past} st img b G (Write _ _ _ _ _) is s B last = elim s [ ]
+ends {past = past} st img b G (Commit _) is s B last = elim s [ ]
+ends {past = past} st img b G (Event _ _ _) is s B last = elim s [ ]
+ends {past = past} st img b G (Prepare _) is s B last = elim s [ ]
+ends {past = past} st img b G (Confirm _) is s B last = elim s [ ]
+ends {past = past} st img b G (Log _ _ _ _) is s B last = elim s [ ]
+ends {past = past} st img b G Copy is s B last = elim s [ ]
+ends {past = past} st img b G Format is s B last = elim s [ ]
 
 -- one store
 pub step-beside : {past : List ℕ} (st : State) (img : List ℕ) (b : Reference) → Logging past st img b → (op : Op) → st.pending.op ≡ op → Beside op → Busy past (shut st) img (emptied st.wide.writer b)

@@ -165,7 +165,7 @@ module _ (past : List ℕ) (st : State) (img : List ℕ) (b : Reference) (D : Du
   mid-landed h j l =
       let fits = store-fits past st img b D a w M.inside in
       let n : j < suc m = omega arith in
-      ap (word after) (at-steady st after img op j M.in_place)
+      ap (word after) (at-steady st after img op j M.is_in_place)
       ∙ split_below n
       (λ q. rw q (word-store img a w fits M.low ∙ sym (M.stable m (omega arith))))
       (λ lt. word-store-other img a w (store_at st op j) fits (M.apart j lt) ∙ h j lt ∙ sym (M.stable j (omega arith)))
