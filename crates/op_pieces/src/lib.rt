@@ -1,5 +1,6 @@
 // Pieces: words that lie side by side and that an operation stores one after the other. Nothing here writes an image.
 #![tactic(auto)]
+
 ghost use Rattle.std.specs.Prelude.{◌≡◌, ◌+◌, ◌*◌, ◌≤◌, length};
 ghost use Rattle.op_pieces.specs.Pieces.{Fits, one_piece, record_piece, line_piece, slot_piece, copy_piece};
 

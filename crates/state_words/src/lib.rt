@@ -1,5 +1,6 @@
 // The state that the host keeps, as 1,280 words: this crate alone knows where each part stands. Any words are a state.
 #![tactic(auto)]
+
 pub mod parts;
 
 ghost use Rattle.std.specs.Prelude.{◌≡◌, ◌+◌, ◌*◌, ◌<◌, get_or, set, length};
