@@ -10,7 +10,6 @@ use Rattle.words.specs.Words.{over}
 use Rattle.number_text.specs.Text.{Put}
 use Rattle.wording.specs.Calls.{can_return}
 use Rattle.reasons.specs.declared.Reason.{Reason}
-use Rattle.reasons.specs.declared.Composed.{Composed}
 use Rattle.reasons.specs.Sentence.{sentence, compose_row, composed, composed_in}
 
 module _ (r : Reason) (target : List ℕ) where

@@ -15,8 +15,7 @@ use Rattle.decimals.proofs.Printing.{decimal-le}
 use Rattle.number_text.specs.Text.{Put}
 use Rattle.wording.specs.Calls.{number_count}
 use Rattle.wording.specs.Words.{codes, name_of, text_of}
-use Rattle.wording.proofs.Wording.{Fits, name-fits, text-fits}
-use Rattle.reasons.specs.declared.Reason.{Reason}
+use Rattle.wording.proofs.Wording.{name-fits, text-fits}
 use Rattle.reasons.specs.Sentence.{opening, field, page_label, holder_label}
 
 pub as-put : {l xs m : List ℕ} {a b : ℕ} → (m ≡ over l a xs) × (b ≡ a + length xs) → Put l a xs m b

@@ -13,8 +13,8 @@ use Rattle.words.proofs.Parts.{length_over}
 use Rattle.decimals.specs.Decimal.{digits_of, decimal_of}
 use Rattle.wording.specs.Calls.{can_return, takes_writer, takes_page, takes_line, meets_writer}
 use Rattle.wording.specs.Words.{codes, name_of, text_of, printable}
-use Rattle.wording.proofs.Returns.{Known, known}
-use Rattle.wording.proofs.Wording.{Fits, name-fits, text-fits, plain-printable, printable-append}
+use Rattle.wording.proofs.Returns.{known}
+use Rattle.wording.proofs.Wording.{name-fits, text-fits, plain-printable, printable-append}
 use Rattle.reasons.specs.declared.Reason.{Reason}
 use Rattle.reasons.specs.declared.Composed.{Composed}
 use Rattle.reasons.specs.Sentence.{opening, field, page_label, holder_label, closing, sentence, compose_row, composed, composed_in}

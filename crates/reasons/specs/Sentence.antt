@@ -1,6 +1,6 @@
 -- Reasons in words (document 02, L1): the sentence of a refusal, and what composing one does.
 use Rattle.std.specs.Prelude.{ℕ, Bool, true, false, not, cond, List, [], ◌∷◌, ◌++◌, ltb, eqb, length}
-use Rattle.bounded.specs.Rows.{Row, refusal}
+use Rattle.bounded.specs.Rows.{refusal}
 use Rattle.words.specs.Words.{over}
 use Rattle.decimals.specs.Decimal.{decimal_of}
 use Rattle.wording.specs.Calls.{can_return, takes_writer, takes_page, takes_line, meets_writer}
