@@ -1,6 +1,7 @@
 // Runs masks and image on their edges and prints what they give, a line a case: its name, then numbers.
 // tools/edges.py computes the same lines from document 01, with none of this code.
 #![tactic(auto)]
+
 mod layout_cases;
 mod line_cases;
 mod mask_cases;

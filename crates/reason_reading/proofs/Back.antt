@@ -16,8 +16,7 @@ use Rattle.reasons.specs.declared.Reason.{Reason}
 use Rattle.reasons.specs.declared.Composed.{Composed}
 use Rattle.reasons.specs.Sentence.{sentence, compose_row, composed, composed_in}
 use Rattle.reasons.proofs.Composing.{row-taken, row-cannot, composed-taken}
-use Rattle.reasons.proofs.Printable.{Shown, shown}
-use Rattle.reason_reading.specs.declared.ReadBack.{ReadBack}
+use Rattle.reasons.proofs.Printable.{shown}
 use Rattle.reason_reading.specs.declared.ReadBack.TheVariants.{These, Nothing}
 use Rattle.reason_reading.specs.Reading.{guess, same_text, read_back}
 

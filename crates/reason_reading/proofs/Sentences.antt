@@ -11,11 +11,11 @@ use Rattle.bounded.proofs.Tests.{case_on, contradicts, and_left, and_right}
 use Rattle.decimals.specs.Decimal.{digits_of, decimal_of}
 use Rattle.wording.specs.Calls.{takes_writer, takes_page, takes_line, meets_writer}
 use Rattle.wording.specs.Words.{codes, name_of, text_of, is_digit, plain}
-use Rattle.wording.proofs.Wording.{Fits, name-fits, text-fits}
+use Rattle.wording.proofs.Wording.{name-fits, text-fits}
 use Rattle.reasons.specs.declared.Reason.{Reason}
 use Rattle.reasons.specs.Sentence.{opening, field, page_label, holder_label, closing, sentence}
 use Rattle.reason_reading.specs.Numbers.{goes_on, numbers_from, numbers_in}
-use Rattle.reason_reading.proofs.Scanning.{Digit, is_a_digit, at-digit, at_gap, at-end}
+use Rattle.reason_reading.proofs.Scanning.{is_a_digit, at-digit, at_gap, at-end}
 use Rattle.reason_reading.proofs.Guessing.{given}
 
 -- ---- what is no digit

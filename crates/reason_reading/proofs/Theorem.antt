@@ -9,16 +9,15 @@ use Rattle.bounded.proofs.Tests.{case_on, and_left, and_right}
 use Rattle.decimals.specs.Decimal.{decimal_of}
 use Rattle.wording.specs.Calls.{can_return, takes_writer, takes_page, takes_line, meets_writer}
 use Rattle.wording.specs.Words.{codes, name_of, text_of, call_named}
-use Rattle.wording.proofs.Returns.{Known, known}
+use Rattle.wording.proofs.Returns.{known}
 use Rattle.wording.proofs.Wording.{named}
 use Rattle.reasons.specs.declared.Reason.{Reason}
 use Rattle.reasons.specs.Sentence.{opening, closing, sentence}
-use Rattle.reason_reading.specs.declared.ReadBack.{ReadBack}
 use Rattle.reason_reading.specs.declared.ReadBack.TheVariants.{These, Nothing}
 use Rattle.reason_reading.specs.Numbers.{goes_on, numbers_from, numbers_in}
 use Rattle.reason_reading.specs.Reading.{pick, after, guess, guess_for, same_text, read_back, Composable, ReadsBack}
-use Rattle.reason_reading.proofs.Scanning.{Digit, digit}
-use Rattle.reason_reading.proofs.Guessing.{given, At, at-start, picked, at_next}
+use Rattle.reason_reading.proofs.Scanning.{digit}
+use Rattle.reason_reading.proofs.Guessing.{given, at-start, picked, at_next}
 use Rattle.reason_reading.proofs.Sentences.{fields_of, Small, numbers-sentence}
 use Rattle.reason_reading.proofs.Back.{same-eq, back-these}
 

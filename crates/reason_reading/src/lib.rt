@@ -1,5 +1,6 @@
 // Reading a refusal's sentence back: a reason is guessed from the text, composed again, and compared with the text.
 #![tactic(auto)]
+
 ghost use Rattle.std.specs.Prelude.{◌≡◌, ◌<◌, get_or};
 ghost use Rattle.reason_reading.specs.Numbers.{goes_on, numbers_in};
 ghost use Rattle.reason_reading.specs.Reading.{pick, after, guess, read_back};
