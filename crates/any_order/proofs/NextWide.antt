@@ -19,7 +19,7 @@ use Rattle.mount.proofs.Dead.{Dead, dead-entry}
 use Rattle.state.specs.State.{State}
 use Rattle.state.specs.declared.Pending.{Pending}
 use Rattle.state.specs.declared.Op.{Op}
-use Rattle.state.specs.declared.Op.TheVariants.{Consolidate, Checkpoint, Log, Copy}
+use Rattle.state.specs.declared.Op.TheVariants.{Consolidate, Checkpoint, Log, Copy, Commit, Confirm, Event, Format, Idle, Prepare, Write}
 use Rattle.operations.specs.Operations.{is_idle, needs}
 use Rattle.refinement.specs.Consolidate.{consolidate_at}
 use Rattle.refinement.specs.Checkpoint.{checkpoint_at_of}
@@ -74,11 +74,29 @@ same_at : (st : State) (op : Op) → Beside op → (img : List ℕ) (i : ℕ) �
 unfolding consolidate_at checkpoint_at_of
 same_at st (Consolidate p) s img i = refl
 same_at st Checkpoint s img i = refl
+same_at st Idle s img i = elim s [ ]
+same_at st (Write _ _ _ _ _) s img i = elim s [ ]
+same_at st (Commit _) s img i = elim s [ ]
+same_at st (Event _ _ _) s img i = elim s [ ]
+same_at st (Prepare _) s img i = elim s [ ]
+same_at st (Confirm _) s img i = elim s [ ]
+same_at st (Log _ _ _ _) s img i = elim s [ ]
+same_at st Copy s img i = elim s [ ]
+same_at st Format s img i = elim s [ ]
 
 same-fence : (st : State) (op : Op) → Beside op → to_fence (shut st) op ≡ to_fence st op
 unfolding needs
 same-fence st (Consolidate p) s = refl
 same-fence st Checkpoint s = refl
+same-fence st Idle s = elim s [ ]
+same-fence st (Write _ _ _ _ _) s = elim s [ ]
+same-fence st (Commit _) s = elim s [ ]
+same-fence st (Event _ _ _) s = elim s [ ]
+same-fence st (Prepare _) s = elim s [ ]
+same-fence st (Confirm _) s = elim s [ ]
+same-fence st (Log _ _ _ _) s = elim s [ ]
+same-fence st Copy s = elim s [ ]
+same-fence st Format s = elim s [ ]
 
 beside-next : (st : State) (img : List ℕ) (op : Op) → Beside op → Next (shut st) img op → Next st img op
 beside-next st img op s (deciding t h) = deciding (sym (same-fence st op s) ∙ t) (sym (ap in_header (same_at st op s img st.pending.made)) ∙ h)
