@@ -40,7 +40,7 @@ problems = []
 def listed():
     """Of each crate those that crates.txt says it leans on; the kit's own have no line and are left out."""
     lines = [line.split("#")[0] for line in open("crates.txt", encoding="utf-8")]
-    deps = {name.strip(): words.split() for name, _, words in (line.partition(":") for line in lines) if words or name.strip()}
+    deps = {name.split()[0]: words.split() for name, _, words in (line.partition(":") for line in lines) if name.strip()}
     return {name: [word for word in words if word in deps] for name, words in deps.items()}
 
 
