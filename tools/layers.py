@@ -27,7 +27,7 @@ LAYERS = [
     ("operations", "store i of each; the one function that stores, in turn", "op_*"),
     ("calls", "every call of documents 01 and 02, a round in one call, recall", "call_* recalling host calling"),
     ("reasons", "a refusal as a sentence, and read back", "wording reasons reason_reading refusals"),
-    ("library", "all of it for C", "badgerdross"),
+    ("library", "all of it for C", "badgerdross badgerdross_c recalling_c"),
     ("programs", "powerhit, probe, short_runs, try_sizes, wear_by_frame, with their parts",
      "forms executing script powerhit workbench buffer_edits state_edits moduli_edits pending_edits call_turns transaction_calls image_calls line_calls "
      "moduli_calls probing pending_text state_text reporting probe sequence_runs sequence_lines short_runs trials trial_lines "

@@ -1,6 +1,7 @@
 // The exports of libbadgerdross.a: each is the function of crate badgerdross that has its name, with its promise. A crate is a library or a static library, and
 // of a library no function is exported.
 #![tactic(auto)]
+
 ghost use Rattle.std.specs.Prelude.{cond, ◌≡◌, eqb, length};
 ghost use Rattle.answers.specs.Answers.{number_of};
 ghost use Rattle.badgerdross.specs.Left.{Leaves, Starts, Keeps, until_by, sizes_by, version, Plays, room_by};

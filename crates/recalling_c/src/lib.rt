@@ -1,5 +1,6 @@
 // The export of librecalling.a: the function of crate recalling that has its name, with its promise.
 #![tactic(auto)]
+
 ghost use Rattle.std.specs.Prelude.{◌≡◌};
 ghost use Rattle.refinement.specs.Recall.{recall_row, recall_bytes};
 
