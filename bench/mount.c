@@ -1,5 +1,5 @@
 // Recall (a mount and one line) of the largest image beside a plain copy of the same metadata words, in one run:
-//   rt staticlib recalling && cc -O2 -Iinclude bench/mount.c target/staticlib/librecalling.a -o mount && ./mount
+//   tools/archive recalling && cc -O2 -Iinclude bench/mount.c target/staticlib/librecalling.a -o mount && ./mount
 #include <stdint.h>
 #include <stdio.h>
 #include <stdlib.h>

@@ -4,8 +4,9 @@
 set -euo pipefail
 cd "$(dirname "${BASH_SOURCE[0]}")/.."
 
-if [ ! -x target/bin/powerhit ]; then
-    tools/proved powerhit rt check powerhit
+program=crates/powerhit/out/powerhit
+if [ ! -x $program ]; then
+    tools/proved powerhit tools/program powerhit
 fi
 
 stores=("nothing: the power goes as the commit is asked for"
@@ -19,7 +20,7 @@ echo "A round writes 165 over 0. Its commit makes 5 stores of 8 bytes; the power
 echo
 printf '%6s  %-56s %s\n' stores "the last one made" "recall screen"
 for k in 0 1 2 3 4 5; do
-    byte=$(printf '%s\n' F,2,1,2 B,0 W,0,0,0,0,1,165 K,$k C,0 R,0,0,0,0 | target/bin/powerhit | tail -n 1 | cut -d, -f5)
+    byte=$(printf '%s\n' F,2,1,2 B,0 W,0,0,0,0,1,165 K,$k C,0 R,0,0,0,0 | $program | tail -n 1 | cut -d, -f5)
     printf '%6s  %-56s %s\n' $k "${stores[$k]}" "$byte"
 done
 echo

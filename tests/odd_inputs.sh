@@ -30,7 +30,7 @@ for kind in powerhit probe; do
     for input in "$work"/*; do
         ran=$((ran + 1))
         "model/target/release/model-$kind" < "$input" > "$work.expected"
-        if ! "target/bin/$kind" < "$input" | cmp -s - "$work.expected"; then
+        if ! "crates/$kind/out/$kind" < "$input" | cmp -s - "$work.expected"; then
             differ=$((differ + 1))
             echo "odd_inputs: $kind differs on $(basename "$input")"
         fi
@@ -39,7 +39,7 @@ for kind in powerhit probe; do
     ran=$((ran + 1))
     head -c 3000 "$work/across_reads" > "$work/slow"
     "model/target/release/model-$kind" < "$work/slow" > "$work.expected"
-    if ! python3 -c 'import os, sys; [os.write(1, bytes([b])) for b in open(sys.argv[1], "rb").read()]' "$work/slow" | "target/bin/$kind" | cmp -s - "$work.expected"; then
+    if ! python3 -c 'import os, sys; [os.write(1, bytes([b])) for b in open(sys.argv[1], "rb").read()]' "$work/slow" | "crates/$kind/out/$kind" | cmp -s - "$work.expected"; then
         differ=$((differ + 1))
         echo "odd_inputs: $kind differs on single bytes"
     fi

@@ -9,8 +9,9 @@ report=$(mktemp)
 trap 'rm -f "$report"' EXIT
 cargo build --manifest-path model/Cargo.toml --release --offline --quiet
 for kind in powerhit probe wear; do
+    name=${kind/%wear/wear_by_frame}
     # into a file: a reader that ends early would end compare by a broken pipe
-    model/target/release/compare --kind $kind --program "target/bin/${kind/%wear/wear_by_frame}" \
+    model/target/release/compare --kind $kind --program "crates/$name/out/$name" \
         --scripts "${SCRIPTS:-600}" --calls "${CALLS:-80}" --seed "${SEED:-1}" > "$report" || { cat "$report"; exit 1; }
     grep -E '^([0-9]+ scripts|reached)' "$report" | sed "s/^/$kind: /"
 done

@@ -7,7 +7,7 @@ cd "$(dirname "${BASH_SOURCE[0]}")/.."
 work=$(mktemp -d)
 trap 'rm -rf "$work"' EXIT
 
-if [ "${KEEP_ARCHIVE:-0}" != 1 ] && ! rt staticlib recalling > "$work/log" 2>&1; then
+if [ "${KEEP_ARCHIVE:-0}" != 1 ] && ! tools/archive recalling > "$work/log" 2>&1; then
     tail -n 20 "$work/log"
     echo "recall_host: no archive"
     exit 1

@@ -13,7 +13,7 @@ for input in 0 1 2 3 '0\n' '1\n' '2\n' '3\n' '' '\n' 4 9 / : a '?' -1 ' 1' '1 ' 
     ran=$((ran + 1))
     printf "${input//-/\\x2d}" > "$work/input"
     model/target/release/model-short-runs < "$work/input" > "$work/expected"
-    if ! target/bin/short_runs < "$work/input" | cmp -s - "$work/expected"; then
+    if ! crates/short_runs/out/short_runs < "$work/input" | cmp -s - "$work/expected"; then
         differ=$((differ + 1))
         echo "short_runs: differs on '$input'"
     fi
@@ -21,7 +21,7 @@ done
 # a byte at a time, as a slow serial line gives them
 ran=$((ran + 1))
 printf 1 | model/target/release/model-short-runs > "$work/expected"
-if ! (printf 1; sleep 0.1; printf '\n') | target/bin/short_runs | cmp -s - "$work/expected"; then
+if ! (printf 1; sleep 0.1; printf '\n') | crates/short_runs/out/short_runs | cmp -s - "$work/expected"; then
     differ=$((differ + 1))
     echo "short_runs: differs on single bytes"
 fi

@@ -73,7 +73,7 @@ differ=0
 for input in "$work"/in/*; do
     ran=$((ran + 1))
     model/target/release/model-trials < "$input" > "$work/expected"
-    if ! target/bin/try_sizes < "$input" | cmp -s - "$work/expected"; then
+    if ! crates/try_sizes/out/try_sizes < "$input" | cmp -s - "$work/expected"; then
         differ=$((differ + 1))
         echo "try_sizes: differs on $(head -c 60 "$input" | tr '\n' ' ')"
     fi
@@ -81,7 +81,7 @@ done
 # the vectors, whose outputs are worked out by hand
 for input in tests/vectors/try_sizes/*.in; do
     ran=$((ran + 1))
-    for program in target/bin/try_sizes model/target/release/model-trials; do
+    for program in crates/try_sizes/out/try_sizes model/target/release/model-trials; do
         if ! "$program" < "$input" | cmp -s - "${input%.in}.out"; then
             differ=$((differ + 1))
             echo "try_sizes: $program differs on $input"
@@ -91,14 +91,14 @@ done
 # a few bytes at a time, as a slow serial line gives them
 ran=$((ran + 1))
 printf '3,2,2\n0,1\n2\n1\n' | model/target/release/model-trials > "$work/expected"
-if ! (for piece in '3,' '2,2\n0' ',1\n2\n' '1' '\n'; do printf "$piece"; sleep 0.02; done) | target/bin/try_sizes | cmp -s - "$work/expected"; then
+if ! (for piece in '3,' '2,2\n0' ',1\n2\n' '1' '\n'; do printf "$piece"; sleep 0.02; done) | crates/try_sizes/out/try_sizes | cmp -s - "$work/expected"; then
     differ=$((differ + 1))
     echo "try_sizes: differs on pieces"
 fi
 # past the last round, and after a refused setting, the input is not read on
 for setting in 3,2,2 0,2,2; do
     ran=$((ran + 1))
-    if ! (printf '%s\n' "$setting"; yes 1 || true) 2> /dev/null | timeout 20 target/bin/try_sizes > "$work/shown"; then
+    if ! (printf '%s\n' "$setting"; yes 1 || true) 2> /dev/null | timeout 20 crates/try_sizes/out/try_sizes > "$work/shown"; then
         differ=$((differ + 1))
         echo "try_sizes: does not end on an endless input after $setting"
     fi

@@ -6,7 +6,8 @@ cd "$(dirname "${BASH_SOURCE[0]}")/.."
 ran=0
 differ=0
 for kind in powerhit probe wear; do
-    program=target/bin/${kind/%wear/wear_by_frame}
+    name=${kind/%wear/wear_by_frame}
+    program=crates/$name/out/$name
     for input in tests/vectors/$kind/*.in; do
         ran=$((ran + 1))
         if ! "$program" < "$input" | cmp -s - "${input%.in}.out"; then

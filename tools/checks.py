@@ -38,9 +38,10 @@ def seconds(crate):
 
 sums = [0] * 6
 for line in open("crates.txt", encoding="utf-8"):
-    crate = line.split("#")[0].split(":")[0].strip()
-    if not crate:
+    words = line.split("#")[0].split(":")[0].split()
+    if not words:
         continue
+    crate = words[0]
     base = f"crates/{crate}"
     edits = sum(len(os.listdir(folder)) for folder in (f"{base}/must-fail", f"tests/merge_edits/{crate}") if os.path.isdir(folder))
     row = [functions(f"{base}/src"), lines(f"{base}/src", ".rt"), lines(f"{base}/specs", ".antt"), lines(f"{base}/proofs", ".antt"), edits, seconds(crate)]

@@ -1,11 +1,11 @@
 #!/usr/bin/env python3
 """Holds crates.txt to the crates' files: a crate lists what its files name, and no more.
 
-The kit has a crate list each library that its files name (`X::` in src/, `Rattle·X` there, in specs/ and in proofs/; a library that is only reached through
+The kit has a crate list each library that its files name (`X::` in src/, `Rattle.X` there, in specs/ and in proofs/; a library that is only reached through
 another one cannot be named) and each that declares the type of a value which its code handles, be it under the name by which another library passes it on.
 Any other line of crates.txt says that a crate leans on one that it does not need, and has rt prove it again for nothing.
 
-    tools/direct.py            fails where a crate lists another one for nothing
+    tools/direct.py            fails where a crate lists another one for nothing, or does not list one that its files name
     tools/direct.py --write    takes those out of crates.txt
 """
 import glob
@@ -24,7 +24,7 @@ def text_of(crate, *forms):
 def listed(line):
     """The crate of a line and what it lists; none where the line has no crate."""
     name, colon, words = line.split("#")[0].partition(":")
-    return (name.strip(), words.split()) if colon else None
+    return (name.split()[0], words.split()) if colon else None
 
 
 lines = open(LIST, encoding="utf-8").read().split("\n")
@@ -51,9 +51,12 @@ def declarers(crate):
     return {other for name in seen for other, _ in declared.get(name, [])}
 
 
+def names(crate, dep):
+    return bool(re.search(rf"(?<![\w:]){dep}::|Rattle\.{dep}\b", code[crate]) or re.search(rf"Rattle\.{dep}\b", proofs[crate]))
+
+
 def needed(crate, dep):
-    named = re.search(rf"\b{dep}::|Rattle·{dep}\b", code[crate]) or re.search(rf"Rattle·{dep}\b", proofs[crate])
-    return named or dep in declarers(crate)
+    return names(crate, dep) or dep in declarers(crate)
 
 
 idle = {crate: [dep for dep in deps[crate] if not needed(crate, dep)] for crate in deps}
@@ -62,6 +65,9 @@ if "--write" in sys.argv:
     made = [f"{listed(line)[0]}: {' '.join(kept[listed(line)[0]])}".rstrip() if listed(line) else line for line in lines]
     open(LIST, "w", encoding="utf-8").write("\n".join(made))
     idle = {}
+modules = {crate: set(re.findall(r"^\s*(?:pub )?mod (\w+)", code[crate], re.M)) for crate in deps}
+lacking = [(crate, other) for crate in deps for other in deps if other not in {crate, *deps[crate], *modules[crate]} and names(crate, other)]
 found = [f"crates.txt: {crate} lists {dep}, which none of its files needs" for crate in idle for dep in idle[crate]]
-print(*found, f"{sum(map(len, deps.values()))} dependencies of {len(deps)} crates, {len(found)} for nothing", sep="\n")
-sys.exit(bool(found))
+lost = [f"crates.txt: {crate} does not list {other}, which its files name" for crate, other in lacking]
+print(*found, *lost, f"{sum(map(len, deps.values()))} dependencies of {len(deps)} crates, {len(found)} for nothing, {len(lost)} not listed", sep="\n")
+sys.exit(bool(found + lost))

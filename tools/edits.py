@@ -22,10 +22,12 @@ def functions(path):
 
 
 def edited_line(path, edit):
-    """The line that an edit changes, that of its last pair; none where its text does not stand exactly once."""
+    """The line that an edit changes, that of its last pair; none where a text of it does not stand exactly once."""
     text = open(path, encoding="utf-8").read() if os.path.exists(path) else ""
     pairs = list(zip(re.findall(r"^old: (.*)$", edit, re.M), re.findall(r"^new: ?(.*)$", edit, re.M)))
     for old, new in pairs[:-1]:
+        if text.count(old) != 1:
+            return None
         text = text.replace(old, new)
     return text[: text.index(pairs[-1][0])].count("\n") if text.count(pairs[-1][0]) == 1 else None
 
@@ -49,7 +51,7 @@ def crate_edits(crate):
 
 
 few = total = stale = 0
-for crate in [line.split(":")[0] for line in open("crates.txt", encoding="utf-8") if ":" in line and not line.startswith("#")]:
+for crate in [line.split(":")[0].split()[0] for line in open("crates.txt", encoding="utf-8") if ":" in line and not line.startswith("#")]:
     of, lost = crate_edits(crate)
     for edit in lost:
         print(f"{edit}: its text does not stand exactly once")

@@ -1,7 +1,7 @@
 #!/usr/bin/env python3
 """Holds include/badgerdross.h to the Rattle sources: nothing else checks a C declaration against the function that it names.
 
-- every exported function of crates/badgerdross, and recalling's, has a prototype with the same arguments and result, and there is no other prototype;
+- every exported function of crates/badgerdross_c, and recalling_c's, has a prototype with the same arguments and result, and there is no other prototype;
 - a struct behind a pointer is the array of numbers that the function is lent, the state's BADGERDROSS_WORDS words among them;
 - the answers have the names and numbers of crates/answers, the calls those of crates/wording, the version is the one that is returned;
 - the answers listed at a call are the numbers that crates/wording says it can return.
@@ -94,7 +94,7 @@ def exports(folder):
     """The same of each function that a crate exports."""
     for path in glob.glob(f"crates/{folder}/src/**/*.rt", recursive=True):
         text = re.sub(r"//.*", "", open(path, encoding="utf-8").read())
-        for name, parameters, result in re.findall(r'#\[no_mangle\]\s*pub extern "C" fn (\w+)\(([^)]*)\) -> (\w+)', text):
+        for name, parameters, result in re.findall(r'#\[unsafe\(no_mangle\)\]\s*pub extern "C" fn (\w+)\(([^)]*)\) -> (\w+)', text):
             arguments = [a for p in parameters.split(",") if p.strip() for a in rattle_arguments(p)]
             yield name, (SCALARS[result], arguments)
 
@@ -110,19 +110,19 @@ def snake(name):
     return re.sub(r"(?<!^)([A-Z])", r"_\1", name).upper()
 
 
-library = dict(exports("badgerdross"))
+library = dict(exports("badgerdross_c"))
 if "--names" in sys.argv:
     print(*sorted(library), sep="\n")
     sys.exit(0)
 declared = dict(prototypes())
-compare("function", declared, library | dict(exports("recalling")))
+compare("function", declared, library | dict(exports("recalling_c")))
 
 answers = open("crates/answers/src/lib.rt", encoding="utf-8").read()
 rows = {snake(name): int(n) for name, n in re.findall(r"Answer::(\w+)(?:\(_\))? => (\d+),", answers)}
 compare("answer", constants("badgerdross_answer"), rows)
 
 wording = open("crates/wording/specs/Calls.antt", encoding="utf-8").read()
-numbers = {name: int(n) for name, n in re.findall(r"^(\w+) = (\d+)$", wording, re.M) if not name.endswith("Count")}
+numbers = {name: int(n) for name, n in re.findall(r"^(\w+) = (\d+)$", wording, re.M) if not name.endswith("_count")}
 compare("call", constants("badgerdross_call"), {"CALL_" + snake(name): n for name, n in numbers.items()})
 
 version = re.search(r"^version = (\d+)$", open("crates/badgerdross/specs/Left.antt", encoding="utf-8").read(), re.M).group(1)

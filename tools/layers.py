@@ -27,7 +27,7 @@ LAYERS = [
     ("operations", "store i of each; the one function that stores, in turn", "op_*"),
     ("calls", "every call of documents 01 and 02, a round in one call, recall", "call_* recalling host calling"),
     ("reasons", "a refusal as a sentence, and read back", "wording reasons reason_reading refusals"),
-    ("library", "all of it for C", "badgerdross"),
+    ("library", "all of it for C", "badgerdross badgerdross_c recalling_c"),
     ("programs", "powerhit, probe, short_runs, try_sizes, wear_by_frame, with their parts",
      "forms executing script powerhit workbench buffer_edits state_edits moduli_edits pending_edits call_turns transaction_calls image_calls line_calls "
      "moduli_calls probing pending_text state_text reporting probe sequence_runs sequence_lines short_runs trials trial_lines "
@@ -40,7 +40,7 @@ problems = []
 def listed():
     """Of each crate those that crates.txt says it leans on; the kit's own have no line and are left out."""
     lines = [line.split("#")[0] for line in open("crates.txt", encoding="utf-8")]
-    deps = {name.strip(): words.split() for name, _, words in (line.partition(":") for line in lines) if words or name.strip()}
+    deps = {name.split()[0]: words.split() for name, _, words in (line.partition(":") for line in lines) if name.strip()}
     return {name: [word for word in words if word in deps] for name, words in deps.items()}
 
 

@@ -66,8 +66,11 @@ def check_link(path, number, target):
 
 
 def stands(folder, words):
-    """Whether a quoted path stands in the repository: from the root, beside the page, in a crate, as an edit or a vector; true of what is no path."""
+    """Whether a quoted path stands in the repository: from the root, beside the page, in a crate, as an edit or a vector; true of what is no path, and of
+    what rt makes of a crate."""
     first, _, rest = words.partition("/")
+    if re.fullmatch(r"crates/\w+/out/\w+", words):
+        return os.path.isdir(words.split("/out/")[0])
     if first in ("", "target") or any(os.path.exists(os.path.join(place, words)) for place in ("", folder, "crates")) or glob.glob(f"tests/vectors/{words}.in"):
         return True
     if first in CRATES:

@@ -6,7 +6,7 @@ All of it is read from the sources: the sentences and calls from crates/wording,
 that stand beside a number are named here, and looked up.
 
     tools/rows.py           writes the page
-    tools/rows.py --check   fails where the page is stale, a row has no definition, code or proof, or a named theorem does not stand
+    tools/rows.py --check   fails where the page is stale, a row has no definition or code, or a named theorem does not stand
 """
 import glob
 import os
@@ -36,9 +36,10 @@ HEAD = """# The refusals by number, and the calls
 
 Written by `python3 tools/rows.py` from the sources, and held to them by the gate. A call returns a number if and only
 if its row is the first of the call's rows, in order, to apply. "Defined" names what decides (the test) and the tables
-of rows that it stands in; "code" the functions that return the number (the proof of `f` in `crates/NAME/src/M.rt` is
-`crates/NAME/proofs/M/f/Proof.antt`, without `M` for `lib.rt`); "law" the theorem by which a call returns the numbers of
-its rows and no others (`crates/refusals/proofs/Returned.antt`). Of every number: a refused call changes nothing
+of rows that it stands in; "code" the functions that return the number (what is written of the proof of `f` in
+`crates/NAME/src/M.rt` stands in `crates/NAME/proofs/M/f`, without `M` for `lib.rt`; where there is nothing, Rattle
+finds the proof by itself); "law" the theorem by which a call returns the numbers of its rows and no others
+(`crates/refusals/proofs/Returned.antt`). Of every number: a refused call changes nothing
 (`refused-unchanged`, `crates/refinement/proofs/Refused.antt`), and its sentence reads back (`refusals-told`,
 `crates/refusals/proofs/Told.antt`). "Edits" are wrong programs in the lines of the row, in its test's definition or in
 a function that its code asks; the prover refuses each.
@@ -74,7 +75,7 @@ def resolved(path, name):
     here = [d for d in DEFINED.get(name, []) if d[0] == path]
     if here:
         return here[0]
-    for crate, module, names in re.findall(r"use Rattle·(\w+?)(?:·specs)?\.specs\.([\w.]+?)\.\{([^}]*)\}", read(path)):
+    for crate, module, names in re.findall(r"use Rattle\.(\w+)\.specs\.([\w.]+?)\.\{([^}]*)\}", read(path)):
         if name in re.findall(r"[\w'-]+", names):
             there = [d for d in DEFINED.get(name, []) if d[0] == f"crates/{crate}/specs/{module.replace('.', '/')}.antt"]
             if there:
@@ -114,7 +115,7 @@ def tests_of(path, test):
     named = [(name, resolved(path, name)) for name in dict.fromkeys(re.findall(r"\w[\w']*", test))]
     named = [(name, d) for name, d in named if d and "/bounded/" not in d[0]]
     deciding = [(d[0], name) for name, d in named if d[1].endswith("Bool")]
-    return deciding or [(d[0], name) for name, d in named if d[1].endswith("ℕ") and name.endswith(("Row", "Slot"))]
+    return deciding or [(d[0], name) for name, d in named if d[1].endswith("ℕ") and name.endswith(("_row", "_slot"))]
 
 
 # ---- the calls
@@ -140,7 +141,7 @@ def calls_of():
 def laws():
     """Of each call the name of its law and the table that it speaks of."""
     return {call: (law, table) for law, call, table in
-            re.findall(r"pub ([\w-]+-returns) : .*?Returns(?:ByOne)? (\w+) .*?\((\w+(?:Rows|Table))", read(LAWS))}
+            re.findall(r"pub ([\w-]+-returns) : .*?Returns(?:ByOne)? (\w+) .*?\((\w+_(?:rows|table))", read(LAWS))}
 
 
 def sentences():
@@ -153,7 +154,7 @@ def sentences():
 
 def below(crate):
     """A crate and those that it leans on, by crates.txt."""
-    deps = {line.split(":")[0]: line.split(":")[1].split() for line in read("crates.txt").split("\n") if ":" in line and not line.startswith("#")}
+    deps = {line.split(":")[0].split()[0]: line.split(":")[1].split() for line in read("crates.txt").split("\n") if ":" in line and not line.startswith("#")}
     seen, todo = set(), [crate]
     while todo:
         name = todo.pop()
@@ -166,14 +167,11 @@ def below(crate):
 class Function:
     def __init__(self, path, name, start, lines):
         self.path, self.name, self.start, self.lines = path, name, start, lines
-        module = path.split("/src/")[1][:-3]
-        crate = path.split("/")[1]
-        self.proof = f"crates/{crate}/proofs/" + ("" if module in ("lib", "main") else module + "/") + f"{name}/Proof.antt"
 
     def refuses(self):
         """Whether its contract tells a row's number, an answer or what turns a call back."""
         contract = "\n".join(self.lines).split("\n{\n")[0].partition("ensures")[2]
-        return bool(re.search(r"refusal|Row|turned_back|answered_at|Found|Leaves|Started|Keeps|mount_of|readOf|loadOf", contract))
+        return bool(re.search(r"refusal|Row|_row|turned_back|answered_at|Found|Leaves|Started|Keeps|mount_of|read_of|load_of", contract))
 
 
 def functions():
@@ -291,9 +289,6 @@ def section(number, calls, told, answer):
         tried += of_lines(path, span(resolved(path, name)))
     for f in [BY_NAME[name][0] for name in sorted(named) if len(BY_NAME.get(name, [])) == 1]:
         tried += of_lines(f.path, range(f.start, f.start + len(f.lines)))
-    for f, _, _ in code:
-        if not os.path.exists(f.proof):
-            problems.append(f"{f.path} {f.name}: {f.proof} does not exist")
     out = [f"## {number}: {told}", "", wrapped("Answer", [f"`Answer::{answer}`, `BADGERDROSS_" + re.sub(r"(?<!^)([A-Z])", r"_\1", answer).upper() + "`"])]
     out.append(wrapped("Calls", [", ".join(calls)]))
     out.append(wrapped("Defined", (["by " + part for part in by_file(tests)[:1]] + by_file(tests)[1:]) + ["in " + ", ".join(by_file(tables))]))
@@ -322,15 +317,15 @@ def parts_of(call):
     """What is said of a call: its rows in order, and where its definition, its table of rows and its code stand."""
     law, table = laws()[call]
     rows = resolved(LAWS, table)
-    names = [f"{call}Of", f"{call.replace('Slot', '')}Of", f"{call}Row", f"{call}Call"]
+    names = [f"{call}_of", f"{call.replace('_slot', '')}_of", f"{call}_row", f"{call}_call"]
     where = next(((d[0], name) for name in names for d in DEFINED.get(name, []) if "/refinement/" in d[0]), None)
-    code = [f for f in CODE if f.name == re.sub(r"(?<!^)([A-Z])", r"_\1", call).lower() and f.path.startswith(("crates/call_", "crates/recalling/"))
+    code = [f for f in CODE if f.name == call and f.path.startswith(("crates/call_", "crates/recalling/"))
             and f.lines[0].startswith("pub ") and "call_round" not in f.path]
-    if not where or len(code) != 1 or not os.path.exists(code[0].proof):
+    if not where or len(code) != 1:
         problems.append(f"the call {call} has the definition {where} and {len(code)} functions")
         return None
     # the law of a write speaks of a table of its own, which it shows to be the call's
-    tabled = (where[0], f"{call}CallRows") if rows[0] == LAWS else (rows[0], table)
+    tabled = (where[0], f"{call}_call_rows") if rows[0] == LAWS else (rows[0], table)
     line = f"| {call} | {in_order(LAWS, table)} | `{where[1]}` | `{tabled[1]}` | `{law}` |"
     return line, where, tabled, (code[0].path, code[0].name)
 

@@ -5,7 +5,7 @@ top=$PWD
 work=$(mktemp -d)
 trap 'rm -rf "$work"' EXIT
 
-if [ "${KEEP_ARCHIVE:-0}" != 1 ] && ! rt staticlib badgerdross > "$work/log" 2>&1; then
+if [ "${KEEP_ARCHIVE:-0}" != 1 ] && ! tools/archive badgerdross > "$work/log" 2>&1; then
     tail -n 20 "$work/log"
     echo "cabinet: no archive"
     exit 1
