@@ -1,5 +1,6 @@
 // Answers by the numbers of documents 01 and 02.
 #![tactic(auto)]
+
 ghost use Rattle.std.specs.Prelude.{◌≡◌};
 ghost use Rattle.answers.specs.Answers.{number_of, as_answer};
 

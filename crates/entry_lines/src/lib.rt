@@ -1,5 +1,6 @@
 // The lines of entries: read, and merged with data.
 #![tactic(auto)]
+
 ghost use Rattle.std.specs.Prelude.{◌≡◌, ◌+◌, ◌*◌, ◌≤◌, ◌<◌, length};
 ghost use Rattle.words.specs.Words.{over};
 ghost use Rattle.layout.specs.Layout.{Legal, entry_word, image_length};

@@ -1,5 +1,6 @@
 // Where the copies of a line lie.
 #![tactic(auto)]
+
 ghost use Rattle.std.specs.Prelude.{◌≡◌, ◌<◌};
 ghost use Rattle.refinement.specs.Frames.{committed_frame, other_frame};
 

@@ -1,5 +1,6 @@
 // Puts what is pending into a state in words.
 #![tactic(auto)]
+
 ghost use Rattle.std.specs.Prelude.{◌≡◌, true, false, [], ◌∷◌, ◌+◌, ◌≤◌, get_or, length};
 ghost use Rattle.operations.specs.Operations.{is_idle};
 ghost use Rattle.validity.specs.Validity.{state_ok};
