@@ -1,5 +1,6 @@
 // The rows from 11 on of each operation on a state in words, and the stores that it needs.
 #![tactic(auto)]
+
 mod committing;
 mod counting;
 mod events;

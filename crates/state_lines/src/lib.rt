@@ -1,5 +1,6 @@
 // Where a line of a state in words lies: the frame of the copy that is committed or that a writer sees, and its entry. No word of the image tells it.
 #![tactic(auto)]
+
 ghost use Rattle.std.specs.Prelude.{◌≡◌, ◌<◌, ◌≤◌};
 ghost use Rattle.layout.specs.Layout.{Legal};
 ghost use Rattle.replay.specs.Table.{slot_in};

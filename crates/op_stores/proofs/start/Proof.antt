@@ -3,7 +3,7 @@ use mathlib.Core.Path.{◌≡◌, ap, ap₂, ◌∙◌}
 use Prim.Native.Nat.{ℕ}
 use native.Mathlib.Omega.{arith}
 use Rattle.state.specs.State.{State}
-use Rattle.operations.specs.Operations.{rules as needs_of}
+use Rattle.operations.specs.Operations.{needs as needs_of}
 use Rattle.refinement.specs.Stores.{stores_made, state_after}
 use Rattle.answers.specs.declared.Answer.TheVariants.{Taken}
 use Rattle.state_words.specs.Decoded.{decoded}

@@ -3,7 +3,7 @@ use mathlib.Core.Path.{◌≡◌, refl, sym, ap, ◌∙◌}
 use mathlib.Core.List.{[]}
 use lib.ListN.{replicate}
 use Rattle.state.specs.State.{State}
-use Rattle.operations.specs.Operations.{rules as needs_of}
+use Rattle.operations.specs.Operations.{needs as needs_of}
 use Rattle.answers.specs.declared.Answer.TheVariants.{Taken}
 use Rattle.state_words.specs.Decoded.{decoded}
 use Rattle.op_stores.proofs.Allowing.{allowed-leans, allowed-needs, without_lines, allowed-asks}

@@ -3,7 +3,7 @@ use mathlib.Core.Path.{sym, ap, ◌∙◌}
 use Rattle.bounded.proofs.Tests.{contradicts}
 use Rattle.state.specs.State.{State}
 use Rattle.state.specs.declared.Places.{Places}
-use Rattle.operations.specs.Operations.{is_idle, rules as needs_of}
+use Rattle.operations.specs.Operations.{is_idle, needs as needs_of}
 use Rattle.refinement.specs.Stores.{completed}
 use Rattle.refinement.proofs.Going.{ranges-of}
 use Rattle.asked.proofs.Asked.{write-needs, consolidate-needs, event-needs, log-needs, format-needs}

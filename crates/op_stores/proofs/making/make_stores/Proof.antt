@@ -4,7 +4,7 @@ use native.Mathlib.Omega.{arith}
 use lib.ListN.{length}
 use Rattle.bounded.proofs.Below.{up_none, up_ends}
 use Rattle.state.specs.State.{State}
-use Rattle.operations.specs.Operations.{rules as needs_of}
+use Rattle.operations.specs.Operations.{needs as needs_of}
 use Rattle.refinement.specs.Stores.{store_at, store_value, stores_made}
 use Rattle.op_pieces.proofs.Turns.{piece-turn}
 use Rattle.state_words.specs.Decoded.{decoded}

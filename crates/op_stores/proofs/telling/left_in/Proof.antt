@@ -3,7 +3,7 @@ use mathlib.Core.Path.{◌≡◌, ap, ap₂, ◌∙◌}
 use native.Mathlib.Omega.{arith}
 use Prim.Native.Nat.{◌-◌}
 use Rattle.state.specs.State.{State}
-use Rattle.operations.specs.Operations.{rules as needs_of}
+use Rattle.operations.specs.Operations.{needs as needs_of}
 use Rattle.state_words.specs.Decoded.{decoded}
 use Rattle.op_stores.proofs.Leaning.{needs-leans, needs-seen, made-low}
 use Rattle.op_stores.proofs.telling.left_in.Statement.{statement}

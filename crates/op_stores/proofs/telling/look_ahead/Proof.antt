@@ -5,7 +5,7 @@ use mathlib.Core.Path.{◌≡◌, refl, sym, ap, ap₂, ◌∙◌}
 use native.Mathlib.Omega.{arith}
 use Rattle.layout.specs.Layout.{image_length}
 use Rattle.state.specs.State.{State}
-use Rattle.operations.specs.Operations.{rules as needs_of}
+use Rattle.operations.specs.Operations.{needs as needs_of}
 use Rattle.refinement.specs.Stores.{store_at, store_value}
 use Rattle.op_pieces.specs.declared.Piece.{Piece}
 use Rattle.op_pieces.specs.Pieces.{Next}

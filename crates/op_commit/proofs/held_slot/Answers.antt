@@ -1,0 +1,37 @@
+use borrow.Author.Rules.{rules}
+use Prim.Native.Nat.{◌-◌}
+use mathlib.Core.Path.{◌≡◌, ap, sym, ◌∙◌}
+use mathlib.Core.Logic.{⊎_elim}
+use mathlib.Core.Bool.{Bool, not}
+use native.Mathlib.Omega.{arith}
+use borrow.Author.Tests.{eq-eqb, ne_eqb}
+use Rattle.bounded.specs.Below.{one, count_below}
+use Rattle.state.specs.Held.{held_slots}
+use Rattle.bounded.proofs.Nth.{nth-found, nth-turn, nth-ended}
+use Rattle.op_commit.proofs.held_slot.Invariants.{holds}
+use Rattle.op_commit.proofs.held_slot.Goals as goal
+
+pub loop-s-init : goal.loop-s-init
+unfolding count_below
+loop-s-init c = search rules
+
+pub returns-then-left-eq0 : goal.returns-then-left-eq0
+unfolding held_slots
+returns-then-left-eq0 c =
+    nth-found _ _ _ _ c.loop-s.left c.loop-s.invariant.1 c.loop-s-test.true (ap not (ne_eqb _ _ (λ q. c.if-m-ne0.true (c.held_at-m.ensures ∙ q)))) c.if-left-eq0.true
+
+pub loop-s-preserved : goal.loop-s-preserved
+unfolding one
+loop-s-preserved c =
+    let test = holds c.args.words.now c.args.w c.loop-s.s in (
+      search rules,
+      nth-turn (holds c.args.words.now c.args.w) c.args.z.slots _ c.loop-s.s c.loop-s.left c.loop-s.invariant.1 c.if-m-ne0.left
+          (⊎_elim
+          (λ q. let e : one test ≡ 1 = ap (λ (b : Bool). one (not b)) (ne_eqb _ _ (λ k. q.0.taken (c.held_at-m.ensures ∙ k))) in omega arith)
+          (λ q. let e : one test ≡ 0 = ap (λ (b : Bool). one (not b)) (eq-eqb _ _ (sym c.held_at-m.ensures ∙ q.0.left)) in omega arith)
+          c.if-m-ne0.branch),
+    )
+
+pub returns : goal.returns
+unfolding held_slots
+returns c = nth-ended _ _ _ _ c.loop-s.left c.loop-s.invariant.1 c.loop-s.invariant.0 c.loop-s-test.false

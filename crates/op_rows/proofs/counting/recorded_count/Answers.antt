@@ -1,0 +1,26 @@
+use borrow.Author.Rules.{rules}
+use Prim.Native.Nat.{ℕ, ◌-◌}
+use mathlib.Core.Bool.{not}
+use mathlib.Core.Path.{sym, ap, ◌∙◌}
+use native.Mathlib.Omega.{arith}
+use lib.Dec.{eqb}
+use Rattle.bounded.proofs.Those.{length-those}
+use Rattle.bounded.proofs.Below.{count_none, count_turn, count-ends}
+use Rattle.bounded.specs.Below.{one}
+use Rattle.replay.specs.Table.{no_position}
+use Rattle.operations.specs.Operations.{recorded_slots}
+use Rattle.state.proofs.Numbers.{one-small}
+use Rattle.op_rows.proofs.counting.recorded_count.Goals as goal
+
+pub loop-s-init : goal.loop-s-init
+loop-s-init c = (search rules, search rules, count_none _)
+
+pub overflow_add-n : goal.overflow_add-n
+overflow_add-n c = omega (arith, one-small _ _ c.one_if-n.ensures)
+
+pub loop-s-preserved : goal.loop-s-preserved
+loop-s-preserved c = (search rules, omega (arith, one-small _ _ c.one_if-n.ensures), count_turn _ _ _ _ c.loop-s.invariant.2 (c.one_if-n.ensures ∙ ap (λ (q : ℕ). one (not (eqb q no_position))) c.last_at-q.ensures))
+
+pub returns : goal.returns
+unfolding recorded_slots
+returns c = count-ends _ _ _ _ c.loop-s.invariant.0 c.loop-s-test.false c.loop-s.invariant.2 ∙ sym (length-those _ _)
