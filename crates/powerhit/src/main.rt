@@ -1,14 +1,15 @@
 // Program powerhit: calls as lines of standard input, each answered by a line of standard output (document 01).
 // What a line does and prints is script's. Here the input is cut into lines and the output is collected.
 #![tactic(auto)]
+
 ghost use Rattle.std.specs.Prelude.{◌≡◌, ℕ, ◌≤◌, List, [], ◌∷◌, length};
 ghost use Rattle.cutting.specs.Pieces.{line_end};
 ghost use Rattle.powerhit.specs.Program.{roomed, Shows, first, Takes, Lines, Closes, Reads, TakesSome, Ran};
 
 use executing::Mode;
-use libc::{STDIN_FILENO, STDOUT_FILENO};
 use script::performing;
 use state_words::{WORD_COUNT, Words};
+use std::io::{Read, Stdin};
 
 // The program between two pieces of the input.
 #[derive(Clone, Copy)]
@@ -48,7 +49,7 @@ fn write_out(out: &[u8; 65536], at: usize) -> bool {
         return false;
     }
     let bytes: &[u8] = out;
-    io::write_all(STDOUT_FILENO, &bytes[..at])
+    io::write_all(1, &bytes[..at])
 }
 
 // Writes a full buffer, unless a write failed before, and gives whether every write went well.
@@ -90,7 +91,7 @@ fn perform_lines(
     while end < piece.len() {
         ok = write_full(out, at, ok);
         at = left(at);
-        lines = std::num::wrapping_add_usize(lines, 1);
+        lines = lines.wrapping_add(1);
         let p = performing::perform(image, words, mode, lines, &piece[start..end], out, at);
         mode = p.mode;
         at = p.end;
@@ -158,8 +159,19 @@ fn perform_piece(
     last
 }
 
+// Reads once into `input`, and gives how many bytes that put at its start: none at the end, or where the read fails.
+fn read_some(stdin: &mut Stdin, input: &mut [u8]) -> usize
+    ensures { result ≤ length input.new }
+{
+    match stdin.read(input) {
+        Ok(n) => n,
+        Err(_) => 0,
+    }
+}
+
 // Reads a piece of the input and performs its lines.
 fn read_piece(
+    stdin: &mut Stdin,
     image: &mut [u8],
     words: &mut Words,
     s: Session,
@@ -170,8 +182,7 @@ fn read_piece(
     ensures { Reads s words.old image.old line.old out.old input.new
         result words.new image.new line.new out.new }
 {
-    let got = libc::read(STDIN_FILENO, input);
-    let n = io::count(got, input);
+    let n = read_some(stdin, input);
     let mut next = perform_piece(image, words, s, line, &input[..n], out);
     next.more = n > 0;
     next
@@ -180,6 +191,7 @@ fn read_piece(
 // Reads to the end of the input. A proved loop has to end, so this one counts its turns down from a number that no run uses
 // up.
 fn read_all(
+    stdin: &mut Stdin,
     image: &mut [u8],
     words: &mut Words,
     s: Session,
@@ -193,7 +205,7 @@ fn read_all(
     let mut s = s;
     let mut turns = u64::MAX;
     while turns > 0 && s.more && s.ok {
-        s = read_piece(image, words, s, line, input, out);
+        s = read_piece(stdin, image, words, s, line, input, out);
         turns -= 1;
     }
     s
@@ -219,6 +231,7 @@ fn perform_last(
 
 // Performs the lines of the whole input. What of the output is not written yet is left to the caller.
 fn perform_input(
+    stdin: &mut Stdin,
     image: &mut [u8],
     words: &mut Words,
     line: &mut [u8; 2048],
@@ -228,20 +241,23 @@ fn perform_input(
     ensures { Ran image.old result words.new image.new out.new }
 {
     let first = started(words);
-    let s = read_all(image, words, first, line, input, out);
+    let s = read_all(stdin, image, words, first, line, input, out);
     perform_last(image, words, s, line, out)
 }
 
-fn main() {
+fn main(rt: HostRuntime) {
+    let mut stdin = rt.stdin();
     let mut image = io::large_buffer();
     let mut words = [0u64; WORD_COUNT];
     let mut line = [0u8; 2048];
     let mut input = io::large_buffer();
     let mut out = io::large_buffer();
-    if !io::write_all(STDOUT_FILENO, b"line,call,answer,stores,byte\n") {
+    if !io::write_all(1, b"line,call,answer,stores,byte\n") {
         return;
     }
-    let last = perform_input(&mut image, &mut words, &mut line, &mut input, &mut out);
+    let last = perform_input(
+        &mut stdin, &mut image, &mut words, &mut line, &mut input, &mut out,
+    );
     if last.ok {
         write_out(&out, last.at);
     }

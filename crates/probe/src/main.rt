@@ -1,6 +1,7 @@
 // Program probe: every call on any state and any bytes, as lines of standard input, each answered by a line of standard
 // output (PROBE.md). Here the input is cut into lines and the output is collected; what a line does is `lines`'.
 #![tactic(auto)]
+
 mod lines;
 mod reading;
 
@@ -43,7 +44,8 @@ fn started() -> Session
     }
 }
 
-fn main() {
+fn main(rt: HostRuntime) {
+    let mut stdin = rt.stdin();
     let mut buffer = [0u8; 65536];
     let mut words = [0u64; WORD_COUNT];
     let mut table = [0u64; 25];
@@ -51,6 +53,7 @@ fn main() {
     let mut input = [0u8; 65536];
     let mut out = [0u8; 65536];
     reading::run(
+        &mut stdin,
         &mut buffer,
         &mut words,
         &mut table,

@@ -3,8 +3,8 @@ ghost use Rattle.std.specs.Prelude.{◌≡◌, ◌<◌, ◌≤◌, [], ◌∷◌
 ghost use Rattle.probe.specs.Program.{roomed, stand, Takes, Reads, TakesSome, Closes, Ran};
 
 use crate::{Session, lines};
-use libc::{STDIN_FILENO, STDOUT_FILENO};
 use state_words::Words;
+use std::io::{Read, Stdin};
 use workbench::moduli::Moduli;
 
 // Writes the first n bytes out.
@@ -12,7 +12,7 @@ fn write_out(out: &[u8], n: usize) -> bool {
     if n > out.len() {
         return false;
     }
-    io::write_all(STDOUT_FILENO, &out[..n])
+    io::write_all(1, &out[..n])
 }
 
 // Room for a line of output: where little is left, all that waits is written.
@@ -45,7 +45,7 @@ fn perform_kept(
 {
     let mut next = make_room(s, out);
     let k = bounded::smaller(next.kept, line.len());
-    next.lines = std::num::wrapping_add_u64(next.lines, 1);
+    next.lines = next.lines.wrapping_add(1);
     next.kept = 0;
     let p = lines::perform(
         buffer,
@@ -91,8 +91,19 @@ fn perform_piece(
     s
 }
 
+// Reads once into `input`, and gives how many bytes that put at its start: none at the end, or where the read fails.
+fn read_some(stdin: &mut Stdin, input: &mut [u8]) -> usize
+    ensures { result ≤ length input.new }
+{
+    match stdin.read(input) {
+        Ok(n) => n,
+        Err(_) => 0,
+    }
+}
+
 // Reads a piece of the input and performs its lines.
 fn read_piece(
+    stdin: &mut Stdin,
     s: Session,
     buffer: &mut [u8; 65536],
     words: &mut Words,
@@ -104,8 +115,7 @@ fn read_piece(
     ensures { Reads (stand s buffer.old words.old table.old line.old out.old) input.new
         (stand result buffer.new words.new table.new line.new out.new) }
 {
-    let got = libc::read(STDIN_FILENO, input);
-    let n = io::count(got, input);
+    let n = read_some(stdin, input);
     if n == 0 {
         let mut ended = s;
         ended.more = false;
@@ -117,6 +127,7 @@ fn read_piece(
 // Reads to the end of the input. A proved loop has to end, so this one counts its turns down from a number that no run
 // uses up.
 fn read_all(
+    stdin: &mut Stdin,
     s: Session,
     buffer: &mut [u8; 65536],
     words: &mut Words,
@@ -131,7 +142,7 @@ fn read_all(
     let mut s = s;
     let mut turns = u64::MAX;
     while (turns > 0) & s.more {
-        s = read_piece(s, buffer, words, table, line, input, out);
+        s = read_piece(stdin, s, buffer, words, table, line, input, out);
         turns -= 1;
     }
     s
@@ -158,6 +169,7 @@ fn perform_last(
 
 // Performs all lines of the input; the end of what they print is left in `out`.
 fn perform_all(
+    stdin: &mut Stdin,
     buffer: &mut [u8; 65536],
     words: &mut Words,
     table: &mut Moduli,
@@ -169,12 +181,22 @@ fn perform_all(
 {
     workbench::starting::put_first(words);
     workbench::moduli::put_first(table);
-    let s = read_all(crate::started(), buffer, words, table, line, input, out);
+    let s = read_all(
+        stdin,
+        crate::started(),
+        buffer,
+        words,
+        table,
+        line,
+        input,
+        out,
+    );
     perform_last(s, buffer, words, table, line, out)
 }
 
 // Performs all lines of the input, and writes all that they print.
 pub fn run(
+    stdin: &mut Stdin,
     buffer: &mut [u8; 65536],
     words: &mut Words,
     table: &mut Moduli,
@@ -182,6 +204,6 @@ pub fn run(
     input: &mut [u8; 65536],
     out: &mut [u8; 65536],
 ) {
-    let s = perform_all(buffer, words, table, line, input, out);
+    let s = perform_all(stdin, buffer, words, table, line, input, out);
     write_out(out, s.at);
 }

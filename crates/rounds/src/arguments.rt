@@ -1,6 +1,8 @@
 // Numbers among the program's arguments.
 ghost use Rattle.std.specs.Prelude.{◌<◌};
 
+use std::rt::Env;
+
 // A digit's value; any other byte counts as 0.
 fn digit(b: u8) -> usize
     ensures { result < 10 }
@@ -28,11 +30,10 @@ fn value(text: &[u8]) -> usize
 }
 
 // Argument i as a number, or another where it is missing.
-pub fn at(i: usize, missing: usize) -> usize {
+pub fn at(rt: &impl Env, i: usize, missing: usize) -> usize {
     let mut text = [0u8; 16];
-    let n = os::arg(i, &mut text);
-    if os::errno() != 0 {
-        return missing;
+    match rt.arg(i, &mut text) {
+        Ok(n) => value(&text[..n]),
+        Err(_) => missing,
     }
-    value(&text[..n])
 }

@@ -1,6 +1,7 @@
 // Plays N game rounds on a store of 16 pages, 4 slots and 64 journal places. Prints N, the rounds that a pair of pages stays, the stores made and a checksum
 // of the pages as read shows them.
 #![tactic(auto)]
+
 mod arguments;
 mod game;
 
@@ -35,10 +36,10 @@ fn play(image: &mut Image, words: &mut Words, n: usize, stay: usize) -> u64 {
         entries: 0,
     };
     call_mount::format_whole(image, words, z);
-    let mut stores = 0;
+    let mut stores: u64 = 0;
     let mut r = 0;
     while r < n {
-        stores = std::num::wrapping_add_u64(stores, game::round(image, words, pair_of(r, stay), r));
+        stores = stores.wrapping_add(game::round(image, words, pair_of(r, stay), r));
         r += 1;
     }
     stores
@@ -49,9 +50,9 @@ fn number(v: u64, end: &[u8]) {
     io::write_all(1, end);
 }
 
-fn main() {
-    let n = arguments::at(1, ROUNDS);
-    let stay = arguments::at(2, STAY);
+fn main(rt: HostRuntime) {
+    let n = arguments::at(&rt, 1, ROUNDS);
+    let stay = arguments::at(&rt, 2, STAY);
     let mut image = [0u8; 84288];
     let mut words = [0u64; WORD_COUNT];
     let stores = play(&mut image, &mut words, n, stay);

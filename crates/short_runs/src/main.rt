@@ -1,13 +1,12 @@
 // Program short_runs: for a digit n of 0 to 3 every sequence of n calls on a fresh image, its last call cut after each count of stores, and the first
 // bytes that a mount then shows (request L9). A line is sequence_lines'; here the input is read and the output is collected.
 #![tactic(auto)]
+
 ghost use Rattle.std.specs.Prelude.{◌≡◌, ◌^◌, ◌≤◌, length};
 ghost use Rattle.cutting.specs.Buffers.{Ends};
 ghost use Rattle.sequences.specs.Sequences.{sequence};
 ghost use Rattle.sequence_lines.specs.Listing.{lines_of, listing};
 ghost use Rattle.short_runs.specs.Program.{roomed, digit_of, wanted_of, mark, with_lines, with_listing, Prints, PutCut, Responds};
-
-use libc::{STDIN_FILENO, STDOUT_FILENO};
 
 // The output so far: how many of its bytes wait in the buffer, and whether every write went well.
 #[derive(Clone, Copy)]
@@ -28,7 +27,7 @@ fn write_out(out: &[u8; 65536], at: usize) -> bool {
         return false;
     }
     let bytes: &[u8] = out;
-    io::write_all(STDOUT_FILENO, &bytes[..at])
+    io::write_all(1, &bytes[..at])
 }
 
 // Writes what waits where there may be too little room for a line.
@@ -156,7 +155,7 @@ fn respond(input: &[u8], out: &mut [u8; 65536]) -> Output
 fn main() {
     let mut input = [0u8; 3];
     let mut out = io::large_buffer();
-    let n = io::read_full(STDIN_FILENO, &mut input);
+    let n = io::read_full(0, &mut input);
     let last = respond(&input[..n], &mut out);
     if last.ok {
         write_out(&out, last.at);

@@ -1,11 +1,12 @@
 // Program try_sizes: a setting `P,S,J` and rounds as lines of standard input; the rounds done and abandoned and the stores by what they were
 // for as one line of standard output (request L11). What a line does is trial_lines'. Here the input is cut into lines.
 #![tactic(auto)]
+
 ghost use Rattle.std.specs.Prelude.{◌≡◌, List, [], ◌∷◌, ℕ, ◌≤◌, length, replicate};
 ghost use Rattle.try_sizes.specs.Program.{nothing_read, reads_on, Shows, Takes, Reads, TakesSome, Closes, Responds};
 
-use libc::{STDIN_FILENO, STDOUT_FILENO};
 use state_words::{WORD_COUNT, Words};
+use std::io::{Read, Stdin};
 use trial_lines::{Session, output};
 
 // The program between two bytes.
@@ -85,8 +86,19 @@ fn reads_on(lines: usize, set: bool) -> bool
     (lines == 0) | set & (lines <= 1000)
 }
 
+// Reads once into `input`, and gives how many bytes that put at its start: none at the end, or where the read fails.
+fn read_some(stdin: &mut Stdin, input: &mut [u8]) -> usize
+    ensures { result ≤ length input.new }
+{
+    match stdin.read(input) {
+        Ok(n) => n,
+        Err(_) => 0,
+    }
+}
+
 // Reads a piece of the input and takes its bytes.
 fn read_piece(
+    stdin: &mut Stdin,
     s: Reading,
     image: &mut [u8],
     words: &mut Words,
@@ -98,8 +110,7 @@ fn read_piece(
     ensures { Reads s words.old image.old line.old input.new
         result words.new image.new line.new }
 {
-    let got = libc::read(STDIN_FILENO, input);
-    let n = io::count(got, input);
+    let n = read_some(stdin, input);
     let mut next = take_piece(s, image, words, line, &input[..n]);
     let session = next.session;
     next.more = (n > 0) & reads_on(session.lines, session.set);
@@ -109,6 +120,7 @@ fn read_piece(
 // Reads on, to the end of the input or past the last round. A proved loop has to end, so this one counts its turns down from a number that no
 // run uses up.
 fn read_all(
+    stdin: &mut Stdin,
     s: Reading,
     image: &mut [u8],
     words: &mut Words,
@@ -122,7 +134,7 @@ fn read_all(
     let mut s = s;
     let mut turns = u64::MAX;
     while turns > 0 && s.more {
-        s = read_piece(s, image, words, line, input);
+        s = read_piece(stdin, s, image, words, line, input);
         turns -= 1;
     }
     s
@@ -143,25 +155,32 @@ fn take_last(s: Reading, image: &mut [u8], words: &mut Words, line: &[u8]) -> Se
 }
 
 // Takes the whole input, puts the response at the start of a buffer and says how long it is.
-fn respond(image: &mut [u8], line: &mut [u8], input: &mut [u8], out: &mut [u8]) -> usize
+fn respond(
+    stdin: &mut Stdin,
+    image: &mut [u8],
+    line: &mut [u8],
+    input: &mut [u8],
+    out: &mut [u8],
+) -> usize
     requires line_len { length line.old ≡ 1024 }
     requires in_bounds { 126 ≤ length out.old }
     ensures { Responds image.old out.old out.new result }
 {
     let mut words = [0u64; WORD_COUNT];
     let first = begin(line);
-    let read = read_all(first, image, &mut words, line, input);
+    let read = read_all(stdin, first, image, &mut words, line, input);
     let last = take_last(read, image, &mut words, line);
     output::put_response(out, last)
 }
 
-fn main() {
+fn main(rt: HostRuntime) {
+    let mut stdin = rt.stdin();
     let mut image = io::large_buffer();
     let mut line = [0u8; 1024];
     let mut input = io::large_buffer();
     let mut out = [0u8; 126];
-    let n = respond(&mut image, &mut line, &mut input, &mut out);
+    let n = respond(&mut stdin, &mut image, &mut line, &mut input, &mut out);
     if n <= 126 {
-        io::write_all(STDOUT_FILENO, &out[..n]);
+        io::write_all(1, &out[..n]);
     }
 }

@@ -1,12 +1,13 @@
 // Program wear_by_frame: inputs of powerhit, parted by lines `=`, as standard input; over all of them the line copies of each frame and the
 // stores by where they went as 22 lines of standard output (request L12). What a line does is wear_lines'. Here the input is cut into lines.
 #![tactic(auto)]
+
 ghost use Rattle.std.specs.Prelude.{◌≡◌, List, [], ◌∷◌, ℕ, ◌≤◌, length, replicate};
 ghost use Rattle.wear_by_frame.specs.Program.{nothing_read, Shows, Sound, Takes, Reads, TakesSome, Closes, Responds};
 
 use executing::Mode;
-use libc::{STDIN_FILENO, STDOUT_FILENO};
 use state_words::Words;
+use std::io::{Read, Stdin};
 use wear_lines::output;
 
 // The program between two bytes.
@@ -86,8 +87,19 @@ fn take_piece(
     s
 }
 
+// Reads once into `input`, and gives how many bytes that put at its start: none at the end, or where the read fails.
+fn read_some(stdin: &mut Stdin, input: &mut [u8]) -> usize
+    ensures { result ≤ length input.new }
+{
+    match stdin.read(input) {
+        Ok(n) => n,
+        Err(_) => 0,
+    }
+}
+
 // Reads a piece of the input and takes its bytes.
 fn read_piece(
+    stdin: &mut Stdin,
     s: Reading,
     image: &mut [u8],
     words: &mut Words,
@@ -100,8 +112,7 @@ fn read_piece(
     ensures { Reads s words.old image.old counts.old line.old input.new
         result words.new image.new counts.new line.new }
 {
-    let got = libc::read(STDIN_FILENO, input);
-    let n = io::count(got, input);
+    let n = read_some(stdin, input);
     let mut next = take_piece(s, image, words, counts, line, &input[..n]);
     next.more = n > 0;
     next
@@ -109,6 +120,7 @@ fn read_piece(
 
 // Reads on, to the end of the input. A proved loop has to end, so this one counts its turns down from a number that no run uses up.
 fn read_all(
+    stdin: &mut Stdin,
     s: Reading,
     image: &mut [u8],
     words: &mut Words,
@@ -124,7 +136,7 @@ fn read_all(
     let mut s = s;
     let mut turns = u64::MAX;
     while turns > 0 && s.more {
-        s = read_piece(s, image, words, counts, line, input);
+        s = read_piece(stdin, s, image, words, counts, line, input);
         turns -= 1;
     }
     s
@@ -152,7 +164,13 @@ fn take_last(
 }
 
 // Takes the whole input, puts the response at the start of a buffer and says how long it is.
-fn respond(image: &mut [u8], line: &mut [u8], input: &mut [u8], out: &mut [u8]) -> usize
+fn respond(
+    stdin: &mut Stdin,
+    image: &mut [u8],
+    line: &mut [u8],
+    input: &mut [u8],
+    out: &mut [u8],
+) -> usize
     requires line_len { length line.old ≡ 1024 }
     requires in_bounds { 462 ≤ length out.old }
     ensures { Responds (length image.old) out.old out.new result }
@@ -160,18 +178,19 @@ fn respond(image: &mut [u8], line: &mut [u8], input: &mut [u8], out: &mut [u8]) 
     let mut words = [0u64; 1280];
     let mut counts = [0u64; 22];
     let first = begin(image, &mut words);
-    let read = read_all(first, image, &mut words, &mut counts, line, input);
+    let read = read_all(stdin, first, image, &mut words, &mut counts, line, input);
     let _ = take_last(read, image, &mut words, &mut counts, line);
     output::put_response(out, &counts)
 }
 
-fn main() {
+fn main(rt: HostRuntime) {
+    let mut stdin = rt.stdin();
     let mut image = io::large_buffer();
     let mut line = [0u8; 1024];
     let mut input = io::large_buffer();
     let mut out = [0u8; 462];
-    let n = respond(&mut image, &mut line, &mut input, &mut out);
+    let n = respond(&mut stdin, &mut image, &mut line, &mut input, &mut out);
     if n <= 462 {
-        io::write_all(STDOUT_FILENO, &out[..n]);
+        io::write_all(1, &out[..n]);
     }
 }
