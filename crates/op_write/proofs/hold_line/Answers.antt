@@ -15,42 +15,37 @@ At-After-places_in-next = Lts.After-places_in Tie.the-claims Reads.Pre Reads.Pos
 abbrev At-After-write_slot-s : Type 0
 At-After-write_slot-s = Lts.After-write_slot Tie.the-claims Reads.Pre Reads.Post
 
-next-is : (c : At-After-places_in-next) → c.places_in-next.result.next ≡ (decoded c.before.before.args.words.now).next
+next-is : (c : At-After-places_in-next) → c.places_in-next.result.next ≡ (decoded c.before.args.words.now).next
 next-is c = ap (λ (a : Places). a.next) c.places_in-next.ensures
 
 pub write_slot-s-requires : goal.write_slot-s-requires
-write_slot-s-requires c = (c.requires.1, rw (next-is c.before.before.before.before) c.requires.2)
+write_slot-s-requires c = (c.requires.1, rw (next-is c.before) c.requires.2)
 
 low : (c : At-After-write_slot-s) → c.write_slot-s.result < 16
 low c =
-    let s = c.before.before.before.before.before.before in
-    slot-low s.args.z _ (decoded s.args.words.now).table.page s.args.p _ _ s.requires.1 c.before.before.slot_of-own.ensures c.write_slot-s.ensures
+    slot-low c.before.before.before.args.z _ (decoded c.before.before.before.args.words.now).table.page c.before.before.before.args.p _ _ c.before.before.before.requires.1 c.before.slot_of-own.ensures c.write_slot-s.ensures
 
 pub held_at-m-requires : goal.held_at-m-requires
-held_at-m-requires c = (c.requires.3, low c.before.before)
+held_at-m-requires c = (c.requires.3, low c)
 
 pub put_held-requires : goal.put_held-requires
-put_held-requires c = (c.requires.3, low c.before.before.before.before.before)
+put_held-requires c = (c.requires.3, low c.before.before.before)
 
 pub returns-then-own-z : goal.returns-then-own-z
 returns-then-own-z c =
-    let a = c.before.before.before in
-    let s = a.before.before in
-    had-slot (decoded s.args.words.now) s.args.z _ s.args.w s.args.p s.args.l _ _ _ _ s.requires.0 (next-is a) c.slot_of-own.ensures
+    had-slot (decoded c.args.words.now) c.args.z _ c.args.w c.args.p c.args.l _ _ _ _ c.requires.0 (next-is c.before.before.before.before.before.before.before.before) c.slot_of-own.ensures
     c.write_slot-s.ensures c.held_at-m.ensures c.with.ensures _ c.put_held.ensures c.if-own-z.true
 
 pub slot_at-spare-requires : goal.slot_at-spare-requires
-slot_at-spare-requires c = low c.before.before.before.before.before.before.before.before.before.before.before
+slot_at-spare-requires c = low c.before.before.before.before.before.before.before
 
 pub put_slot-requires : goal.put_slot-requires
-put_slot-requires c = low c.before.before.before.before.before.before.before.before.before.before.before.before.before
+put_slot-requires c = low c.before.before.before.before.before.before.before.before.before
 
 pub overflow_add-s : goal.overflow_add-s
-overflow_add-s c = omega (arith, low c.before.before.before.before.before.before.before.before.before.before.before.before.before.before.before)
+overflow_add-s c = omega (arith, low c.before.before.before.before.before.before.before.before.before.before.before)
 
 pub returns : goal.returns
 returns c =
-    let a = c.before.before.before in
-    let s = a.before.before in
-    took-slot (decoded s.args.words.now) s.args.z _ s.args.w s.args.p s.args.l _ _ _ _ s.requires.0 (next-is a) c.slot_of-own.ensures
+    took-slot (decoded c.args.words.now) c.args.z _ c.args.w c.args.p c.args.l _ _ _ _ c.requires.0 (next-is c.before.before.before.before.before.before.before.before.before.before.before.before.before.before.before) c.slot_of-own.ensures
     c.write_slot-s.ensures c.held_at-m.ensures c.with.ensures _ c.put_held.ensures c.if-own-z.false _ c.entry_at-original.ensures _ c.slot_at-spare.ensures _ _ c.put_slot.ensures c.put_next.ensures

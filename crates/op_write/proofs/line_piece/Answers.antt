@@ -20,23 +20,20 @@ slot_at-t-requires c =
     slot-low c.args.z c.args.next (decoded c.args.words.now).table.page c.args.p _ _ c.requires.0 c.slot_of-own.ensures c.write_slot-s.ensures
 
 -- the frame that was found
-frame : (c : At-After-other_frame-f) → let s = c.before.before.before.before in c.other_frame-f.result ≡ frame_to_write s.args.z (decoded s.args.words.now).table s.args.next s.args.p s.args.l
+frame : (c : At-After-other_frame-f) → c.other_frame-f.result ≡ frame_to_write c.before.before.before.before.args.z (decoded c.before.before.before.before.args.words.now).table c.before.before.before.before.args.next c.before.before.before.before.args.p c.before.before.before.before.args.l
 frame c =
-    let s = c.before.before.before.before in
-    frame_is s.args.z s.args.next (decoded s.args.words.now).table s.args.p s.args.l _ _ _ _ c.before.before.before.slot_of-own.ensures c.before.before.write_slot-s.ensures c.before.slot_at-t.ensures c.other_frame-f.ensures
+    frame_is c.before.before.before.before.args.z c.before.before.before.before.args.next (decoded c.before.before.before.before.args.words.now).table c.before.before.before.before.args.p c.before.before.before.before.args.l _ _ _ _ c.before.before.before.slot_of-own.ensures c.before.before.write_slot-s.ensures c.before.slot_at-t.ensures c.other_frame-f.ensures
 
 low : (c : At-After-other_frame-f) → c.other_frame-f.result < frames c.before.before.before.before.args.z
 low c =
-    let s = c.before.before.before.before in
-    write-frame-low s.args.z (decoded s.args.words.now).table s.args.next s.args.p s.args.l _ s.requires.0 s.requires.2 (frame c)
+    write-frame-low c.before.before.before.before.args.z (decoded c.before.before.before.before.args.words.now).table c.before.before.before.before.args.next c.before.before.before.before.args.p c.before.before.before.before.args.l _ c.before.before.before.before.requires.0 c.before.before.before.before.requires.2 (frame c)
 
 pub line_word-requires : goal.line_word-requires
-line_word-requires c = (c.requires.0, low c.before, c.requires.3)
+line_word-requires c = (c.requires.0, low c, c.requires.3)
 
 pub returns : goal.returns
 returns c =
-    let f = c.before.before.before.before in
     let at : ℕ → ℕ = λ f. line_word c.args.z f c.args.l in record {
-      piece = c.of_line.ensures ∙ ap (λ (a : ℕ). line_piece a c.args.t4 c.args.k) (c.line_word.ensures ∙ ap at (frame f));
-      inside = rw c.of_line.ensures (omega (arith, c.line_word.ensures, low f, c.requires.3));
+      piece = c.of_line.ensures ∙ ap (λ (a : ℕ). line_piece a c.args.line c.args.k) (c.line_word.ensures ∙ ap at (frame c.before.before.before));
+      inside = rw c.of_line.ensures (omega (arith, c.line_word.ensures, low c.before.before.before, c.requires.3));
     }
