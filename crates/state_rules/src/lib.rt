@@ -1,5 +1,6 @@
 // Row 8 of a state in words: whether it keeps the rules. Nothing of it reads the image.
 #![tactic(auto)]
+
 mod fresh_state;
 mod slots;
 

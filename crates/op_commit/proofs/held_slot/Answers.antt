@@ -1,7 +1,6 @@
 use borrow.Author.Rules.{rules}
 use Prim.Native.Nat.{◌-◌}
 use mathlib.Core.Path.{◌≡◌, ap, sym, ◌∙◌}
-use mathlib.Core.Logic.{⊎_elim}
 use mathlib.Core.Bool.{Bool, not}
 use native.Mathlib.Omega.{arith}
 use borrow.Author.Tests.{eq-eqb, ne_eqb}
@@ -10,6 +9,7 @@ use Rattle.state.specs.Held.{held_slots}
 use Rattle.bounded.proofs.Nth.{nth-found, nth-turn, nth-ended}
 use Rattle.op_commit.proofs.held_slot.Invariants.{holds}
 use Rattle.op_commit.proofs.held_slot.Goals as goal
+use Rattle.op_commit.proofs.held_slot.Goals.{then-m-ne0+else-left-eq0, else-m-ne0}
 
 pub loop-s-init : goal.loop-s-init
 unfolding count_below
@@ -26,10 +26,10 @@ loop-s-preserved c =
     let test = holds c.args.words.now c.args.w c.loop-s.s in (
       search rules,
       nth-turn (holds c.args.words.now c.args.w) c.args.z.slots _ c.loop-s.s c.loop-s.left c.loop-s.invariant.1 c.if-m-ne0.left
-          (⊎_elim
-          (λ q. let e : one test ≡ 1 = ap (λ (b : Bool). one (not b)) (ne_eqb _ _ (λ k. q.0.taken (c.held_at-m.ensures ∙ k))) in omega arith)
-          (λ q. let e : one test ≡ 0 = ap (λ (b : Bool). one (not b)) (eq-eqb _ _ (sym c.held_at-m.ensures ∙ q.0.left)) in omega arith)
-          c.if-m-ne0.branch),
+          (elim c.if-m-ne0.branch [
+            then-m-ne0+else-left-eq0 w ↦ let e : one test ≡ 1 = ap (λ (b : Bool). one (not b)) (ne_eqb _ _ (λ k. w.if-m-ne0.true (c.held_at-m.ensures ∙ k))) in omega arith
+            | else-m-ne0 w ↦ let e : one test ≡ 0 = ap (λ (b : Bool). one (not b)) (eq-eqb _ _ (sym c.held_at-m.ensures ∙ w.if-m-ne0.false)) in omega arith
+          ]),
     )
 
 pub returns : goal.returns

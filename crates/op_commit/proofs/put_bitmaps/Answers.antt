@@ -20,20 +20,19 @@ loop-j-init c = (search rules, ap (with_bitmaps (decoded c.args.words.now)) (up_
 
 low : (c : At-After-held_slot-s) → c.held_slot-s.result < 16
 low c =
-    let l = c.before.before.before in
     omega (arith, held-slot-low c.args.z (decoded c.loop-j.words).writers.held c.args.w _ _ c.requires.0 c.held_slot-s.ensures, c.requires.0)
 
 pub held_at-m-requires : goal.held_at-m-requires
-held_at-m-requires c = let h : c.held_slot-s.result < 16 = low c.before.before in search rules
+held_at-m-requires c = let h : c.held_slot-s.result < 16 = low c in search rules
 
 pub offset_bounds-before-s : goal.offset_bounds-before-s
-offset_bounds-before-s c = let h : c.held_slot-s.result < 16 = low c.before.before.before.before in search rules
+offset_bounds-before-s c = let h : c.held_slot-s.result < 16 = low c.before.before in search rules
 
 pub bounds-before-s : goal.bounds-before-s
-bounds-before-s c = let h : c.held_slot-s.result < 16 = low c.before.before.before.before in search rules
+bounds-before-s c = let h : c.held_slot-s.result < 16 = low c.before.before in search rules
 
 pub put_bitmap-requires : goal.put_bitmap-requires
-put_bitmap-requires c = low c.before.before.before.before.before
+put_bitmap-requires c = low c.before.before.before
 
 pub overflow_add-j : goal.overflow_add-j
 overflow_add-j c = omega (arith, c.loop-j-test.true, c.ranges.n)

@@ -20,14 +20,13 @@ loop-j-init c = (search rules, ap (with_lasts (decoded c.args.words.now)) (up_no
 
 low : (c : At-After-held_slot-s) → c.held_slot-s.result < 16
 low c =
-    let l = c.before.before.before in
     omega (arith, held-slot-low c.args.z (decoded c.loop-j.words).writers.held c.args.w _ _ c.requires.0 c.held_slot-s.ensures, c.requires.0)
 
 pub position-requires : goal.position-requires
 position-requires c = (c.requires.0, c.requires.1, omega (arith, c.loop-j-test.true, c.requires.3))
 
 pub put_last-requires : goal.put_last-requires
-put_last-requires c = low c.before.before.before
+put_last-requires c = low c.before.before
 
 pub overflow_add-j : goal.overflow_add-j
 overflow_add-j c = omega (arith, c.loop-j-test.true, c.ranges.n)

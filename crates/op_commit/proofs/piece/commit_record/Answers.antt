@@ -16,7 +16,7 @@ low c =
     omega (arith, held-slot-low c.args.z (decoded c.args.words.now).writers.held c.args.w c.args.j _ c.requires.0 c.held_slot-s.ensures, c.requires.0)
 
 pub slot_at-t-requires : goal.slot_at-t-requires
-slot_at-t-requires c = low c.before
+slot_at-t-requires c = low c
 
 pub held_at-m-requires : goal.held_at-m-requires
 held_at-m-requires c = (c.requires.1, low c.before)
