@@ -1,5 +1,6 @@
 // The state after the last store of a commit, and of a prepare, in words.
 #![tactic(auto)]
+
 pub mod piece;
 
 ghost use Rattle.std.specs.Prelude.{◌≡◌, false, ◌+◌, ◌*◌, ◌<◌, ◌≤◌, length, get_or, set};

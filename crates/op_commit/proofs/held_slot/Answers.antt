@@ -27,7 +27,7 @@ loop-s-preserved c =
       search rules,
       nth-turn (holds c.args.words.now c.args.w) c.args.z.slots _ c.loop-s.s c.loop-s.left c.loop-s.invariant.1 c.if-m-ne0.left
           (elim c.if-m-ne0.branch [
-            then-m-ne0+else-left-eq0 w ↦ let e : one test ≡ 1 = ap (λ (b : Bool). one (not b)) (ne_eqb _ _ (λ k. w.if-m-ne0.true (c.held_at-m.ensures ∙ k))) in omega arith
+            | then-m-ne0+else-left-eq0 w ↦ let e : one test ≡ 1 = ap (λ (b : Bool). one (not b)) (ne_eqb _ _ (λ k. w.if-m-ne0.true (c.held_at-m.ensures ∙ k))) in omega arith
             | else-m-ne0 w ↦ let e : one test ≡ 0 = ap (λ (b : Bool). one (not b)) (eq-eqb _ _ (sym c.held_at-m.ensures ∙ w.if-m-ne0.false)) in omega arith
           ]),
     )
