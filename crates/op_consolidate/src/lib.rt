@@ -1,5 +1,6 @@
 // A consolidation of a state in words: its pieces, and the state after its last store.
 #![tactic(auto)]
+
 ghost use Rattle.std.specs.Prelude.{◌≡◌, ◌*◌, ◌<◌, ◌≤◌, true, length, get_or};
 ghost use Rattle.layout.specs.Layout.{Legal, frames, image_length};
 ghost use Rattle.journal.specs.Slots.{free_slot};

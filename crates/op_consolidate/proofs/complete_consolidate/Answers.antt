@@ -25,9 +25,8 @@ abbrev st : At-Start → State
 st s = decoded s.args.words.now
 
 -- the page's slot as it was found
-slot : (c : At-After-slot_of-s) → let s = c.before.before in c.slot_of-s.result ≡ slot_for (st c.before) c.args.p
+slot : (c : At-After-slot_of-s) → c.slot_of-s.result ≡ slot_for (st c.before) c.args.p
 slot c =
-    let s = c.before.before in
     c.slot_of-s.ensures ∙ ap (λ (z : Sizes). slot_of_page z (st c.before).table.page c.args.p) c.requires.0
 
 low : (c : At-After-slot_of-s) → c.slot_of-s.result < 16
