@@ -1,5 +1,6 @@
 // A wide commit of a state in words: its pieces, and the state after its last store.
 #![tactic(auto)]
+
 ghost use Rattle.std.specs.Prelude.{◌≡◌, ℕ, ◌<◌, ◌≤◌, length, get_or};
 ghost use Rattle.layout.specs.Layout.{Legal, frames as frames_of, image_length};
 ghost use Rattle.entries.specs.Entries.{key_page};
