@@ -1,5 +1,6 @@
 // A checkpoint of a state in words: its pieces, and the state after its last store.
 #![tactic(auto)]
+
 ghost use Rattle.std.specs.Prelude.{◌≡◌, ◌+◌, ◌<◌, ◌≤◌, length, get_or};
 ghost use Rattle.layout.specs.Layout.{Legal, record_word, image_length};
 ghost use Rattle.replay.specs.Table.{no_position};

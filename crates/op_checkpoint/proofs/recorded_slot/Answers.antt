@@ -10,7 +10,7 @@ use Rattle.operations.specs.Operations.{recorded_slots}
 use Rattle.op_checkpoint.proofs.CheckpointPieces.{found, ended}
 use Rattle.op_checkpoint.proofs.recorded_slot.Invariants.{recorded}
 use Rattle.op_checkpoint.proofs.recorded_slot.Goals as goal
-use Rattle.op_checkpoint.proofs.recorded_slot.Goals.{then-q, else-q}
+use Rattle.op_checkpoint.proofs.recorded_slot.Goals.{then-q+else-left-eq0, else-q}
 
 pub loop-s-init : goal.loop-s-init
 unfolding count_below
@@ -28,8 +28,9 @@ loop-s-preserved c =
       search rules,
       nth-turn (recorded c.args.words.now) c.args.z.slots _ c.loop-s.s c.loop-s.left c.loop-s.invariant.1 c.if-q.left
           (elim c.if-q.branch [
-            else-q w ↦ let e : one test ≡ 1 = ap (λ (b : Bool). one (not b)) (ne_eqb _ _ (λ k. w.if-q.false (c.last_at-q.ensures ∙ k))) in omega arith
-          | then-q w ↦ let e : one test ≡ 0 = ap (λ (b : Bool). one (not b)) (eq-eqb _ _ (sym c.last_at-q.ensures ∙ w.if-q.true)) in omega arith ]),
+            | then-q+else-left-eq0 w ↦ let e : one test ≡ 1 = ap (λ (b : Bool). one (not b)) (ne_eqb _ _ (λ k. w.if-q.true (c.last_at-q.ensures ∙ k))) in omega arith
+            | else-q w ↦ let e : one test ≡ 0 = ap (λ (b : Bool). one (not b)) (eq-eqb _ _ (sym c.last_at-q.ensures ∙ w.if-q.false)) in omega arith
+          ]),
     )
 
 pub returns : goal.returns
