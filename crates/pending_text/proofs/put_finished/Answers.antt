@@ -27,4 +27,4 @@ returns c =
     let room = length-blanked line in
     let long = line-long c.args.line in
     rw (ne_eqb _ _ c.if-n-eq0.false, ne_eqb _ _ c.if-n-eq1.false)
-    (put_as (sym (blanked-append line (line_numbers c.args.second))) (put_then first.ensures c.put_line-next.ensures (omega arith)))
+    (put_as (sym (blanked-append line (line_numbers c.args.second))) (put_then first.ensures c.put_line.ensures (omega arith)))

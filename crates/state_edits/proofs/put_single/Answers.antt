@@ -1,3 +1,4 @@
+use borrow.Author.Rules.{rules}
 use Rattle.state_words.specs.Decoded.{decoded}
 use Rattle.state_edits.proofs.Singles.{single-last}
 use Rattle.state_edits.proofs.put_single.Goals as goal
@@ -41,6 +42,5 @@ returns-in-16 c = rw c.in-16.is (rw c.places_in-at.ensures at c.put_wide-in-16.e
 pub returns-in_default : goal.returns-in_default
 unfolding decoded
 returns-in_default c =
-    let r = c.in_default in
-    let e = single-last c.args.f c.requires r.0.0.0.0.0.0.0.0.1 r.0.0.0.0.0.0.0.1 r.0.0.0.0.0.0.1 r.0.0.0.0.0.1 r.0.0.0.0.1 r.0.0.0.1 r.0.0.1 r.0.1 r.1 in
+    let e = single-last c.args.f c.requires (search rules) (search rules) (search rules) (search rules) (search rules) (search rules) (search rules) (search rules) (search rules) in
     rw e c.put_size-in_default.ensures

@@ -18,6 +18,5 @@ returns-in-9 c = rw c.in-9.is (bitmap-put c.args.words.now c.args.i c.requires.2
 pub returns-in_default : goal.returns-in_default
 returns-in_default c =
     let a = c.args in
-    let r = c.in_default in
-    let e : a.f ≡ 10 = omega (arith, c.requires.0, c.requires.1, r.0.0.0.1, r.0.0.1, r.0.1, r.1) in
+    let e : a.f ≡ 10 = omega (arith, c.requires.0, c.requires.1) in
     rw e (last-put a.words.now a.i c.requires.2 a.v)
