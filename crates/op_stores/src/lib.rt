@@ -1,5 +1,6 @@
 // What is pending in a state in words taken further, and an operation started.
 #![tactic(auto)]
+
 mod calling;
 mod ending;
 mod making;
