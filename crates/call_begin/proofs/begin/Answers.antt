@@ -1,0 +1,36 @@
+use mathlib.Core.Bool.{not}
+use mathlib.Core.Path.{refl, sym, ◌∙◌}
+use native.Mathlib.Omega.{arith}
+use Rattle.bounded.proofs.Rows.{row_at}
+use Rattle.bounded.proofs.Tests.{held}
+use Rattle.state.specs.State.{State}
+use Rattle.refinement.specs.Calls.{begin_rows, begin_of, with_writers}
+use Rattle.refinement.proofs.Begun.{opening}
+use Rattle.answers.specs.declared.Answer.TheVariants.{BadState}
+use Rattle.answers.proofs.Answered.{row-known, row-refused}
+use Rattle.state_words.specs.Decoded.{decoded}
+use Rattle.call_begin.proofs.begin.Lts
+use Rattle.call_begin.proofs.begin.Tie
+use Rattle.call_begin.proofs.begin.Reads
+use mathlib.Core.Path.{ap}
+use mathlib.Core.Bool.{not}
+use Rattle.call_begin.proofs.begin.Goals as goal
+
+abbrev At-Start : Type 0
+At-Start = Lts.Start Tie.the-claims Reads.Pre Reads.Post Tie.handed_clauses
+
+abbrev st : At-Start → State
+st c = decoded c.args.words.now
+
+pub returns-then-not-state_ok : goal.returns-then-not-state_ok
+unfolding begin_of
+returns-then-not-state_ok c =
+    let rs = begin_rows (st c.before.before.before.before) c.args.writer in
+    let e = row_at rs 0 (omega arith) tt (sym (ap not c.state_ok.ensures) ∙ (ap not c.if-not-state_ok.true)) in
+ record {
+      state = row-refused (st c.before.before.before.before) (with_writers (st c.before.before.before.before) (opening (st c.before.before.before.before) c.args.writer)) rs 8 e BadState (λ q. omega arith) (row-known rs refl) refl;
+      words = refl;
+    }
+
+pub begin_valid-requires : goal.begin_valid-requires
+begin_valid-requires c = (c.places_in-at.ensures, held _ _ c.state_ok.ensures (ap not c.if-not-state_ok.false))

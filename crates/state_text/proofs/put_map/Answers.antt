@@ -1,0 +1,42 @@
+use Prim.Native.Nat.{◌-◌}
+use mathlib.Core.Path.{◌≡◌, refl, sym, ap}
+use native.Mathlib.Omega.{arith}
+use lib.ListN.{length}
+use Rattle.number_text.proofs.Puts.{each_none, each_at, each_turn, each-end}
+use Rattle.state_text.specs.Numbers.{entry_number}
+use Rattle.state_words.specs.Decoded.{decoded}
+use Rattle.state_text.proofs.put_map.Goals as goal
+
+pub loop-i-init : goal.loop-i-init
+loop-i-init c = let a = c.args in (omega arith, refl, each_none a.out.now a.at (entry_number (decoded a.words.now).map))
+
+pub entry_number-entry-requires : goal.entry_number-entry-requires
+entry_number-entry-requires c = omega (arith, c.requires, c.loop-i-test.true)
+
+pub slice_bounds-put_numbers-end : goal.slice_bounds-put_numbers-end
+slice_bounds-put_numbers-end c = sym (ap length c.entry_number-entry.ensures)
+
+pub put_numbers-next-requires : goal.put_numbers-next-requires
+put_numbers-next-requires c =
+    let l = c.loop-i in
+    let test = c.loop-i-test in
+    let single : length c.entry_number-entry.result ≡ 1 = ap length c.entry_number-entry.ensures in
+    let f = entry_number (decoded c.args.words.now).map in
+    omega (arith, each_at f l.i l.invariant.2 1 (λ j. omega arith))
+
+pub loop-i-preserved : goal.loop-i-preserved
+loop-i-preserved c =
+    let l = c.loop-i in
+    let test = c.loop-i-test in
+    let p = c.put_numbers-next in
+    let f = entry_number (decoded c.args.words.now).map in
+    let here = each_at f l.i l.invariant.2 1 (λ j. omega arith) in
+    (omega arith, omega arith, each_turn f l.i l.invariant.2 (rw c.entry_number-entry.ensures at p.ensures) (omega arith))
+
+pub shape_of-out : goal.shape_of-out
+shape_of-out c = c.loop-i.invariant.1
+
+pub returns : goal.returns
+returns c =
+    let l = c.loop-i in
+    each-end (entry_number (decoded c.args.words.now).map) l.i l.invariant.2 c.args.n l.invariant.0 c.loop-i-test.false
