@@ -1,5 +1,6 @@
 // Format and mount on words, which then are the state that the call finds or makes. A call that is turned back changes no word and no byte.
 #![tactic(auto)]
+
 mod filling;
 
 ghost use Rattle.std.specs.Prelude.{◌≡◌};
