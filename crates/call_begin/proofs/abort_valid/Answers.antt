@@ -38,7 +38,7 @@ pub returns-then-row-ne0 : goal.returns-then-row-ne0
 unfolding abort_of
 returns-then-row-ne0 c =
     let rs = abort_rows (st c.before.before.before) c.args.writer in
- record {
+    record {
       state = row-refused (st c.before.before.before) (aborting (st c.before.before.before) c.args.writer) rs _ c.abort_row-row.ensures _ c.if-row-ne0.true (row-known rs refl) c.answer_of.ensures;
       words = λ n. refl;
     }
@@ -53,7 +53,7 @@ let_go-requires c =
 pub returns-then-at-writer : goal.returns-then-at-writer
 unfolding abort_of
 returns-then-at-writer c =
- record {
+    record {
       state = row-taken (st c.before.before.before.before.before.before.before.before) (aborting (st c.before.before.before.before.before.before.before.before) c.args.writer) (abort_rows (st c.before.before.before.before.before.before.before.before) c.args.writer) _ c.abort_row-row.ensures _ c.if-row-ne0.false
           (narrow-aborted (st c.before.before.before.before.before.before.before.before) _ _ _ c.args.writer c.requires.0 c.put_open.ensures.state c.let_go.ensures (λ q. c.if-at-writer.true (wide c.before.before.before.before.before.before.before ∙ q)));
       words = λ n. absurd (n refl);
@@ -62,7 +62,7 @@ returns-then-at-writer c =
 pub returns : goal.returns
 unfolding abort_of
 returns c =
- record {
+    record {
       state = row-taken (st c.before.before.before.before.before.before.before.before.before.before) (aborting (st c.before.before.before.before.before.before.before.before.before.before) c.args.writer) (abort_rows (st c.before.before.before.before.before.before.before.before.before.before) c.args.writer) _ c.abort_row-row.ensures _ c.if-row-ne0.false
           (wide-aborted (st c.before.before.before.before.before.before.before.before.before.before) _ _ _ c.args.writer c.requires.0 c.put_open.ensures.state c.let_go.ensures _ (sym (wide c.before.before.before.before.before.before.before.before.before) ∙ c.if-at-writer.false) c.put_no_wide.ensures);
       words = λ n. absurd (n refl);
