@@ -1,5 +1,6 @@
 // L, Y and U: what later calls are lent, a byte of the buffer, a word of the buffer.
 #![tactic(auto)]
+
 ghost use Rattle.std.specs.Prelude.{◌≡◌, length};
 ghost use Rattle.buffer_edits.specs.Edits.{lend_said, lent_by, byte_said, byte_set, word_said, word_set};
 

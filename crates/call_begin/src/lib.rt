@@ -1,5 +1,6 @@
 // Begin, of a wide transaction too, and abort, on a state in words, lent whole. A call that is turned back changes no word.
 #![tactic(auto)]
+
 ghost use Rattle.std.specs.Prelude.{cond, true, ◌≡◌, ◌+◌, eqb, set};
 ghost use Rattle.bounded.specs.Rows.{refusal};
 ghost use Rattle.validity.specs.Validity.{state_ok};

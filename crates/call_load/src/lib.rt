@@ -1,5 +1,6 @@
 // Load on a state in words: a venue's own moduli (document 02, L10). Nothing is stored and no word changes.
 #![tactic(auto)]
+
 ghost use Rattle.std.specs.Prelude.{◌≡◌, ℕ, ◌<◌, ◌≤◌, length, replicate, true};
 ghost use Rattle.bounded.specs.Below.{some_below};
 ghost use Rattle.layout.specs.Layout.{Legal, frames as frames_of, image_length};

@@ -1,5 +1,6 @@
 // Read on a state in words: 64 bytes into the lent buffer's start. No word changes.
 #![tactic(auto)]
+
 ghost use Rattle.std.specs.Prelude.{◌≡◌};
 ghost use Rattle.answers.specs.Answers.{number_of, stores_of};
 ghost use Rattle.refinement.specs.Calls.{read_row, read_bytes};

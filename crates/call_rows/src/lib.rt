@@ -1,5 +1,6 @@
 // The rows of the calls that ask for an operation, of a state in words and an image of n bytes.
 #![tactic(auto)]
+
 pub mod asking;
 mod freeing;
 

@@ -1,13 +1,12 @@
 -- The line that a writer sees, by whether it has an entry. e is the entry that the code found.
 use Prim.Native.Nat.{ℕ, ◌<◌}
-use mathlib.Core.Bool.{Bool, true, false, ◌&&◌}
 use mathlib.Core.List.{List}
-use mathlib.Core.Path.{◌≡◌, refl}
+use mathlib.Core.Path.{◌≡◌}
 use native.Mathlib.Omega.{arith}
 use borrow.Author.Tests.{lt-ltb}
 use Rattle.bounded.proofs.Tests.{case_on}
 use Rattle.state.specs.State.{State}
-use Rattle.state.specs.Wide.{is_wide, entry_for, has_entry}
+use Rattle.state.specs.Wide.{is_wide, entry_for}
 use Rattle.refinement.specs.Wide.{entry_bytes}
 use Rattle.refinement.specs.Calls.{seen_line}
 use Rattle.entry_lines.specs.Own.{own_entry}

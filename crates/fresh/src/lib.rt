@@ -1,5 +1,6 @@
 // The fresh image, by its words: what format stores. It stores nothing itself.
 #![tactic(auto)]
+
 ghost use Rattle.std.specs.Prelude.{◌≡◌, ◌<◌, get_or};
 ghost use Rattle.layout.specs.Layout.{Legal};
 ghost use Rattle.fresh.specs.Fresh.{fresh_header, fresh_word, fresh_table, format_row};

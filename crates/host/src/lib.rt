@@ -1,5 +1,6 @@
 // Begin, begin wide and abort on the host's own state record: by value, and changed directly.
 #![tactic(auto)]
+
 mod record;
 
 ghost use Rattle.refinement.specs.Calls.{begin_of, begin_wide_of, abort_of};

@@ -1,5 +1,6 @@
 // Words of the lines of the frames. A reader is passed one frame's 4,096 bytes, cut out of the image.
 #![tactic(auto)]
+
 ghost use Rattle.std.specs.Prelude.{◌≡◌, ◌⊎◌, ◌+◌, ◌*◌, ◌≤◌, ◌<◌, length};
 ghost use Rattle.words.specs.Words.{word_at, word, part};
 ghost use Rattle.layout.specs.Layout.{Legal, frames, line_word, image_length};

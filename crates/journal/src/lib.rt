@@ -1,5 +1,6 @@
 // The journal: slots, records and live positions.
 #![tactic(auto)]
+
 pub mod records;
 pub mod slots;
 

@@ -1,5 +1,6 @@
 // Where each word of an image lies (document 01, "The image"), in words from its start.
 #![tactic(auto)]
+
 ghost use Rattle.std.specs.Prelude.{◌≡◌, ◌+◌, ◌%◌, ◌<◌, ◌≤◌};
 ghost use Rattle.layout.specs.Layout.{sizes_ok, Legal, frames, layout_of, page_word, slot_word, place_of, record_word, padding_word, frame_word, line_word};
 ghost use Rattle.layout.specs.Layout.{entry_word, image_length};

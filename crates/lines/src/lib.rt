@@ -1,5 +1,6 @@
 // Whole lines of the frames: read, and merged with data.
 #![tactic(auto)]
+
 ghost use Rattle.std.specs.Prelude.{◌≡◌, ◌+◌, ◌≤◌, ◌<◌, not, eqb, length, get_or};
 ghost use Rattle.words.specs.Words.{part, over};
 ghost use Rattle.layout.specs.Layout.{Legal, frames, image_length};

@@ -1,5 +1,6 @@
 // Sets of the 64 lines of a page, as masks (document 01: "Held and committed lines are sets kept as 64-bit masks").
 #![tactic(auto)]
+
 ghost use Rattle.std.specs.Prelude.{◌≡◌, ◌<◌, get_or};
 ghost use Rattle.masks.specs.Lines.{in_mask, with_line, exclusive_or, disjoint, others, lines_in, lines_not_in, count_lines};
 

@@ -1,5 +1,6 @@
 // Meters and their events: the moduli, the events that there are, and a meter's new number.
 #![tactic(auto)]
+
 ghost use Rattle.std.specs.Prelude.{◌≡◌, true, false, ◌+◌, ◌^◌, ◌<◌, ◌≤◌};
 ghost use Rattle.meters.specs.Meters.{modulus_bad, moduli_ok, fixed_moduli, adds, modulus_of, event_known, moves_credit, own_meter, first_meter, event_needs};
 ghost use Rattle.meters.specs.Meters.{rolled, credit_after, first_number, credit_bad, amount_bad};

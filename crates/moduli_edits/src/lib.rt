@@ -1,5 +1,6 @@
 // m and k: a modulus of the table, and how many of its first ones events are lent.
 #![tactic(auto)]
+
 ghost use Rattle.std.specs.Prelude.{◌≡◌};
 ghost use Rattle.moduli_edits.specs.Edits.{modulus_said, modulus_set, count_said, count_set};
 

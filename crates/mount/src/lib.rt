@@ -1,5 +1,6 @@
 // What a mount finds on any bytes.
 #![tactic(auto)]
+
 ghost use Rattle.std.specs.Prelude.{◌≡◌, ◌<◌, ◌≤◌, length};
 ghost use Rattle.words.specs.Words.{word};
 ghost use Rattle.mount.specs.Mount.{wide_word, sizes_from, turned_back, mount_of, judged};

@@ -1,5 +1,6 @@
 // The frames that spares and pages name (row 7).
 #![tactic(auto)]
+
 ghost use Rattle.std.specs.Prelude.{◌≡◌, true, ◌≤◌, length, get_or};
 ghost use Rattle.bounded.specs.Tab.{tab};
 ghost use Rattle.bounded.specs.Count.{each_once};

@@ -1,6 +1,7 @@
 // Whether numbers name each number below a bound once: the frames that spares and pages name, of rows 7 and 8. As many numbers as the bound says name each
 // once if and only if they leave none out.
 #![tactic(auto)]
+
 ghost use Rattle.std.specs.Prelude.{◌≡◌, ◌++◌, ◌+◌, ◌-◌, ◌^◌, ◌<◌, ◌≤◌, eqb, ltb, length, get_or, false, ◌||◌};
 ghost use Rattle.bounded.specs.Below.{all_below};
 ghost use Rattle.bounded.specs.Count.{each_once};

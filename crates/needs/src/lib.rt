@@ -1,5 +1,6 @@
 // How many stores each operation needs.
 #![tactic(auto)]
+
 ghost use Rattle.std.specs.Prelude.{◌≡◌, ◌≤◌};
 ghost use Rattle.layout.specs.Layout.{Legal};
 ghost use Rattle.operations.specs.Operations.{commit_needs, prepare_needs, confirm_needs, copy_needs, copy_count, consolidate_needs, format_needs};

@@ -17,7 +17,7 @@ use Rattle.replay.specs.Table.{slot_in, replaced, replay}
 use Rattle.state.specs.State.{State}
 use Rattle.state.specs.declared.Pending.{Pending}
 use Rattle.state.specs.Held.{no_writer, held_at, held_slots}
-use Rattle.refinement.specs.Commit.{commit_slots, commit_record, commit_head, bitmaps_after, lasts_after, commit_table, closed_writer, commit_done, commit_record_of}
+use Rattle.refinement.specs.Commit.{commit_slots, commit_record, commit_head, bitmaps_after, lasts_after, closed_writer, commit_done, commit_record_of}
 use Rattle.refinement.specs.Settled.{no_pending, settled, with_prepared}
 
 -- the record that the code found

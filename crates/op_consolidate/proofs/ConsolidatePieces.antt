@@ -2,7 +2,7 @@
 use Prim.Native.Nat.{ℕ, ◌+◌, ◌-◌, ◌*◌, ◌/◌, ◌%◌, ◌<◌, ◌≤◌}
 use mathlib.Core.Bool.{true, false}
 use mathlib.Core.List.{List}
-use mathlib.Core.Path.{◌≡◌, refl, sym, ap, ◌∙◌}
+use mathlib.Core.Path.{◌≡◌, sym, ap, ◌∙◌}
 use native.Mathlib.Omega.{arith}
 use lib.Dec.{ltb, leb, eqb}
 use lib.ListN.{length, get_or, set}
@@ -16,7 +16,7 @@ use Rattle.layout.proofs.LayoutLaws.{record-end, line-apart}
 use Rattle.image.proofs.LineLaws.{frame-line}
 use Rattle.journal.specs.declared.Slot.{Slot}
 use Rattle.journal.specs.declared.Record.{Record}
-use Rattle.journal.specs.Records.{position, word_of_record}
+use Rattle.journal.specs.Records.{position}
 use Rattle.journal.specs.Slots.{free_slot}
 use Rattle.journal.proofs.SlotWords.{Owning}
 use Rattle.replay.specs.declared.Table.{Table}

@@ -1,5 +1,6 @@
 // A format (document 02, L6): its pieces, and the state after its last store.
 #![tactic(auto)]
+
 ghost use Rattle.std.specs.Prelude.{◌≡◌, List, ℕ, ◌+◌, ◌<◌};
 ghost use Rattle.bounded.specs.Tab.{tab};
 ghost use Rattle.layout.specs.Layout.{Legal, image_length};

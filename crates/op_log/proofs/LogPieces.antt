@@ -1,11 +1,11 @@
 -- The piece of a wide write that store i lies in, and what it leaves: e is the line's entry and a that entry's first word, as the code found them.
 use Prim.Native.Nat.{ℕ, ◌+◌, ◌-◌, ◌*◌, ◌<◌, ◌≤◌}
-use mathlib.Core.Bool.{Bool, true, false, cond}
+use mathlib.Core.Bool.{true, false, cond}
 use mathlib.Core.List.{List}
-use mathlib.Core.Path.{◌≡◌, refl, sym, ap, ap₂, ◌∙◌}
+use mathlib.Core.Path.{◌≡◌, ap, ap₂, ◌∙◌}
 use native.Mathlib.Omega.{arith}
 use lib.Dec.{leb, ltb, eqb}
-use lib.ListN.{get_or, set}
+use lib.ListN.{set}
 use borrow.Author.Tests.{ne_eqb, eq-eqb, ltb-true, ltb-false, lt-leb, le-leb}
 use Rattle.bounded.specs.Below.{one}
 use Rattle.bounded.proofs.Tests.{case_on}

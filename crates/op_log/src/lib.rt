@@ -1,5 +1,6 @@
 // A wide write of a state in words: its pieces, and the state after its last store.
 #![tactic(auto)]
+
 ghost use Rattle.std.specs.Prelude.{◌≡◌, false, List, ℕ, ◌<◌, ◌≤◌};
 ghost use Rattle.layout.specs.Layout.{Legal, image_length};
 ghost use Rattle.state.specs.Wide.{entry_for};

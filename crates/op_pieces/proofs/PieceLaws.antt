@@ -6,7 +6,7 @@ use native.Mathlib.Omega.{arith}
 use lib.ListN.{length, get_or}
 use Rattle.bounded.specs.Below.{up_to}
 use Rattle.bounded.proofs.Tab.{get_or-tab}
-use Rattle.words.specs.Words.{part, word_at, word, words_at}
+use Rattle.words.specs.Words.{part, word_at, word}
 use Rattle.words.proofs.WordLaws.{word-part}
 use Rattle.words.proofs.Runs.{words-tab}
 use Rattle.journal.specs.declared.Record.{Record}

@@ -1,22 +1,18 @@
 -- What a started call is: with `Asked` the asking itself; always two calls of demand 3's lists.
-use Prim.Native.Nat.{ℕ, ◌≤◌, min}
-use mathlib.Core.Bool.{true, false}
+use Prim.Native.Nat.{ℕ, min}
 use mathlib.Core.List.{List}
-use mathlib.Core.Path.{◌≡◌, refl, sym, ap, ap₂, ◌∙◌}
+use mathlib.Core.Path.{◌≡◌, ap, ap₂}
 use native.Mathlib.Omega.{arith}
 use lib.Dec.{eqb}
 use Rattle.bounded.proofs.Tests.{case_on}
 use Rattle.state.specs.State.{State}
-use Rattle.refinement.specs.Outcome.{Outcome, answered}
-use Rattle.refinement.specs.Stores.{stepped_by, left}
+use Rattle.refinement.specs.Outcome.{Outcome}
+use Rattle.refinement.specs.Stores.{left}
 use Rattle.refinement.specs.Calls.{step_row, world_of, run_of, run_bytes}
-use Rattle.refinement.specs.Run.{run, exec}
+use Rattle.refinement.specs.Run.{exec}
 use Rattle.refinement.proofs.Steps.{run_none}
-use Rattle.answers.specs.declared.Answer.{Answer}
-use Rattle.answers.specs.Answers.{number_of, stores_of}
-use Rattle.op_stores.specs.declared.Until.{Until}
-use Rattle.op_stores.specs.declared.Until.TheVariants.{Asked, Fence, End}
-use Rattle.op_stores.specs.Started.{budget, started_of, started_bytes, started_run, Started, InLists}
+use Rattle.op_stores.specs.declared.Until.TheVariants.{Asked}
+use Rattle.op_stores.specs.Started.{started_of, started_bytes, InLists}
 
 -- a run of no store changes nothing, whether it is taken or not
 module _ (st : State) (img : List ℕ) where

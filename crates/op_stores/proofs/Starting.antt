@@ -1,15 +1,15 @@
 -- An operation started. The state with it pending is valid, and its run is not turned back; so what a call came to is what its definition says.
-use Prim.Native.Nat.{ℕ, ◌+◌, ◌-◌, ◌<◌, ◌≤◌, min}
-use mathlib.Core.Bool.{Bool, true, false, not, cond}
-use mathlib.Core.List.{List, ◌++◌}
-use mathlib.Core.Path.{◌≡◌, refl, sym, ap, ap₂, ◌∙◌, subst}
+use Prim.Native.Nat.{ℕ, ◌-◌, ◌<◌, ◌≤◌, min}
+use mathlib.Core.Bool.{true, false, not}
+use mathlib.Core.List.{List}
+use mathlib.Core.Path.{◌≡◌, sym, ap, ap₂, ◌∙◌}
 use native.Mathlib.Omega.{arith}
 use lib.Dec.{eqb}
 use lib.ListN.{length, replicate}
-use borrow.Author.Tests.{eqb-true, ne_eqb, le-ltb}
+use borrow.Author.Tests.{ne_eqb, le-ltb}
 use Rattle.bounded.specs.Rows.{Row, refusal}
 use Rattle.bounded.proofs.Rows.{row-none}
-use Rattle.bounded.proofs.Tests.{case_on, row_keeps}
+use Rattle.bounded.proofs.Tests.{row_keeps}
 use Rattle.layout.specs.declared.Sizes.{Sizes}
 use Rattle.layout.specs.Layout.{Legal, image_length}
 use Rattle.state.specs.State.{State}
@@ -17,29 +17,27 @@ use Rattle.state.specs.declared.Places.{Places}
 use Rattle.state.specs.declared.Pending.{Pending}
 use Rattle.state.specs.declared.Op.{Op}
 use Rattle.state.specs.declared.Op.TheVariants.{Idle, Write, Commit, Consolidate, Checkpoint, Event, Prepare, Confirm, Log, Copy, Format}
-use Rattle.operations.specs.Operations.{Asked as AskedOf, is_idle, op_rows, needs}
+use Rattle.operations.specs.Operations.{Asked as AskedOf, needs}
 use Rattle.operations.proofs.Taken.{op-asked}
-use Rattle.validity.specs.Validity.{state_ok, op_fits}
+use Rattle.validity.specs.Validity.{state_ok}
 use Rattle.refinement.specs.Settled.{with_lines}
-use Rattle.refinement.specs.Stores.{completed, stores_made, state_after, stepped_by, left}
+use Rattle.refinement.specs.Stores.{completed, stores_made, state_after, left}
 use Rattle.refinement.specs.Outcome.{Outcome, answered}
-use Rattle.refinement.specs.Calls.{with_pending, world_of, asked, quiet_rows, step_rows, step_row, run_of, run_bytes}
-use Rattle.refinement.specs.Run.{run, exec}
+use Rattle.refinement.specs.Calls.{with_pending, world_of, asked, step_rows, step_row, run_of, run_bytes}
 use Rattle.refinement.proofs.Going.{ranges-of, entries-of}
 use Rattle.refinement.proofs.LinesAsked.{needs-lines, lines-valid}
-use Rattle.refinement.proofs.Steps.{run_none, run-image, run-after}
+use Rattle.refinement.proofs.Steps.{run-image, run-after}
 use Rattle.answers.specs.declared.Answer.{Answer}
 use Rattle.answers.specs.declared.Answer.TheVariants.{Taken}
 use Rattle.answers.specs.Answers.{as_answer, is_answer}
 use Rattle.answers.proofs.Answered.{refused-known}
-use Rattle.state_words.specs.Decoded.{places_of}
 use Rattle.state_pending.specs.Put.{with_pending as put}
 use Rattle.op_rows.specs.Seen.{seen}
 use Rattle.op_writer.specs.Served.{Served}
 use Rattle.op_stores.specs.declared.Until.{Until}
 use Rattle.op_stores.specs.declared.Until.TheVariants.{Asked, Fence, End}
 use Rattle.op_stores.specs.Asks.{Asks}
-use Rattle.op_stores.specs.Started.{fence_in, budget_in, budget, started_of, started_bytes, started_run, Started, InLists}
+use Rattle.op_stores.specs.Started.{fence_in, budget_in, budget, Started}
 
 -- ---- how far
 

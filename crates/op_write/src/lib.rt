@@ -1,5 +1,6 @@
 // A write on a state in words: its piece, and the state after its last store.
 #![tactic(auto)]
+
 ghost use Rattle.std.specs.Prelude.{◌≡◌, true, false, List, ℕ, ◌+◌, ◌*◌, ◌<◌, ◌≤◌};
 ghost use Rattle.layout.specs.Layout.{Legal, line_word, image_length};
 ghost use Rattle.replay.specs.Table.{slots_shaped};

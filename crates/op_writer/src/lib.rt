@@ -1,5 +1,6 @@
 // The one function that stores an operation's words.
 #![tactic(auto)]
+
 ghost use Rattle.std.specs.Prelude.{◌≡◌, ◌+◌, ◌*◌, ◌<◌, ◌≤◌, length, get_or};
 ghost use Rattle.bounded.specs.Below.{up_to};
 ghost use Rattle.words.specs.Words.{put_word};

@@ -1,5 +1,6 @@
 // A checksum of the pages, line by line through read.
 #![tactic(auto)]
+
 ghost use Rattle.std.specs.Prelude.{◌≡◌, ◌+◌, ◌*◌, ◌%◌};
 
 use state_words::Words;

@@ -1,6 +1,7 @@
 // O and Q: the pending operation, and a byte of its finished lines. Unlike `state_pending::put_pending`, O puts any numbers,
 // over any that are there.
 #![tactic(auto)]
+
 ghost use Rattle.std.specs.Prelude.{◌≡◌, true, false, ◌+◌, ◌<◌, ◌≤◌, get_or, set, length};
 ghost use Rattle.words.specs.Words.{le_of, bytes_of};
 ghost use Rattle.operations.specs.Operations.{is_idle};

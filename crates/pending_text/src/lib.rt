@@ -1,5 +1,6 @@
 // The numbers of the pending operation, each after a blank.
 #![tactic(auto)]
+
 ghost use Rattle.std.specs.Prelude.{◌≡◌, [], ◌∷◌, ◌+◌, ◌<◌, ◌≤◌, length};
 ghost use Rattle.words.specs.Words.{bytes_of};
 ghost use Rattle.number_text.specs.Text.{Put, blanked};

@@ -1,5 +1,6 @@
 // Recall, for a host screen written in C: it mounts, copies one committed line, which is that of its entry where there is one, and forgets.
 #![tactic(auto)]
+
 ghost use Rattle.std.specs.Prelude.{◌≡◌, ◌<◌, ◌≤◌, length};
 ghost use Rattle.layout.specs.Layout.{Legal, image_length};
 ghost use Rattle.words.specs.Words.{word};

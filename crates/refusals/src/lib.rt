@@ -1,6 +1,7 @@
 // What a refused call met: what it was given and, for 14 and 18, the lowest writer in its way. A refused call leaves the
 // state as it was, so this is read from the state that the call was given.
 #![tactic(auto)]
+
 ghost use Rattle.std.specs.Prelude.{◌≡◌, cond, ◌<◌};
 ghost use Rattle.bounded.specs.Below.{first_below};
 ghost use Rattle.state_words.specs.Decoded.{decoded};

@@ -1,5 +1,6 @@
 // Runs of words: one value in each, a copy, the eight of a line.
 #![tactic(auto)]
+
 ghost use Rattle.std.specs.Prelude.{◌≡◌, ◌+◌, ◌*◌, ◌≤◌, length, replicate};
 ghost use Rattle.words.specs.Words.{word, put_words, words_at, part, over};
 

@@ -1,5 +1,6 @@
 // Operations, and the numbers of a state that go by value.
 #![tactic(auto)]
+
 pub mod held;
 pub mod slots;
 

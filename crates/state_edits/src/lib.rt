@@ -1,5 +1,6 @@
 // T: a number of the state becomes v, by the field's number f and the place i.
 #![tactic(auto)]
+
 ghost use Rattle.std.specs.Prelude.{◌≡◌, ◌<◌, ◌≤◌, true};
 ghost use Rattle.state_words.specs.Decoded.{decoded, with_table};
 ghost use Rattle.workbench.specs.Turns.{turn_at};

@@ -1,19 +1,18 @@
 -- The state after the words of what is pending are put.
-use Prim.Native.Nat.{ℕ, zero, suc, ◌+◌, ◌<◌, ◌≤◌}
-use mathlib.Core.Bool.{Bool, true, false, not, cond}
+use Prim.Native.Nat.{ℕ, ◌+◌, ◌<◌, ◌≤◌}
+use mathlib.Core.Bool.{true, false, cond}
 use mathlib.Core.List.{List, [], ◌∷◌}
 use mathlib.Core.Path.{◌≡◌, refl, sym, ap, ◌∙◌}
 use native.Mathlib.Omega.{arith}
-use borrow.Author.Tests.{ne_eqb, eq-eqb, eqb-true}
+use borrow.Author.Tests.{eq-eqb, eqb-true}
 use lib.Dec.{eqb}
-use lib.ListN.{length, get_or, set, take, drop, length-set, length-drop}
+use lib.ListN.{length, get_or, set, drop, length-set, length-drop}
 use lib.Seq.{length-take-le}
 use Rattle.bounded.proofs.Tests.{case_on, contradicts}
-use Rattle.state.specs.State.{State}
 use Rattle.state.specs.declared.Pending.{Pending}
 use Rattle.state.specs.declared.Op.{Op}
 use Rattle.operations.specs.Operations.{is_idle}
-use Rattle.state_words.specs.Decoded.{start, size, part, from_parts, decoded, op_by}
+use Rattle.state_words.specs.Decoded.{start, size, part, decoded}
 use Rattle.state_words.proofs.DecodedLaws.{part-put, from-ext}
 use Rattle.state_words.proofs.PendingLaws.{op-idle}
 use Rattle.state_pending.specs.Put.{eight, op_in, with_pending}

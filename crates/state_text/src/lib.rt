@@ -1,5 +1,6 @@
 // The state's numbers, parted by blanks, read from its words.
 #![tactic(auto)]
+
 ghost use Rattle.std.specs.Prelude.{◌≡◌, ◌+◌, ◌*◌, ◌<◌, ◌≤◌, length};
 ghost use Rattle.number_text.specs.Text.{Put, blanked, each};
 ghost use Rattle.words.specs.Words.{part};

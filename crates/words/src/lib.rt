@@ -1,5 +1,6 @@
 // Words of 8 bytes, little-endian.
 #![tactic(auto)]
+
 ghost use Rattle.std.specs.Prelude.{◌≡◌, ◌+◌, ◌*◌, ◌≤◌, length};
 ghost use Rattle.words.specs.Words.{le_of, bytes_of, word_at, put_word};
 

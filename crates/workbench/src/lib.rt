@@ -1,5 +1,6 @@
 // What probe's lines print. The state that they work on is lent as words; what a line leaves of it stands in each line's contract.
 #![tactic(auto)]
+
 pub mod finished;
 pub mod moduli;
 pub mod starting;

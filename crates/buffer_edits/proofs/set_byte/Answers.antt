@@ -11,12 +11,12 @@ bounds-buffer-at c = (byte-formed _ c.args.line c.if-line-at.true).0
 
 pub returns-then-line-at : goal.returns-then-line-at
 returns-then-line-at c = rw c.if-line-at.true record {
-      said = c.edited.ensures;
-      bytes = refl;
-    }
+  said = c.edited.ensures;
+  bytes = refl;
+}
 
 pub returns : goal.returns
 returns c = rw c.if-line-at.false record {
-      said = refl;
-      bytes = refl;
-    }
+  said = refl;
+  bytes = refl;
+}

@@ -9,12 +9,12 @@ store_word-requires c = omega (arith, word-formed (length c.args.buffer.now) c.a
 
 pub returns-then-line-i : goal.returns-then-line-i
 returns-then-line-i c = rw c.if-line-i.true record {
-      said = c.edited.ensures;
-      bytes = c.store_word.ensures;
-    }
+  said = c.edited.ensures;
+  bytes = c.store_word.ensures;
+}
 
 pub returns : goal.returns
 returns c = rw c.if-line-i.false record {
-      said = refl;
-      bytes = refl;
-    }
+  said = refl;
+  bytes = refl;
+}

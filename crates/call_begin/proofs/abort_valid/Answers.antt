@@ -38,7 +38,7 @@ pub returns-then-row-ne0 : goal.returns-then-row-ne0
 unfolding abort_of
 returns-then-row-ne0 c =
     let rs = abort_rows (st c.before.before.before) c.args.writer in
- record {
+    record {
       state = row-refused (st c.before.before.before) (aborting (st c.before.before.before) c.args.writer) rs _ c.abort_row-row.ensures _ c.if-row-ne0.true (row-known rs refl) c.answer_of.ensures;
       words = λ n. refl;
     }
@@ -48,22 +48,22 @@ put_open-requires c = (may c.before).writer-low
 
 pub let_go-requires : goal.let_go-requires
 let_go-requires c =
-    rw c.pre.0 ((ranges-of (st c.before.before.before.before.before) (may c.before.before.before).is-valid).legal, (may c.before.before.before).writer-low)
+    rw c.requires.0 ((ranges-of (st c.before.before.before.before.before) (may c.before.before.before).is-valid).legal, (may c.before.before.before).writer-low)
 
 pub returns-then-at-writer : goal.returns-then-at-writer
 unfolding abort_of
 returns-then-at-writer c =
- record {
+    record {
       state = row-taken (st c.before.before.before.before.before.before.before.before) (aborting (st c.before.before.before.before.before.before.before.before) c.args.writer) (abort_rows (st c.before.before.before.before.before.before.before.before) c.args.writer) _ c.abort_row-row.ensures _ c.if-row-ne0.false
-          (narrow-aborted (st c.before.before.before.before.before.before.before.before) _ _ _ c.args.writer c.pre.0 c.put_open.ensures.state c.let_go.ensures (λ q. c.if-at-writer.true (wide c.before.before.before.before.before.before.before ∙ q)));
+          (narrow-aborted (st c.before.before.before.before.before.before.before.before) _ _ _ c.args.writer c.requires.0 c.put_open.ensures.state c.let_go.ensures (λ q. c.if-at-writer.true (wide c.before.before.before.before.before.before.before ∙ q)));
       words = λ n. absurd (n refl);
     }
 
 pub returns : goal.returns
 unfolding abort_of
 returns c =
- record {
+    record {
       state = row-taken (st c.before.before.before.before.before.before.before.before.before.before) (aborting (st c.before.before.before.before.before.before.before.before.before.before) c.args.writer) (abort_rows (st c.before.before.before.before.before.before.before.before.before.before) c.args.writer) _ c.abort_row-row.ensures _ c.if-row-ne0.false
-          (wide-aborted (st c.before.before.before.before.before.before.before.before.before.before) _ _ _ c.args.writer c.pre.0 c.put_open.ensures.state c.let_go.ensures _ (sym (wide c.before.before.before.before.before.before.before.before.before) ∙ c.if-at-writer.false) c.put_no_wide.ensures);
+          (wide-aborted (st c.before.before.before.before.before.before.before.before.before.before) _ _ _ c.args.writer c.requires.0 c.put_open.ensures.state c.let_go.ensures _ (sym (wide c.before.before.before.before.before.before.before.before.before) ∙ c.if-at-writer.false) c.put_no_wide.ensures);
       words = λ n. absurd (n refl);
     }

@@ -27,7 +27,7 @@ unfolding begin_of
 returns-then-not-state_ok c =
     let rs = begin_rows (st c.before.before.before.before) c.args.writer in
     let e = row_at rs 0 (omega arith) tt (sym (ap not c.state_ok.ensures) ∙ (ap not c.if-not-state_ok.true)) in
- record {
+    record {
       state = row-refused (st c.before.before.before.before) (with_writers (st c.before.before.before.before) (opening (st c.before.before.before.before) c.args.writer)) rs 8 e BadState (λ q. omega arith) (row-known rs refl) refl;
       words = refl;
     }

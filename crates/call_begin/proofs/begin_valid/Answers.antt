@@ -25,7 +25,7 @@ returns-then-row-ne0 c =
     let rs = begin_rows (st c.before.before.before) c.args.writer in
     let after = with_writers (st c.before.before.before) (opening (st c.before.before.before) c.args.writer) in
     let e = row-refused (st c.before.before.before) after rs _ c.begin_row-row.ensures _ c.if-row-ne0.true (row-known rs refl) c.answer_of.ensures in
- record {
+    record {
       state = e;
       words = kept-words c.answer_of.result (st c.before.before.before) after rs _ _ (set c.args.words.now (10 + c.args.writer) 1) c.begin_row-row.ensures c.if-row-ne0.true e;
     }
@@ -37,7 +37,7 @@ put_open-requires c =
 pub returns : goal.returns
 unfolding begin_of one
 returns c =
- record {
+    record {
       state = row-taken (st c.before.before.before.before) (with_writers (st c.before.before.before.before) (opening (st c.before.before.before.before) c.args.writer)) (begin_rows (st c.before.before.before.before) c.args.writer) _ c.begin_row-row.ensures _ c.if-row-ne0.false c.put_open.ensures.state;
       words = c.put_open.ensures.words;
     }

@@ -20,7 +20,7 @@ pub returns-then-row-ne0 : goal.returns-then-row-ne0
 unfolding begin_wide_of
 returns-then-row-ne0 c =
     let rs = begin_wide_rows (st c.before.before.before) c.args.writer in
- record {
+    record {
       state = row-refused (st c.before.before.before) (beginning_wide (st c.before.before.before) c.args.writer) rs _ c.wide_row-row.ensures _ c.if-row-ne0.true (row-known rs refl) c.answer_of.ensures;
       words = λ n. refl;
     }
@@ -32,7 +32,7 @@ put_open-requires c =
 pub returns : goal.returns
 unfolding begin_wide_of
 returns c =
- record {
+    record {
       state = row-taken (st c.before.before.before.before.before.before.before.before) (beginning_wide (st c.before.before.before.before.before.before.before.before) c.args.writer) (begin_wide_rows (st c.before.before.before.before.before.before.before.before) c.args.writer) _ c.wide_row-row.ensures _ c.if-row-ne0.false
           (wide-begun (st c.before.before.before.before.before.before.before.before) _ _ _ c.args.writer c.put_open.ensures.state c.put_no_wide.ensures c.put_wide.ensures);
       words = λ c. absurd (c refl);

@@ -114,15 +114,15 @@ returns-then-row-ne0 c =
     let a = c.args in
     let first = quiet_rows (st c.before.before.before.before.before.before.before.before) (length a.image.now) in
     let both = read-refused (st c.before.before.before.before.before.before.before.before) a.image.now a.writer a.page a.line a.target.now c.answer_of.result _ c.answer_of.ensures
-        (rw c.quiet_row-row.ensures (row-known first refl)) c.if-row-ne0.true
-        (rows-first first ((bad c.before.before.before.before.before.before.before.before, 11) ∷ []) _ c.quiet_row-row.ensures c.if-row-ne0.true) in record { number = both.0; bytes = both.1 }
+    (rw c.quiet_row-row.ensures (row-known first refl)) c.if-row-ne0.true
+    (rows-first first ((bad c.before.before.before.before.before.before.before.before, 11) ∷ []) _ c.quiet_row-row.ensures c.if-row-ne0.true) in record { number = both.0; bytes = both.1 }
 
 pub returns-then-writer-page : goal.returns-then-writer-page
 returns-then-writer-page c =
     let a = c.args in
     let q = (quiet1 c.before.before.before).past in
     let both = read-refused (st c.before.before.before.before.before.before.before.before.before) a.image.now a.writer a.page a.line a.target.now _ 11 refl refl (λ z. omega arith)
-        (row_at (rows c.before.before.before.before.before.before.before.before.before) 3 (omega arith) (q.0, (q.1.0, (q.1.1.0, tt))) (rw (sizes c.before.before.before) at c.if-writer-page.true)) in record { number = both.0; bytes = both.1 }
+    (row_at (rows c.before.before.before.before.before.before.before.before.before) 3 (omega arith) (q.0, (q.1.0, (q.1.1.0, tt))) (rw (sizes c.before.before.before) at c.if-writer-page.true)) in record { number = both.0; bytes = both.1 }
 
 pub own_entry-e-requires : goal.own_entry-e-requires
 own_entry-e-requires c =
@@ -140,8 +140,8 @@ pub returns-then-e-at : goal.returns-then-e-at
 returns-then-e-at c =
     let a = c.args in
     let both = read_done (st c.before.before.before.before.before.before.before.before.before.before.before.before.before.before.before.before) a.image.now a.writer a.page a.line a.target.now _ _ (none2 c.before.before.before.before.before.before.before.before)
-        (own_line (st c.before.before.before.before.before.before.before.before.before.before.before.before.before.before.before.before) a.image.now a.writer a.page a.line a.target.now c.own_entry-e.result (own3 c.before.before.before.before.before.before.before) (omega (arith, c.if-e-at.true, count c.before.before.before.before.before.before.before.before.before.before)))
-        (c.read_entry.ensures ∙ ap (λ (z : Sizes). over a.target.now 0 (entry_bytes a.image.now z c.own_entry-e.result)) (sizes c.before.before.before.before.before.before.before.before.before.before)) in record { number = both.0; bytes = both.1 }
+    (own_line (st c.before.before.before.before.before.before.before.before.before.before.before.before.before.before.before.before) a.image.now a.writer a.page a.line a.target.now c.own_entry-e.result (own3 c.before.before.before.before.before.before.before) (omega (arith, c.if-e-at.true, count c.before.before.before.before.before.before.before.before.before.before)))
+    (c.read_entry.ensures ∙ ap (λ (z : Sizes). over a.target.now 0 (entry_bytes a.image.now z c.own_entry-e.result)) (sizes c.before.before.before.before.before.before.before.before.before.before)) in record { number = both.0; bytes = both.1 }
 
 pub slot_of-s-requires : goal.slot_of-s-requires
 slot_of-s-requires c = legal1 c.before.before.before.before.before.before
@@ -168,6 +168,6 @@ pub returns : goal.returns
 returns c =
     let a = c.args in
     let both = read_done (st c.before.before.before.before.before.before.before.before.before.before.before.before.before.before.before.before.before.before) a.image.now a.writer a.page a.line a.target.now _ _ (none2 c.before.before.before.before.before.before.before.before.before.before)
-        (ap (λ (k : ℕ). line_bytes a.image.now (st c.before.before.before.before.before.before.before.before.before.before.before.before.before.before.before.before.before.before).sizes k a.line) (seen4 c.before.before.before.before.before)
-        ∙ frame-line (st c.before.before.before.before.before.before.before.before.before.before.before.before.before.before.before.before.before.before) a.image.now a.writer a.page a.line a.target.now c.own_entry-e.result (own3 c.before.before.before.before.before.before.before.before.before) (omega (arith, c.if-e-at.false, count c.before.before.before.before.before.before.before.before.before.before.before.before)))
-        (c.read_line.ensures ∙ ap (λ (z : Sizes). over a.target.now 0 (line_bytes a.image.now z c.seen_frame-seen.result a.line)) (sizes c.before.before.before.before.before.before.before.before.before.before.before.before)) in record { number = both.0; bytes = both.1 }
+    (ap (λ (k : ℕ). line_bytes a.image.now (st c.before.before.before.before.before.before.before.before.before.before.before.before.before.before.before.before.before.before).sizes k a.line) (seen4 c.before.before.before.before.before)
+    ∙ frame-line (st c.before.before.before.before.before.before.before.before.before.before.before.before.before.before.before.before.before.before) a.image.now a.writer a.page a.line a.target.now c.own_entry-e.result (own3 c.before.before.before.before.before.before.before.before.before) (omega (arith, c.if-e-at.false, count c.before.before.before.before.before.before.before.before.before.before.before.before)))
+    (c.read_line.ensures ∙ ap (λ (z : Sizes). over a.target.now 0 (line_bytes a.image.now z c.seen_frame-seen.result a.line)) (sizes c.before.before.before.before.before.before.before.before.before.before.before.before)) in record { number = both.0; bytes = both.1 }

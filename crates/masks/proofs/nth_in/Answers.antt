@@ -19,15 +19,15 @@ returns-then-left-eq0 c =
 
 pub loop-i-preserved : goal.loop-i-preserved
 unfolding one
-loop-i-preserved c =
-    (
-      search rules,
-      nth-turn c.args.m c.args.n c.loop-i.i c.loop-i.left c.loop-i.invariant.1 c.if-has.left
-          (elim c.if-has.branch [
-            then-has+else-left-eq0 w ↦
-                let e : one (in_mask c.args.m c.loop-i.i) ≡ 1 = ap one (sym c.has.ensures ∙ w.if-has.true) in omega arith
-          | else-has w ↦ let e : one (in_mask c.args.m c.loop-i.i) ≡ 0 = ap one (sym c.has.ensures ∙ w.if-has.false) in omega arith ]),
-    )
+loop-i-preserved c = (
+  search rules,
+  nth-turn c.args.m c.args.n c.loop-i.i c.loop-i.left c.loop-i.invariant.1 c.if-has.left
+      (elim c.if-has.branch [
+        | then-has+else-left-eq0 w ↦
+            let e : one (in_mask c.args.m c.loop-i.i) ≡ 1 = ap one (sym c.has.ensures ∙ w.if-has.true) in omega arith
+        | else-has w ↦ let e : one (in_mask c.args.m c.loop-i.i) ≡ 0 = ap one (sym c.has.ensures ∙ w.if-has.false) in omega arith
+      ]),
+)
 
 pub returns : goal.returns
 returns c =

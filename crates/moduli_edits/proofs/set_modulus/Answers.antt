@@ -11,12 +11,12 @@ bounds-table-i c = omega (arith, modulus-formed c.args.line c.if-line-i.true)
 
 pub returns-then-line-i : goal.returns-then-line-i
 returns-then-line-i c = rw c.if-line-i.true record {
-      said = c.edited.ensures;
-      table = refl;
-    }
+  said = c.edited.ensures;
+  table = refl;
+}
 
 pub returns : goal.returns
 returns c = rw c.if-line-i.false record {
-      said = refl;
-      table = refl;
-    }
+  said = refl;
+  table = refl;
+}

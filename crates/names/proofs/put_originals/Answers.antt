@@ -18,8 +18,9 @@ loop-s-preserved c =
     let x = c.args in
     let e : c.if-p-z.homes ≡ original_put x.z x.page.now x.original.now c.loop-s.s c.loop-s.homes =
     elim c.if-p-z.branch [
-      then-p-z w ↦ w.homes-is ∙ row-yes _ _ _ (lt-ltb _ _ w.if-p-z.true)
-    | else-p-z w ↦ row-no _ _ _ _ (le-ltb _ _ w.if-p-z.false) w.homes-is ] in
+      | then-p-z w ↦ w.homes-is ∙ row-yes _ _ _ (lt-ltb _ _ w.if-p-z.true)
+      | else-p-z w ↦ row-no _ _ _ _ (le-ltb _ _ w.if-p-z.false) w.homes-is
+    ] in
     (search rules, ap length e ∙ length-put-original x.z x.page.now x.original.now c.loop-s.s c.loop-s.homes ∙ c.loop-s.invariant.1, e ∙ up_turn _ _ _ _ c.loop-s.invariant.2)
 
 pub returns : goal.returns

@@ -16,8 +16,9 @@ loop-k-preserved c = let a = c.args in
     let moved = told-turn-marked a.p a.own a.seen.now c.loop-k.k short c.loop-k.all c.loop-k.invariant.1 c.if-not-has.all in (
       search rules,
       elim c.if-not-has.branch [
-        then-not-has w ↦ moved _ _ (sym c.has.ensures ∙ w.if-not-has.true) w.smaller.ensures w.marked_from-all.ensures w.all-is
-      | else-not-has w ↦ own (sym c.has.ensures ∙ w.if-not-has.false) w.all-is ],
+        | then-not-has w ↦ moved _ _ (sym c.has.ensures ∙ w.if-not-has.true) w.smaller.ensures w.marked_from-all.ensures w.all-is
+        | else-not-has w ↦ own (sym c.has.ensures ∙ w.if-not-has.false) w.all-is
+      ],
     )
 
 pub returns : goal.returns

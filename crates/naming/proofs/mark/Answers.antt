@@ -17,10 +17,10 @@ bounds-seen-at c = omega (arith, c.smaller-at.ensures)
 
 pub loop-i-preserved : goal.loop-i-preserved
 loop-i-preserved c = (
-      search rules,
-      ap (λ (k : ℕ). set c.loop-i.seen k true) c.smaller-at.ensures
-          ∙ up_turn (λ k l. set l (min (get_or c.args.names.now k 0) 1040) true) _ _ _ c.loop-i.invariant.1,
-    )
+  search rules,
+  ap (λ (k : ℕ). set c.loop-i.seen k true) c.smaller-at.ensures
+      ∙ up_turn (λ k l. set l (min (get_or c.args.names.now k 0) 1040) true) _ _ _ c.loop-i.invariant.1,
+)
 
 pub returns : goal.returns
 unfolding marked

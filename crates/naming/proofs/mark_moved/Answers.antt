@@ -22,8 +22,9 @@ loop-k-preserved c = let b = c.args.homes.now in
     let moved = turn-marked c.loop-k.own c.loop-k.k i.1.0 b before c.loop-k.seen short i.0 i.1.1 _ end.ensures in (
       search rules,
       elim c.if-run_own.branch [
-        then-run_own w ↦ own _ _ _ c.run_own.ensures w.if-run_own.true w.seen-is (w.own-is ∙ w.with-own.ensures)
-      | else-run_own w ↦ moved _ _ (w.seen-is ∙ w.mark.ensures) w.own-is ],
+        | then-run_own w ↦ own _ _ _ c.run_own.ensures w.if-run_own.true w.seen-is (w.own-is ∙ w.with-own.ensures)
+        | else-run_own w ↦ moved _ _ (w.seen-is ∙ w.mark.ensures) w.own-is
+      ],
     )
 
 pub returns : goal.returns

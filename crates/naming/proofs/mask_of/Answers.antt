@@ -13,12 +13,12 @@ loop-i-init c = (search rules, (refl, mask-none c.args.names.now))
 
 pub loop-i-preserved : goal.loop-i-preserved
 loop-i-preserved c = let l = c.args.names.now in (
-      search rules,
-      (
-        low_turn l c.loop-i.all c.loop-i.i c.loop-i.invariant.1.0,
-        mask-turn l c.loop-i.m _ c.loop-i.i (search rules) c.loop-i.invariant.1.1 (shifted_one _ (omega arith)),
-      ),
-    )
+  search rules,
+  (
+    low_turn l c.loop-i.all c.loop-i.i c.loop-i.invariant.1.0,
+    mask-turn l c.loop-i.m _ c.loop-i.i (search rules) c.loop-i.invariant.1.1 (shifted_one _ (omega arith)),
+  ),
+)
 
 pub returns-then-all-ge64 : goal.returns-then-all-ge64
 returns-then-all-ge64 c = let l = c.args.names.now in

@@ -1,5 +1,4 @@
 use borrow.Author.Rules.{rules}
-use Prim.Native.Nat.{◌-◌}
 use mathlib.Core.Path.{refl, ap, ◌∙◌}
 use Rattle.bounded.proofs.Tab.{filled_none, filled-turn, filled-ends}
 use Rattle.replay.specs.Table.{no_position, with_last}

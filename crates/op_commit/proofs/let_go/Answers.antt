@@ -1,5 +1,4 @@
 use borrow.Author.Rules.{rules}
-use Prim.Native.Nat.{◌-◌}
 use mathlib.Core.Path.{refl, ap, ◌∙◌}
 use Rattle.bounded.proofs.Below.{up_none, up_ends}
 use Rattle.state_words.specs.Decoded.{decoded}

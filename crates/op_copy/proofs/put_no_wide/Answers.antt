@@ -1,5 +1,5 @@
 use borrow.Author.Rules.{rules}
-use Prim.Native.Nat.{◌+◌, ◌-◌}
+use Prim.Native.Nat.{◌+◌}
 use mathlib.Core.Path.{refl, ap, ◌∙◌}
 use lib.ListN.{set, length-set}
 use Rattle.bounded.proofs.Tab.{filled_none, filled-turn, filled-ends}

@@ -1,4 +1,3 @@
-use Prim.Native.Nat.{◌-◌}
 use mathlib.Core.Path.{refl, ◌∙◌}
 use Rattle.bounded.proofs.Below.{up_none, up_turn, up_ends}
 use Rattle.op_writer.proofs.Back.{puts_one}

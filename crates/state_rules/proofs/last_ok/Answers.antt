@@ -1,6 +1,5 @@
 use borrow.Author.Rules.{rules}
 use Rattle.bounded.proofs.Below.{all_none, all-turn, all-stops, all-ends}
-use Prim.Native.Nat.{◌-◌}
 use mathlib.Core.Bool.{true}
 use Rattle.state_words.specs.Decoded.{decoded}
 use mathlib.Core.Bool.{false}

@@ -20,7 +20,7 @@ pub returns : goal.returns
 returns c =
     let f = held_at (decoded c.args.words.now).writers.held c.args.w in
     let all = filled-ends f (replicate 16 0) _ 16 _ c.loop-s.invariant.0 c.loop-s-test.false c.loop-s.invariant.1 in
- record {
+    record {
       row = all ∙ row_copied c.args.words.now c.args.w c.all_words.ensures c.requires;
       long = ap length all ∙ length-filled 16 f (replicate 16 0);
     }

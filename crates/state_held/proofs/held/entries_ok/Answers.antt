@@ -1,9 +1,7 @@
 use borrow.Author.Rules.{rules}
 use Rattle.bounded.proofs.Below.{all_none, all-turn, all-stops, all-ends}
-use Prim.Native.Nat.{◌-◌}
-use mathlib.Core.Bool.{true}
 use borrow.Author.Tests.{le-leb, lt-leb}
-use Rattle.entries.specs.Entries.{key_right, entries_ok}
+use Rattle.entries.specs.Entries.{entries_ok}
 use Rattle.state_held.proofs.held.entries_ok.Goals as goal
 
 pub returns-then-z-n : goal.returns-then-z-n

@@ -1,7 +1,5 @@
 use borrow.Author.Rules.{rules}
 use Rattle.bounded.proofs.Below.{all_none, all-turn, all-stops, all-ends}
-use Prim.Native.Nat.{◌-◌}
-use mathlib.Core.Bool.{true}
 use mathlib.Core.Path.{ap, ◌∙◌}
 use borrow.Author.Tests.{eq-eqb, ne_eqb}
 use Rattle.masks.specs.Lines.{disjoint}

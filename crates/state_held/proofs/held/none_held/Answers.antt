@@ -1,10 +1,7 @@
 use borrow.Author.Rules.{rules}
 use Rattle.bounded.proofs.Below.{all_none, all-turn, all-stops, all-ends}
-use Prim.Native.Nat.{◌-◌}
-use mathlib.Core.Bool.{true}
 use mathlib.Core.Bool.{not}
 use mathlib.Core.Path.{ap}
-use Rattle.state.specs.Held.{some_hold}
 use Rattle.state_held.proofs.held.none_held.Goals as goal
 
 pub loop-s-init : goal.loop-s-init

@@ -1,10 +1,7 @@
 use borrow.Author.Rules.{rules}
 use Rattle.bounded.proofs.Below.{all_none, all-turn, all-stops, all-ends}
-use Prim.Native.Nat.{◌-◌}
-use mathlib.Core.Bool.{true}
 use Rattle.state_words.specs.Decoded.{decoded}
 use mathlib.Core.Path.{sym, ◌∙◌}
-use Rattle.state.specs.Held.{holder_ok}
 use Rattle.state.proofs.Unheld.{unheld-ok}
 use Rattle.state_held.proofs.held.slot_held_ok.Goals as goal
 

@@ -1,6 +1,4 @@
 use borrow.Author.Rules.{rules}
-use Prim.Native.Nat.{◌-◌}
-use mathlib.Core.Bool.{true}
 use Rattle.bounded.proofs.Below.{all_none, all-turn, all-stops, all-ends}
 use Rattle.state_rules.proofs.fresh_state.slots_fresh.Goals as goal
 

@@ -1,9 +1,6 @@
 use borrow.Author.Rules.{rules}
 use Rattle.bounded.proofs.Below.{all_none, all-turn, all-stops, all-ends}
-use Prim.Native.Nat.{◌-◌}
-use mathlib.Core.Bool.{true}
 use Rattle.state_words.specs.Decoded.{decoded}
-use Rattle.slot_rules.specs.Slots.{slot_fine}
 use Rattle.state_rules.proofs.MetLaws.{met-none, met-more}
 use Rattle.state_rules.proofs.slots.each_fine.Goals as goal
 

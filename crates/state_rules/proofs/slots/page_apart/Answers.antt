@@ -4,7 +4,7 @@ use lib.ListN.{get_or}
 use lib.Dec.{eqb}
 use mathlib.Core.Path.{refl, sym, ap, ◌∙◌}
 use mathlib.Core.Bool.{true, false, not}
-use Prim.Native.Nat.{ℕ, ◌-◌}
+use Prim.Native.Nat.{ℕ}
 use Rattle.bounded.specs.Below.{all_below}
 use Rattle.bounded.proofs.Below.{all_none, all-turn, all-stops, all-ends}
 use borrow.Author.Rules.{rules}
