@@ -1,5 +1,6 @@
 // Write, on a state in words.
 #![tactic(auto)]
+
 pub mod found;
 
 ghost use Rattle.std.specs.Prelude.{true, ◌≡◌, replicate};
