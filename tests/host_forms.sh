@@ -1,7 +1,6 @@
 #!/usr/bin/env bash
 # Begin, begin wide and abort on the host's own record: by value and on the record itself, with the answers of document 01's table and the same words
-# left by both. A program that lends a record of its own would need a walk of its own to be proved, so this one is not: it is tried, on the
-# interpreter and compiled with checks, over the code of the crates that are.
+# left by both. The program is not proved: it is tried, on the interpreter and compiled with checks, over the code of the crates that are.
 set -euo pipefail
 cd "$(dirname "${BASH_SOURCE[0]}")/.."
 
