@@ -1,5 +1,6 @@
 // Commits on a state in words. A narrow writer's has a loop of its own: the one that finds pieces by operation takes a third more instructions.
 #![tactic(auto)]
+
 ghost use Rattle.std.specs.Prelude.{true, ◌≡◌, ◌≤◌, length, replicate};
 ghost use Rattle.layout.specs.Layout.{image_length};
 ghost use Rattle.state.specs.declared.Op.TheVariants.{Commit};
