@@ -1,5 +1,6 @@
 // Step makes one store of what is pending; run makes at most k; next_store tells of the next one.
 #![tactic(auto)]
+
 mod ranges;
 mod telling;
 
