@@ -1,5 +1,6 @@
 // The call for a checkpoint, on a state in words. It relies on nothing that its caller checked.
 #![tactic(auto)]
+
 ghost use Rattle.std.specs.Prelude.{◌≡◌};
 ghost use Rattle.refinement.specs.Calls.{checkpoint_of};
 ghost use Rattle.answers.specs.Answers.{number_of};
