@@ -1,5 +1,6 @@
 // The calls for a consolidation, on a state in words: of a page, and of the slot that is best freed. Neither relies on what its caller checked.
 #![tactic(auto)]
+
 mod choosing;
 
 ghost use Rattle.std.specs.Prelude.{◌≡◌, true};

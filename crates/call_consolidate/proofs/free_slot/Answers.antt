@@ -1,0 +1,36 @@
+use mathlib.Core.Bool.{not}
+use mathlib.Core.Path.{refl, sym, ◌∙◌}
+use native.Mathlib.Omega.{arith}
+use Rattle.bounded.proofs.Rows.{row_at}
+use Rattle.bounded.proofs.Tests.{held}
+use Rattle.state.specs.State.{State}
+use Rattle.refinement.specs.Calls.{free_call_rows, free_of}
+use Rattle.answers.specs.declared.Answer.TheVariants.{BadState}
+use Rattle.op_stores.proofs.Starting.{started-refused}
+use Rattle.state_words.specs.Decoded.{decoded}
+use Rattle.call_consolidate.proofs.free_slot.Lts
+use Rattle.call_consolidate.proofs.free_slot.Tie
+use Rattle.call_consolidate.proofs.free_slot.Reads
+use mathlib.Core.Path.{ap}
+use mathlib.Core.Bool.{not}
+use Rattle.call_consolidate.proofs.free_slot.Goals as goal
+
+abbrev At-Start : Type 0
+At-Start = Lts.Start Tie.the-claims Reads.Pre Reads.Post Tie.handed_clauses
+
+abbrev st : At-Start → State
+st s = decoded s.args.words.now
+
+pub returns-then-not-state_ok : goal.returns-then-not-state_ok
+unfolding free_of
+returns-then-not-state_ok c =
+    let rs = free_call_rows (st c.before.before.before.before.before.before) c.args.image.now in
+    let e = row_at rs 0 (omega arith) tt (sym (ap not c.state_ok.ensures) ∙ (ap not c.if-not-state_ok.true)) in
+    record {
+      started = started-refused (st c.before.before.before.before.before.before) c.args.image.now c.args.until rs 8 e (λ q. omega arith) refl BadState refl _ _;
+      words = λ n. refl;
+    }
+
+pub free_valid-requires : goal.free_valid-requires
+free_valid-requires c =
+    (c.sizes_in-z.ensures, c.places_in-at.ensures, held _ _ c.state_ok.ensures (ap not c.if-not-state_ok.false))
