@@ -1,5 +1,6 @@
 // The calls that commit in two parts, on a state in words (document 02, L8).
 #![tactic(auto)]
+
 mod withdrawing;
 
 ghost use Rattle.std.specs.Prelude.{◌≡◌};
