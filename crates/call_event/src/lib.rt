@@ -1,5 +1,6 @@
 // Event, on a state in words.
 #![tactic(auto)]
+
 mod finished;
 pub mod found;
 
