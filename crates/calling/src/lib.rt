@@ -1,5 +1,6 @@
 // What powerhit's and probe's lines share in making a call: a write by a line's numbers, and the stores that an answer tells.
 #![tactic(auto)]
+
 ghost use Rattle.std.specs.Prelude.{◌≡◌, true, ◌≤◌, replicate};
 ghost use Rattle.bounded.specs.Tab.{filled};
 ghost use Rattle.answers.specs.Answers.{number_of, stores_of, answered_at};
