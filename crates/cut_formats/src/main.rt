@@ -3,6 +3,7 @@
 // a begin on the words that the format left, and of a mount after a second format, run to its end; and whether the bytes past the image, and with no store
 // made all of them, are the old ones. A line is printed where they change.
 #![tactic(auto)]
+
 use call_write::Span;
 use layout::Sizes;
 use op_stores::Until;

@@ -9,8 +9,4 @@ returns c =
     let img = c.args.image.now in
     let o = write_by (decoded c.args.words.now) img c.args.count c.args.numbers.now in
     let h = asked-told w.result _ _ o img w.ensures.started in
-    record {
-      state = h.0;
-      bytes = h.1;
-      words = w.ensures.words;
-    }
+    record { state = h.0; bytes = h.1; words = w.ensures.words }

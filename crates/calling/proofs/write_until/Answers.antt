@@ -37,8 +37,7 @@ slice_bounds-write-end c = sym (length-take-le _ _ (fits c.before.before.before.
 
 pub returns : goal.returns
 returns c =
-    let w = c.write in
-    record {
+    let w = c.write in record {
       started = rw (← data-copied c.args.count c.args.numbers.now c.data_of-bytes.result c.data_of-bytes.ensures (known c.before.before.before.before.before.before.before.before.before.before.before.before.before.before.before).most) w.ensures.started;
       words = w.ensures.words;
     }
