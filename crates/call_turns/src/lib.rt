@@ -1,5 +1,6 @@
 // What a call's line prints, and how far a call goes on: asked for, or in place.
 #![tactic(auto)]
+
 ghost use Rattle.std.specs.Prelude.{◌≡◌, cond};
 ghost use Rattle.workbench.specs.Turns.{answer_said};
 ghost use Rattle.call_turns.specs.InPlace.{until_by};

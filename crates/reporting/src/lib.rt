@@ -1,5 +1,6 @@
 // The line that a line of probe prints, put into a buffer; each call gives where the next goes.
 #![tactic(auto)]
+
 ghost use Rattle.std.specs.Prelude.{◌+◌, ◌≤◌, length};
 ghost use Rattle.number_text.specs.Text.{Put, field};
 ghost use Rattle.state_words.specs.Decoded.{decoded};
