@@ -1,5 +1,6 @@
 // The form of a line of powerhit's script, by its letter and how many numbers follow it.
 #![tactic(auto)]
+
 ghost use Rattle.std.specs.Prelude.{◌≡◌};
 ghost use Rattle.forms.specs.Forms.{as_line, form_of};
 
