@@ -1,5 +1,6 @@
 // The call that a line of powerhit's script asks for, and the stores that it needs: all of them, or under a K at most k, and then a mount.
 #![tactic(auto)]
+
 pub mod calls;
 pub mod finishing;
 
