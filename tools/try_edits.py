@@ -7,9 +7,9 @@
 
 What was tried of tests/release_edits stands in tests/edits_tried.txt with the count of commits and what came of it: commit it with the next change.
 
-The edits are put beside the crates' own, which are left out, in a copy of crates/ and crates.txt. An edit that the prover does not refuse fails the run, and
-so does one that cannot be applied, compiled or read, or is not tried. Run from the repository's root, once all is proved: of a crate and an edit with
-nothing changed below, rt takes what an earlier run on this machine did.
+The edits are put in the place of the crates' own, in a copy of crates/ and crates.txt with the libraries that are proved and built. An edit that the prover
+does not refuse fails the run, and so does one that cannot be applied, compiled or read, or is not tried. Run from the repository's root, once all is proved:
+of a crate and an edit with nothing changed below, rt takes what an earlier run on this machine did.
 """
 import glob
 import os
@@ -64,12 +64,22 @@ def chosen(folder, names, options):
     return {name: edits for name, edits in asked.items() if edits}
 
 
+def put(one, other):
+    """A file of a copy, by a link where that can be made: rt replaces what it built, and changes none of it."""
+    try:
+        os.link(one, other)
+    except OSError:
+        shutil.copy2(one, other)
+
+
 def try_all(folder, asked):
     """Has rt try each edit; gives those that were not refused, with what was said of them."""
     work = tempfile.mkdtemp()
     try:
         shutil.copytree("crates", f"{work}/crates", ignore=shutil.ignore_patterns("must-fail", "out"))
         shutil.copy("crates.txt", work)
+        for built in glob.glob("crates/*/out/rlib"):
+            shutil.copytree(built, f"{work}/{built}", copy_function=put)
         for name, edits in asked.items():
             os.makedirs(f"{work}/crates/{name}/must-fail")
             for edit in edits:
