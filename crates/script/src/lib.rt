@@ -1,5 +1,6 @@
 // Program powerhit's lines performed on the calls: a line's turn, and the line that it prints.
 #![tactic(auto)]
+
 pub mod performing;
 mod turns;
 
