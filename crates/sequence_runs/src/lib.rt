@@ -1,5 +1,6 @@
 // A sequence of calls on a fresh image, the last one cut, and what a mount then finds.
 #![tactic(auto)]
+
 mod calls;
 mod turns;
 

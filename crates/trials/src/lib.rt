@@ -1,5 +1,6 @@
 // Rounds tried on a store of one setting, and what their stores were for (request L11).
 #![tactic(auto)]
+
 mod calls;
 mod counts;
 pub mod rounds;
