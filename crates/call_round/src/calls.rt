@@ -22,7 +22,7 @@ fn told(t: Round, a: Answer) -> Round
     Round {
         number: answers::number_of(a),
         call: t.call,
-        stores: std::num::wrapping_add_u64(t.stores, calling::stores_of(a) as u64),
+        stores: t.stores.wrapping_add(calling::stores_of(a) as u64),
     }
 }
 

@@ -1,6 +1,7 @@
 // A round in one call: begin, writes and a commit, one after the other, each run to its end, with an abort behind the first refusal. Row 8 is tested once:
 // each of these calls leaves a state that it accepts.
 #![tactic(auto)]
+
 mod again;
 mod calls;
 mod typed;

@@ -1,4 +1,4 @@
-use Rattle.std.proofs.Common.{refl, rules}
+use Rattle.std.proofs.Common.{refl}
 use Rattle.refinement.specs.Calls.{world_of}
 use Rattle.refinement.specs.Run.{write, exec}
 use Rattle.refinement.proofs.Reports.{stores-reported}
@@ -7,32 +7,21 @@ use Rattle.state_words.specs.Decoded.{decoded}
 use Rattle.call_round.proofs.Finishing.{finishes}
 use Rattle.call_round.proofs.Keeping.{kept}
 use Rattle.call_round.proofs.Playing.{call-made}
-use Rattle.call_round.proofs.calls.write_made.Statement.{statement}
-use Rattle.call_round.proofs.calls.write_made.Tie as tie
+use Rattle.call_round.proofs.calls.write_made.Goals as goal
 
-returns : tie.Need-returns
+pub returns : goal.returns
 unfolding exec
 returns c =
-    let at_call = c.before.before.before in
-    let s = at_call.before.before.before.before.before.before.before.before.before in
-    let a = s.args in
-    let f = at_call.write-valid in
+    let a = c.args in
+    let f = c.write_valid-answer in
     let v = world_of (decoded a.words.now) a.image.now in
     let d = write a.writer a.a.page a.a.line a.a.offset a.a.length a.«data».now in
     let e =
     call-made d a.t _ a.words.now a.image.now f.result _ _
     (finishes _ a.image.now (λ n. (stores-reported d v n).all_left) (λ n. (refused-unchanged d v n).stores)
-    d a.words.now refl f.result _ _ f.ensures.0)
+    d a.words.now refl f.result _ _ f.ensures.started)
     c.told.ensures in
-    (e, kept d _ _ _ _ e s.requires)
-
-pub write-made-spec : {M : Type 1} → statement M
-write-made-spec =
-    tie.close
-    (tie.spec
-    (λ c κs. search rules)
-    (λ c κs. search rules)
-    (λ c κs. search rules)
-    (λ c κs. search rules)
-    (λ c. search rules)
-    returns)
+    record {
+      came = e;
+      kept = kept d _ _ _ _ e c.requires;
+    }
