@@ -1,5 +1,6 @@
 // Begin, abort, and the calls that ask for an operation, or perform it in place: B, A, V, C, D, P, W and b, a, v, c, d, p, w.
 #![tactic(auto)]
+
 pub mod prepared;
 
 ghost use Rattle.std.specs.Prelude.{◌≡◌};

@@ -1,0 +1,11 @@
+use mathlib.Core.Path.{refl}
+use borrow.Author.Tests.{eq-eqb, ne_eqb}
+use Rattle.workbench.proofs.Formed.{has-called, has-not}
+use Rattle.transaction_calls.proofs.prepared.withdraw.Goals as goal
+
+pub returns-then-line-eq1 : goal.returns-then-line-eq1
+returns-then-line-eq1 c =
+    has-called _ _ _ _ c.withdraw-answer.result _ (eq-eqb _ 1 c.if-line-eq1.true) c.withdraw-answer.ensures.state c.answered.ensures
+
+pub returns : goal.returns
+returns c = has-not _ _ _ _ (ne_eqb _ 1 c.if-line-eq1.false) refl
