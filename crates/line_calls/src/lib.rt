@@ -1,5 +1,6 @@
 // Read and recall into a target of t bytes, at first zero: R and E.
 #![tactic(auto)]
+
 ghost use Rattle.std.specs.Prelude.{◌≡◌, ◌≤◌, length};
 ghost use Rattle.line_calls.specs.Calls.{line_said, read_into, read_said, recall_into, recall_said};
 ghost use Rattle.state_words.specs.Decoded.{decoded};
