@@ -89,7 +89,7 @@ pub fn count(counts: &mut [u64], e: Ends, written: bool, n: usize)
 {
     let mut k = 0;
     while k < 22 {
-        counts[k] = std::num::wrapping_add_u64(counts[k], worn(e, written, n, k) as u64);
+        counts[k] = counts[k].wrapping_add(worn(e, written, n, k) as u64);
         k += 1;
     }
 }
