@@ -2,6 +2,7 @@
 // after one store. From the mount on the copying is pending in the words, so every call but step and run is answered 9; once it has been run the calls
 // go on: B is written over A, and stays when the image is mounted again.
 #![tactic(auto)]
+
 use answers::Answer;
 use call_write::Span;
 use layout::Sizes;

@@ -2,6 +2,7 @@
 // cut short by a mount, and a checkpoint where the journal is full. Half-way a venue's moduli are loaded. Prints how many, a checksum of the answers and
 // the meters, and credit.
 #![tactic(auto)]
+
 mod play;
 
 use state_words::WORD_COUNT;
