@@ -1,5 +1,6 @@
 // Format, mount, step, run and the next store: F, M, S, N and n.
 #![tactic(auto)]
+
 ghost use Rattle.std.specs.Prelude.{◌≡◌};
 ghost use Rattle.state_words.specs.Decoded.{decoded};
 ghost use Rattle.workbench.specs.Turns.{turn_at};
