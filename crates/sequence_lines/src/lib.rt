@@ -1,5 +1,6 @@
 // The line of a sequence of at most three calls, its last one cut.
 #![tactic(auto)]
+
 ghost use Rattle.std.specs.Prelude.{◌≡◌, [], ◌∷◌, ◌+◌, ◌*◌, ◌≤◌, length};
 ghost use Rattle.number_text.specs.Text.{Put};
 ghost use Rattle.sequences.specs.Sequences.{sequence};

@@ -1,5 +1,6 @@
 // The lines of a trial: a setting, then rounds; and the line that is printed (request L11).
 #![tactic(auto)]
+
 pub mod output;
 
 ghost use Rattle.std.specs.Prelude.{◌≡◌, List, ℕ, ◌≤◌, replicate};
