@@ -1,5 +1,6 @@
 // K and l: an event, which is lent the moduli, and a load, which gives them.
 #![tactic(auto)]
+
 pub mod loading;
 
 ghost use Rattle.std.specs.Prelude.{◌≡◌};
