@@ -2,6 +2,7 @@
 // withdraws has its answer (the stores that it needs, or 1,000 times the number of the refusal), the hash of the image after its run and a
 // checksum of all answers so far.
 #![tactic(auto)]
+
 mod calls;
 mod out;
 mod turns;
