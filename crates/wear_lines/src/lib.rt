@@ -1,5 +1,6 @@
 // The lines of program wear_by_frame: inputs of powerhit, parted by lines `=`; and the 22 numbers that are printed (request L12).
 #![tactic(auto)]
+
 pub mod output;
 
 ghost use Rattle.std.specs.Prelude.{◌≡◌, length, replicate};
