@@ -1,5 +1,6 @@
 // A line of probe (PROBE.md) performed: its letter chooses what it does.
 #![tactic(auto)]
+
 mod calls;
 
 ghost use Rattle.std.specs.Prelude.{◌≡◌, take, drop, ◌++◌};
