@@ -1,11 +1,12 @@
 // The store for a host in C: the calls on the words that the host keeps, with the names and forms of include/badgerdross.h. Each returns its number.
 #![tactic(auto)]
-mod meters;
-mod pending;
-mod room;
-mod round;
-mod service;
-mod whole;
+
+pub mod events;
+pub mod pending;
+pub mod room;
+pub mod round;
+pub mod service;
+pub mod whole;
 
 ghost use Rattle.std.specs.Prelude.{cond, ◌≡◌};
 ghost use Rattle.layout.specs.Layout.{sizes_ok, image_length};

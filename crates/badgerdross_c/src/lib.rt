@@ -96,7 +96,7 @@ pub extern "C" fn badgerdross_event(
         (event_of (decoded words.old) image.old moduli.now kind meter amount) image.old (until_by until) }
     ensures words { Keeps result words.new words.old }
 {
-    badgerdross::meters::badgerdross_event(words, image, kind, meter, amount, moduli, until)
+    badgerdross::events::badgerdross_event(words, image, kind, meter, amount, moduli, until)
 }
 
 // Reads a venue's moduli from a text. A call that is turned back leaves the moduli lent as they are.
@@ -111,7 +111,7 @@ pub extern "C" fn badgerdross_load(
     ensures moduli { moduli.new ≡
         cond (eqb result 0) (load_of (decoded words.now) image.now text.now).moduli moduli.old }
 {
-    badgerdross::meters::badgerdross_load(words, image, text, moduli)
+    badgerdross::events::badgerdross_load(words, image, text, moduli)
 }
 
 // Makes one store.

@@ -1,0 +1,17 @@
+use lib.ListN.{length}
+use Rattle.refinement.specs.Calls.{write_of}
+use Rattle.state_words.specs.Decoded.{decoded}
+use Rattle.badgerdross.proofs.Leaving.{starts, keeps}
+use Rattle.badgerdross.proofs.round.badgerdross_write.Goals as goal
+
+pub returns : goal.returns
+returns c =
+    let s = c.args in
+    let a = c.write.result in
+    let h = c.write.ensures in
+    let n = c.number_of.ensures in
+    let o = write_of (decoded s.words.now) s.image.now s.writer s.page s.line s.offset (length s.«data».now) s.«data».now in
+    record {
+      state = starts a _ n _ _ o s.image.now _ _ c.until_of-u.ensures h.started;
+      words = keeps a _ n _ _ h.words;
+    }
