@@ -4,6 +4,7 @@
 // times the number of the refusal), the run's, the first word of the line as a recall and as a read show it, and the hash of the image; then those of a
 // walk, of which every hundredth has a line with its place, a checksum of all numbers so far and the hash.
 #![tactic(auto)]
+
 mod calls;
 mod cuts;
 mod shown;
