@@ -179,7 +179,7 @@ module _ {z : Sizes} {past : List ℕ} {f : ℕ → ℕ → ℕ → ℕ} where
   all-stands {s} x low (p ∷ ps) t st =
       let u = put x p t in
       row-splits (λ w. w.number ≡ 0 → At z past f w (wrote_all x ps (wrote p x s))) (eqb u.number 0) (put_all x ps u) u
-      (λ e n. all-stands x low ps u (put-stands x p low t st (eqb-true u.number 0 e)) n)
+      (λ e n. all-stands {s = wrote p x s} x low ps u (put-stands x p low t st (eqb-true u.number 0 e)) n)
       (λ e n. absurd (eqb-false u.number 0 e n))
 
 module _ {z : Sizes} {past : List ℕ} {f : ℕ → ℕ → ℕ → ℕ} {s : ℕ → ℕ → ℕ → Cell} where
