@@ -11,6 +11,7 @@ use Rattle.layout.specs.Layout.{Legal, image_length}
 use Rattle.replay.specs.Table.{slots_shaped}
 use Rattle.state.specs.State.{State}
 use Rattle.state.specs.declared.Places.{Places}
+use Rattle.state.specs.declared.Op.{Op}
 use Rattle.state.specs.declared.Op.TheVariants.{Commit}
 use Rattle.state.specs.Held.{held_slots}
 use Rattle.operations.specs.Operations.{commit_needs, needs}
@@ -22,6 +23,7 @@ use Rattle.answers.specs.declared.Answer.{Answer}
 use Rattle.answers.specs.declared.Answer.TheVariants.{Taken}
 use Rattle.op_pieces.specs.declared.Piece.{Piece}
 use Rattle.op_pieces.specs.Pieces.{Next}
+use Rattle.op_writer.specs.Served.{Served}
 use Rattle.state_pending.specs.Put.{with_pending as put}
 use Rattle.op_stores.specs.declared.Until.{Until}
 use Rattle.op_stores.specs.Asks.{Asks, Allowed}

@@ -14,7 +14,7 @@ use Rattle.words.specs.Words.{bytes_of, put_word, word_at}
 use Rattle.words.proofs.Bytes.{length-bytes}
 use Rattle.words.proofs.Parts.{over-whole}
 use Rattle.image.specs.Lines.{line_bytes, merged, line_words}
-use Rattle.meters.specs.Meters.{moduli_ok, event_known, moves_credit, first_meter, own_meter, rolled, first_number, amount_bad}
+use Rattle.meters.specs.Meters.{moduli_ok, event_known, moves_credit, first_meter, own_meter, rolled, event_needs, first_number, amount_bad}
 use Rattle.state.specs.State.{State}
 use Rattle.state.specs.declared.Pending.{Pending}
 use Rattle.state.specs.Wide.{some_wide, is_wide}
@@ -23,7 +23,8 @@ use Rattle.operations.specs.Operations.{journal_full, event_next_rows}
 use Rattle.operations.proofs.Taken.{EventTaken, event-taken}
 use Rattle.refinement.specs.Frames.{seen_frame}
 use Rattle.refinement.specs.Settled.{with_lines}
-use Rattle.refinement.specs.Calls.{quiet_rows, seen_line, meter_in, event_line, event_second, event_call_rows}
+use Rattle.refinement.specs.Outcome.{answered}
+use Rattle.refinement.specs.Calls.{quiet_rows, seen_line, meter_in, event_line, event_second, event_call_rows, event_of}
 use Rattle.refinement.proofs.EventRows.{event-op-row, event-amount, event-moduli}
 use Rattle.refinement.proofs.Going.{ranges-of, shapes-of}
 use Rattle.refinement.proofs.Quiet.{Quiet, quiet}

@@ -1,16 +1,16 @@
 -- A format that is asked for: what the words may be put to, what comes of it, and what of one that is run to its end.
-use Prim.Native.Nat.{ℕ, ◌+◌, ◌≤◌, min}
-use mathlib.Core.Bool.{true, false}
+use Prim.Native.Nat.{ℕ, ◌+◌, ◌<◌, ◌≤◌, min}
+use mathlib.Core.Bool.{true, false, cond}
 use mathlib.Core.List.{List}
 use mathlib.Core.Path.{◌≡◌, refl, sym, ap, ◌∙◌, subst}
 use native.Mathlib.Omega.{arith}
 use lib.Dec.{eqb}
 use lib.ListN.{length, replicate}
-use borrow.Author.Tests.{not-false, ltb-false, ne_eqb, eq-eqb}
+use borrow.Author.Tests.{not-false, ltb-false, ne_eqb, eq-eqb, eqb-true}
 use Rattle.bounded.proofs.Rows.{none-apply}
 use Rattle.bounded.proofs.Tests.{row-yes, row-no}
 use Rattle.layout.specs.declared.Sizes.{Sizes}
-use Rattle.layout.specs.Layout.{sizes_ok, image_words, image_length}
+use Rattle.layout.specs.Layout.{Legal, sizes_ok, image_words, image_length}
 use Rattle.layout.proofs.LayoutLaws.{legal}
 use Rattle.bounded.specs.Tab.{tab}
 use Rattle.fresh.specs.Fresh.{formatted, format_stores, format_rows, format_row, format_bytes, fresh_table}
@@ -20,12 +20,13 @@ use Rattle.state.specs.declared.Places.{Places}
 use Rattle.state.specs.declared.Op.TheVariants.{Format}
 use Rattle.operations.specs.Operations.{needs}
 use Rattle.refinement.specs.Outcome.{Outcome}
-use Rattle.refinement.specs.Calls.{asked}
+use Rattle.refinement.specs.Calls.{asked, run_of, run_bytes}
 use Rattle.refinement.specs.Stores.{left, state_after}
-use Rattle.refinement.specs.Mount.{quiet_state, fresh_state, format_of}
+use Rattle.refinement.specs.Mount.{quiet_state, fresh_state, format_of, format_call}
 use Rattle.refinement.proofs.CallMounted.{fresh-valid}
 use Rattle.refinement.proofs.FormatAsked.{formatting, fresh-is, format-left, ran-image, ran-state}
 use Rattle.answers.specs.declared.Answer.{Answer}
+use Rattle.answers.specs.declared.Answer.TheVariants.{Taken}
 use Rattle.answers.specs.Answers.{as_answer}
 use Rattle.state_words.specs.Decoded.{places_of}
 use Rattle.op_stores.specs.declared.Until.{Until}

@@ -1,13 +1,14 @@
 -- The map after a mount or a format: entries over zeros.
-use Prim.Native.Nat.{ℕ, ◌+◌, ◌-◌, ◌≤◌}
-use mathlib.Core.List.{List, ◌++◌}
-use mathlib.Core.Path.{◌≡◌, sym, ap, ◌∙◌}
+use Prim.Native.Nat.{ℕ, zero, suc, ◌+◌, ◌-◌, ◌≤◌, ◌<◌}
+use mathlib.Core.List.{List, [], ◌∷◌, ◌++◌}
+use mathlib.Core.Path.{◌≡◌, refl, sym, ap, ◌∙◌}
 use native.Mathlib.Omega.{arith}
 use lib.ListN.{length, take, drop, replicate, length-replicate, replicate-append-replicate}
 use lib.Seq.{drop_at}
 use Rattle.bounded.specs.Tab.{tab}
 use Rattle.bounded.proofs.Tab.{length-tab}
 use Rattle.replay.specs.Map.{map_from}
+use Rattle.state.specs.State.{State}
 use Rattle.state_words.specs.Decoded.{decoded}
 use Rattle.state_words.proofs.Lent.{map_is_back}
 use Rattle.call_mount.specs.Entries.{map_back, with_entries}

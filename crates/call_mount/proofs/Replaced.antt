@@ -1,8 +1,8 @@
 -- What comes of a mount or a format: the row that turns it back with the words as they were, or the state that it finds or makes.
-use Prim.Native.Nat.{ℕ}
+use Prim.Native.Nat.{ℕ, ◌≤◌}
 use mathlib.Core.Bool.{true}
 use mathlib.Core.List.{List}
-use mathlib.Core.Path.{◌≡◌, sym, ap, ◌∙◌}
+use mathlib.Core.Path.{◌≡◌, refl, sym, ap, ◌∙◌}
 use borrow.Author.Tests.{ne_eqb}
 use Rattle.mount.specs.declared.Judged.{Judged}
 use Rattle.mount.specs.Mount.{Mounted, mount_of, judged}

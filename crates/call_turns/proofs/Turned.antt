@@ -2,12 +2,12 @@
 use mathlib.Core.Bool.{Bool, true, false}
 use mathlib.Core.List.{List}
 use Prim.Native.Nat.{ℕ}
-use mathlib.Core.Path.{◌≡◌, refl}
+use mathlib.Core.Path.{◌≡◌, refl, ◌∙◌}
 use Rattle.state.specs.State.{State}
 use Rattle.refinement.specs.Outcome.{Outcome}
 use Rattle.answers.specs.declared.Answer.{Answer}
 use Rattle.op_stores.specs.declared.Until.{Until}
-use Rattle.op_stores.specs.declared.Until.TheVariants.{Asked}
+use Rattle.op_stores.specs.declared.Until.TheVariants.{Asked, End}
 use Rattle.op_stores.specs.Started.{Started}
 use Rattle.calling.proofs.Asked.{asked-told}
 use Rattle.workbench.specs.declared.Said.{Said}

@@ -2,14 +2,14 @@
 use Prim.Native.Nat.{ℕ}
 use mathlib.Core.Bool.{Bool, true, false}
 use mathlib.Core.List.{List}
-use mathlib.Core.Path.{◌≡◌, ◌∙◌}
+use mathlib.Core.Path.{◌≡◌, refl, sym, ap, ◌∙◌}
 use lib.Dec.{eqb}
 use Rattle.bounded.proofs.Tests.{case_on, contradicts}
 use Rattle.layout.specs.declared.Sizes.{Sizes}
 use Rattle.fresh.specs.Fresh.{format_row}
 use Rattle.mount.specs.Mount.{mount_of}
 use Rattle.state.specs.State.{State}
-use Rattle.refinement.specs.Outcome.{Outcome}
+use Rattle.refinement.specs.Outcome.{Outcome, answered}
 use Rattle.refinement.specs.Mount.{mount_call, format_of}
 use Rattle.answers.specs.declared.Answer.{Answer}
 use Rattle.answers.specs.Answers.{answered_at}

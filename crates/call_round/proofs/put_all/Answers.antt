@@ -1,4 +1,4 @@
-use Rattle.std.proofs.Common.{◌≡◌, ◌+◌, get_or, refl, ap, ◌∙◌, arith}
+use Rattle.std.proofs.Common.{◌≡◌, ◌+◌, ◌-◌, ◌*◌, ◌≤◌, length, get_or, refl, ap, ◌∙◌, arith}
 use Rattle.call_round.specs.Round.{Played}
 use Rattle.call_round.proofs.Playing.{put-call, rest-is, passed_over, all_more, all-stop, all_end}
 use Rattle.call_round.proofs.put_all.Goals as goal

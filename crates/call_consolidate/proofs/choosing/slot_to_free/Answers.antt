@@ -1,3 +1,4 @@
+use Prim.Native.Nat.{◌-◌}
 use native.Mathlib.Omega.{arith}
 use borrow.Author.Rules.{rules}
 use Rattle.bounded.proofs.Least.{least-none, least-turn, least-ends, least-finds}

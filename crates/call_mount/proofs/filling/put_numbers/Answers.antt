@@ -3,6 +3,7 @@ use Rattle.names.proofs.Homes.{filled-whole}
 use Rattle.bounded.proofs.Tab.{filled_none, filled-turn, filled-ends}
 use lib.ListN.{length, length-set}
 use mathlib.Core.Path.{refl, ◌∙◌}
+use Prim.Native.Nat.{◌-◌}
 use borrow.Author.Rules.{rules}
 use Rattle.call_mount.proofs.filling.put_numbers.Goals as goal
 
