@@ -11,7 +11,8 @@ use Rattle.powerhit.proofs.perform_lines.Given as goal
 abbrev pub invariant-loop-end : goal.invariant-loop-end
 invariant-loop-end l = (length l.image ≡ length l.initial.image) × (l.start ≤ l.end) × (l.end ≡ line_end l.piece l.end)
     × ((w : Work) → Stands (machine_at l.initial.mode l.initial.words) l.initial.lines l.initial.at l.initial.image l.initial.out w
-    → Reached (machine_at l.mode l.words) l.lines l.at l.image l.out l.piece l.start l.end (fed act (record { done = w; begun = part l.piece l.from (l.to - l.from) }) (drop l.to l.piece)))
+    → Reached (machine_at l.mode l.words) l.lines l.at l.image l.out l.piece l.start l.end
+    (fed act (record { done = w; begun = part l.piece l.from (l.to - l.from) }) (drop l.to l.piece)))
 
 abbrev pub decreases-loop-end : goal.decreases-loop-end
 decreases-loop-end l = length l.piece - l.start
