@@ -23,7 +23,7 @@ kept_line p = take p.session.kept p.line
 kept-parsed : (p : Stand) (f : Fed Work) → Shows p f → 1450 < length p.line → parsed 20 (kept_line p) ≡ parsed 20 f.begun
 kept-parsed p f h long = ap (parsed 20) h.begun.bytes ∙ cut_line 20 (length p.line) f.begun (omega arith)
 
--- what `lines::perform` does, and the session after it
+-- what `line_reading::perform` does, and the session after it
 pub record Performed (p q : Stand) : Type 0 where
   pub lines : q.session.lines ≡ (p.session.lines + 1) % 2 ^ 64
   pub kept : q.session.kept ≡ 0

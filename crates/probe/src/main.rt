@@ -1,8 +1,8 @@
 // Program probe: every call on any state and any bytes, as lines of standard input, each answered by a line of standard
-// output (PROBE.md). Here the input is cut into lines and the output is collected; what a line does is `lines`'.
+// output (PROBE.md). Here the input is cut into lines and the output is collected; what a line does is `line_reading`'.
 #![tactic(auto)]
 
-mod lines;
+mod line_reading;
 mod reading;
 
 ghost use Rattle.std.specs.Prelude.{◌≡◌, ℕ, List};

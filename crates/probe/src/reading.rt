@@ -2,7 +2,7 @@
 ghost use Rattle.std.specs.Prelude.{◌≡◌, ◌<◌, ◌≤◌, [], ◌∷◌, length};
 ghost use Rattle.probe.specs.Program.{roomed, stand, Takes, Reads, TakesSome, Closes, Ran};
 
-use crate::{Session, lines};
+use crate::{Session, line_reading};
 use state_words::Words;
 use std::io::{Read, Stdin};
 use workbench::moduli::Moduli;
@@ -47,7 +47,7 @@ fn perform_kept(
     let k = bounded::smaller(next.kept, line.len());
     next.lines = next.lines.wrapping_add(1);
     next.kept = 0;
-    let p = lines::perform(
+    let p = line_reading::perform(
         buffer,
         words,
         table,
