@@ -1,5 +1,5 @@
 // The slot to free, of a state in words: taken, with no held line, and of those the one that needs the fewest lines copied, the lower one on a tie.
-ghost use Rattle.std.specs.Prelude.{◌≡◌, ◌+◌, ◌<◌, ◌≤◌};
+ghost use Rattle.std.specs.Prelude.{◌≡◌, ◌<◌, ◌≤◌};
 ghost use Rattle.bounded.specs.Below.{least_turn};
 ghost use Rattle.layout.specs.Layout.{Legal};
 ghost use Rattle.refinement.specs.Freeing.{may_free, lines_to_copy, slot_to_free};
@@ -17,32 +17,24 @@ fn may_free(words: &Words, s: usize) -> bool
     (p != journal::NO_PAGE) & !state_held::held::some_hold(words, s)
 }
 
-// The best slot so far, and how many lines it needs copied: counted once.
-#[derive(Clone, Copy)]
-struct Best {
-    slot: usize,
-    lines: usize,
-}
-
 // The better one of slot s and the best of those below it, which is s itself where none of them may be freed. Where s may not
 // either, the answer is s + 1.
-fn better(words: &Words, s: usize, best: Best) -> Best
-    requires { (s < 16) × (best.slot ≤ s) × (best.slot < s → best.lines ≡ lines_to_copy (decoded words.now).table.bitmap best.slot) }
-    ensures slot { result.slot ≡ least_turn (may_free (decoded words.now).table.page (decoded words.now).writers.held)
-        (lines_to_copy (decoded words.now).table.bitmap) s best.slot }
-    ensures lines { result.slot < s + 1 → result.lines ≡ lines_to_copy (decoded words.now).table.bitmap result.slot }
+fn better(words: &Words, s: usize, best: usize) -> usize
+    requires { (s < 16) × (best ≤ s) }
+    ensures { result ≡ least_turn (may_free (decoded words.now).table.page (decoded words.now).writers.held)
+        (lines_to_copy (decoded words.now).table.bitmap) s best }
 {
     let may = may_free(words, s);
-    let lines = needs::copy_count(state_words::bitmap_at(words, s));
-    let slot = best.slot;
-    if slot == s {
+    if best == s {
         if may {
-            return Best { slot: s, lines };
+            return s;
         }
-        return Best { slot: s + 1, lines };
+        return s + 1;
     }
-    if may & (lines < best.lines) {
-        return Best { slot: s, lines };
+    let a = state_words::bitmap_at(words, s);
+    let b = state_words::bitmap_at(words, best);
+    if may & (needs::copy_count(a) < needs::copy_count(b)) {
+        return s;
     }
     best
 }
@@ -53,11 +45,11 @@ pub(crate) fn slot_to_free(z: Sizes, words: &Words) -> usize
     ensures { result ≡ slot_to_free z (decoded words.now).table.page (decoded words.now).table.bitmap
         (decoded words.now).writers.held }
 {
-    let mut best = Best { slot: 0, lines: 0 };
+    let mut best = 0;
     let mut s = 0;
     while s < z.slots {
         best = better(words, s, best);
         s += 1;
     }
-    best.slot
+    best
 }

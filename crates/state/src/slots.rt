@@ -10,9 +10,5 @@ pub fn round_slot(z: Sizes, next: usize, k: usize) -> usize
     requires { Legal z × (next < z.slots) × (k ≤ z.slots) }
     ensures { result ≡ round_slot z next k }
 {
-    let s = next + k;
-    if s < z.slots {
-        return s;
-    }
-    s - z.slots
+    (next + k) % z.slots
 }

@@ -11,7 +11,6 @@ ghost use Rattle.state.specs.State.{own_frame};
 ghost use Rattle.validity.specs.Validity.{slots_ok, is_live_of, last_ok_of, lasts_ok, prepared_ok, is_fresh, op_fits, pending_ok, state_ok};
 ghost use Rattle.state_words.specs.Decoded.{decoded, places_of};
 ghost use Rattle.op_rows.specs.Seen.{Low, seen};
-ghost use Rattle.state_rules.specs.Met.{Met};
 ghost use Rattle.state_rules.specs.Quiet.{quiet_in, op_ok};
 
 use layout::Sizes;
@@ -44,9 +43,9 @@ fn is_live(z: Sizes, tail: usize, live: usize, q: usize) -> bool
     journal::records::live_count(z, q, tail) < live
 }
 
-// Whether the last position of slot s, where it has one, is live and that of no slot below it, the remainders of whose positions met has.
-fn last_ok(z: Sizes, tail: usize, live: usize, words: &Words, s: usize, met: u64) -> bool
-    requires { Legal z × (tail < 2 * z.places) × (s < 16) × Met (decoded words.now).table.last s met }
+// Whether the last position of slot s, where it has one, is live and that of no slot below it.
+fn last_ok(z: Sizes, tail: usize, live: usize, words: &Words, s: usize) -> bool
+    requires { Legal z × (tail < 2 * z.places) × (s < 16) }
     ensures { result ≡ last_ok_of z tail live (decoded words.now).table.last s }
 {
     let q = last_at(words, s);
@@ -55,9 +54,6 @@ fn last_ok(z: Sizes, tail: usize, live: usize, words: &Words, s: usize, met: u64
     }
     if !is_live(z, tail, live, q) {
         return false;
-    }
-    if !masks::has(met, q % 64) {
-        return true;
     }
     let mut k = 0;
     while k < s {
@@ -75,13 +71,11 @@ fn lasts_ok(z: Sizes, head: usize, tail: usize, words: &Words) -> bool
     ensures { result ≡ lasts_ok z head tail (decoded words.now).table.last }
 {
     let live = journal::records::live_count(z, head, tail);
-    let mut met = 0;
     let mut s = 0;
     while s < z.slots {
-        if !last_ok(z, tail, live, words, s, met) {
+        if !last_ok(z, tail, live, words, s) {
             return false;
         }
-        met = masks::with(met, last_at(words, s) % 64);
         s += 1;
     }
     true

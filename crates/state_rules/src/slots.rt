@@ -1,6 +1,6 @@
 // The rules of row 7 for the slots of a state and its map: each slot has a shape, its page is that of no slot below it and has the slot's original for its
 // frame; and spares and frames of pages name each frame once.
-ghost use Rattle.std.specs.Prelude.{◌≡◌, ◌<◌};
+ghost use Rattle.std.specs.Prelude.{◌≡◌, not, ◌<◌, eqb, get_or};
 ghost use Rattle.bounded.specs.Below.{all_below};
 ghost use Rattle.bounded.specs.Count.{each_once};
 ghost use Rattle.layout.specs.Layout.{Legal, frames};
@@ -8,7 +8,6 @@ ghost use Rattle.replay.specs.Map.{names_kept};
 ghost use Rattle.slot_rules.specs.Slots.{slot_fine, slots_fine};
 ghost use Rattle.state.specs.State.{own_frame};
 ghost use Rattle.state_words.specs.Decoded.{decoded};
-ghost use Rattle.state_rules.specs.Met.{Met, apart};
 
 use layout::Sizes;
 use state_words::{MAP, SPARE, Words, page_at, slot_at};
@@ -16,7 +15,7 @@ use state_words::{MAP, SPARE, Words, page_at, slot_at};
 // Whether the page of slot s is that of no slot below it.
 fn page_apart(words: &Words, s: usize) -> bool
     requires { s < 16 }
-    ensures { result ≡ apart (decoded words.now).table.page s }
+    ensures { result ≡ all_below s (λ k. not (eqb (get_or (decoded words.now).table.page s 0) (get_or (decoded words.now).table.page k 0))) }
 {
     let p = page_at(words, s);
     let mut k = 0;
@@ -29,21 +28,9 @@ fn page_apart(words: &Words, s: usize) -> bool
     true
 }
 
-// The same, where met has the remainders of the pages of the slots below s: only a page that shares its own with one of them is compared.
-fn page_new(words: &Words, s: usize, met: u64) -> bool
-    requires { (s < 16) × Met (decoded words.now).table.page s met }
-    ensures { result ≡ apart (decoded words.now).table.page s }
-{
-    let p = page_at(words, s);
-    if !masks::has(met, p % 64) {
-        return true;
-    }
-    page_apart(words, s)
-}
-
 // Whether slot s has a shape, and as an owning one a page that no slot below it has, with its original for its frame.
-fn slot_fine(z: Sizes, words: &Words, s: usize, met: u64) -> bool
-    requires { Legal z × (s < 16) × Met (decoded words.now).table.page s met }
+fn slot_fine(z: Sizes, words: &Words, s: usize) -> bool
+    requires { Legal z × (s < 16) }
     ensures { result ≡ slot_fine (own_frame (decoded words.now)) z (decoded words.now).table s }
 {
     let a = slot_at(words, s);
@@ -54,7 +41,7 @@ fn slot_fine(z: Sizes, words: &Words, s: usize, met: u64) -> bool
     if !((a.page < z.pages) & (a.original < f) & (a.spare < f) & (a.original != a.spare)) {
         return false;
     }
-    if !page_new(words, s, met) {
+    if !page_apart(words, s) {
         return false;
     }
     state_words::entry_at(words, a.page) == a.original
@@ -65,13 +52,11 @@ fn each_fine(z: Sizes, words: &Words) -> bool
     requires { Legal z }
     ensures { result ≡ all_below z.slots (slot_fine (own_frame (decoded words.now)) z (decoded words.now).table) }
 {
-    let mut met = 0;
     let mut s = 0;
     while s < z.slots {
-        if !slot_fine(z, words, s, met) {
+        if !slot_fine(z, words, s) {
             return false;
         }
-        met = masks::with(met, page_at(words, s) % 64);
         s += 1;
     }
     true

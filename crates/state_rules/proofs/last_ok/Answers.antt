@@ -1,12 +1,10 @@
 use borrow.Author.Rules.{rules}
 use Rattle.bounded.proofs.Below.{all_none, all-turn, all-stops, all-ends}
 use mathlib.Core.Bool.{true}
-use Rattle.state_words.specs.Decoded.{decoded}
 use mathlib.Core.Bool.{false}
 use mathlib.Core.Path.{refl, sym, ◌∙◌}
 use borrow.Author.Tests.{eq-eqb, ne_eqb}
 use Rattle.bounded.proofs.Tests.{and-stops, and-goes}
-use Rattle.state_rules.proofs.MetLaws.{not-met}
 use mathlib.Core.Path.{ap}
 use mathlib.Core.Bool.{not}
 use Rattle.state_rules.proofs.last_ok.Goals as goal
@@ -16,13 +14,6 @@ returns-then-q c = rw (← c.last_at-q.ensures, eq-eqb _ _ c.if-q.true)
 
 pub returns-then-not-is_live : goal.returns-then-not-is_live
 returns-then-not-is_live c = rw (← c.last_at-q.ensures, ne_eqb _ _ c.if-q.false) (and-stops _ _ _ c.is_live.ensures (ap not c.if-not-is_live.true))
-
-pub returns-then-not-has : goal.returns-then-not-has
-returns-then-not-has c =
-    rw (← c.last_at-q.ensures, ne_eqb _ _ c.if-q.false)
-    (and-goes _ _ _ _ c.is_live.ensures (ap not c.if-not-is_live.false)
-    (sym (not-met (decoded c.args.words.now).table.last c.args.s c.args.met c.last_at-q.result c.requires.3
-    (sym c.has.ensures ∙ c.if-not-has.true))))
 
 pub loop-k-init : goal.loop-k-init
 loop-k-init c = (search rules, all_none _)

@@ -5,15 +5,10 @@ use Rattle.state_words.specs.Decoded.{decoded}
 use Prim.Native.Nat.{ℕ}
 use mathlib.Core.Path.{ap, ◌∙◌}
 use Rattle.validity.specs.Validity.{last_ok_of, lasts_ok}
-use Rattle.state_rules.proofs.MetLaws.{met-none, met-more}
 use Rattle.state_rules.proofs.lasts_ok.Goals as goal
 
 pub loop-s-init : goal.loop-s-init
-loop-s-init c = (search rules, (all_none _, met-none (decoded c.args.words.now).table.last 0))
-
-pub last_ok-requires : goal.last_ok-requires
-last_ok-requires c =
-    (c.requires.0, c.requires.2, search rules, c.loop-s.invariant.1.1)
+loop-s-init c = (search rules, all_none _)
 
 pub returns-then-not-last_ok : goal.returns-then-not-last_ok
 unfolding lasts_ok
@@ -23,18 +18,11 @@ returns-then-not-last_ok c =
     ∙ ap (λ (n : ℕ). all_below a.z.slots (last_ok_of a.z a.tail n (decoded a.words.now).table.last)) c.live_count-live.ensures
 
 pub loop-s-preserved : goal.loop-s-preserved
-loop-s-preserved c = (
-  search rules,
-  (
-    all-turn _ _ _ c.loop-s.invariant.1.0 c.last_ok.ensures (c.if-not-last_ok.false),
-    met-more (decoded c.args.words.now).table.last c.loop-s.s c.loop-s.met _ _ c.last_at.ensures c.with-met.ensures
-        c.loop-s.invariant.1.1,
-  ),
-)
+loop-s-preserved c = (search rules, all-turn _ _ _ c.loop-s.invariant.1 c.last_ok.ensures c.if-not-last_ok.false)
 
 pub returns : goal.returns
 unfolding lasts_ok
 returns c =
     let a = c.args in
-    all-ends _ _ _ c.loop-s.invariant.0 c.loop-s-test.false c.loop-s.invariant.1.0
+    all-ends _ _ _ c.loop-s.invariant.0 c.loop-s-test.false c.loop-s.invariant.1
     ∙ ap (λ (n : ℕ). all_below a.z.slots (last_ok_of a.z a.tail n (decoded a.words.now).table.last)) c.live_count-live.ensures

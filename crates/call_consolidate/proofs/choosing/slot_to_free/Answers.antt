@@ -1,19 +1,17 @@
-use Prim.Native.Nat.{◌-◌}
-use native.Mathlib.Omega.{arith}
 use borrow.Author.Rules.{rules}
 use Rattle.bounded.proofs.Least.{least-none, least-turn, least-ends, least-finds}
 use Rattle.refinement.specs.Freeing.{slot_to_free}
 use Rattle.call_consolidate.proofs.choosing.slot_to_free.Goals as goal
 
 pub loop-s-init : goal.loop-s-init
-loop-s-init c = (search rules, (least-none _ _, (λ h. absurd (omega arith))))
+loop-s-init c = (search rules, least-none _ _)
 
 pub better-best-requires : goal.better-best-requires
-better-best-requires c = let i = c.loop-s.invariant.1 in (search rules, rw i.0 (least-finds _ _ _).le, i.1)
+better-best-requires c = (search rules, rw c.loop-s.invariant.1 (least-finds _ _ _).le)
 
 pub loop-s-preserved : goal.loop-s-preserved
-loop-s-preserved c = (search rules, (least-turn _ _ _ _ _ c.loop-s.invariant.1.0 c.better-best.ensures.slot, c.better-best.ensures.lines))
+loop-s-preserved c = (search rules, least-turn _ _ _ _ _ c.loop-s.invariant.1 c.better-best.ensures)
 
 pub returns : goal.returns
 unfolding slot_to_free
-returns c = least-ends _ _ _ _ _ c.loop-s.invariant.0 c.loop-s-test.false c.loop-s.invariant.1.0
+returns c = least-ends _ _ _ _ _ c.loop-s.invariant.0 c.loop-s-test.false c.loop-s.invariant.1

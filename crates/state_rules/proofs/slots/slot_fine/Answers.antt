@@ -70,12 +70,12 @@ returns-then-not-a-z c =
 shape : (c : At-Else-not-a-z) → is_owning (read1 (else2 c)).before.args.z (read1 (else2 c)).slot_at-a.result ≡ true
 shape c = c.if-not-a-z.false
 
-pub returns-then-not-page_new : goal.returns-then-not-page_new
-returns-then-not-page_new c =
+pub returns-then-not-page_apart : goal.returns-then-not-page_apart
+returns-then-not-page_apart c =
     let t = c.before.before in
     let f = else2 t in
     let s = read1 f in
-    and-goes (is_owning s.before.args.z s.slot_at-a.result) (apart s && kept s) _ _ refl (ap not c.if-not-a-z.false) (and-stops (apart s) (kept s) _ c.page_new.ensures (ap not c.if-not-page_new.true)) ∙ sym (owning f)
+    and-goes (is_owning s.before.args.z s.slot_at-a.result) (apart s && kept s) _ _ refl (ap not c.if-not-a-z.false) (and-stops (apart s) (kept s) _ c.page_apart.ensures (ap not c.if-not-page_apart.true)) ∙ sym (owning f)
 
 pub entry_at-requires : goal.entry_at-requires
 entry_at-requires c =
@@ -93,6 +93,6 @@ returns c =
     let a = s.before.args in
     let e = s.slot_at-a.ensures in
     and-goes (is_owning a.z s.slot_at-a.result) (apart s && kept s) _ _ refl (ap not c.if-not-a-z.false)
-    (and-goes (apart s) (kept s) _ _ c.page_new.ensures (ap not c.if-not-page_new.false)
+    (and-goes (apart s) (kept s) _ _ c.page_apart.ensures (ap not c.if-not-page_apart.false)
     (ap (λ (x : ℕ). eqb x s.slot_at-a.result.original) c.entry_at.ensures ∙ ap (λ (v : Slot). eqb (own_frame (st s) v.page) v.original) e))
     ∙ sym (owning f)
