@@ -27,8 +27,8 @@ fn first_byte() -> Span {
     }
 }
 
-// The wide round.
-fn write_wide(image: &mut [u8; 12552], words: &mut Words) {
+// The wide round, cut: its commit's first store has landed.
+fn cut_round(image: &mut [u8; 12552], words: &mut Words) {
     let z = Sizes {
         pages: 2,
         slots: 1,
@@ -41,10 +41,6 @@ fn write_wide(image: &mut [u8; 12552], words: &mut Words) {
         b"write A",
         call_write::write(image, words, 0, first_byte(), b"A", Until::End),
     );
-}
-
-// Its commit's first store lands, and power goes.
-fn cut_commit(image: &mut [u8; 12552], words: &mut Words) {
     show(
         b"commit asked",
         call_commit::commit(image, words, 0, Until::Asked),
@@ -53,8 +49,10 @@ fn cut_commit(image: &mut [u8; 12552], words: &mut Words) {
     show(b"mount", call_mount::mount(image, words));
 }
 
-// Every call but step and run, while the copying is pending: first those of a transaction.
-fn meet_transaction(image: &mut [u8; 12552], words: &mut Words) {
+// Every call but step and run, while the copying is pending.
+fn meet_the_copying(image: &mut [u8; 12552], words: &mut Words) {
+    let mut line = [0u8; 64];
+    let moduli = [0u64; 24];
     show(b"begin", call_begin::begin(words, 0));
     show(b"begin wide", call_begin::begin_wide(words, 0));
     show(b"abort", call_begin::abort(words, 0));
@@ -63,9 +61,6 @@ fn meet_transaction(image: &mut [u8; 12552], words: &mut Words) {
         call_write::write(image, words, 0, first_byte(), b"B", Until::End),
     );
     show(b"commit", call_commit::commit(image, words, 0, Until::End));
-}
-
-fn meet_prepared(image: &mut [u8; 12552], words: &mut Words) {
     show(
         b"prepare",
         call_prepare::prepare(image, words, 0, Until::End),
@@ -75,9 +70,6 @@ fn meet_prepared(image: &mut [u8; 12552], words: &mut Words) {
         call_prepare::confirm(image, words, 0, Until::End),
     );
     show(b"withdraw", call_prepare::withdraw(image, words, 0));
-}
-
-fn meet_room(image: &mut [u8; 12552], words: &mut Words) {
     show(
         b"consolidate",
         call_consolidate::consolidate(image, words, 0, Until::End),
@@ -90,11 +82,6 @@ fn meet_room(image: &mut [u8; 12552], words: &mut Words) {
         b"checkpoint",
         call_checkpoint::checkpoint(image, words, Until::End),
     );
-}
-
-fn meet_meters(image: &mut [u8; 12552], words: &mut Words) {
-    let mut line = [0u8; 64];
-    let moduli = [0u64; 24];
     show(
         b"event",
         call_event::event(image, words, 0, 0, 0, &moduli, Until::End),
@@ -107,6 +94,7 @@ fn meet_meters(image: &mut [u8; 12552], words: &mut Words) {
 
 // The calls go on once the copying has been run.
 fn go_on(image: &mut [u8; 12552], words: &mut Words) {
+    let mut line = [0u8; 64];
     show(b"run", call_step::run(image, words, 1000));
     show(b"begin", call_begin::begin(words, 0));
     show(
@@ -114,11 +102,6 @@ fn go_on(image: &mut [u8; 12552], words: &mut Words) {
         call_write::write(image, words, 0, first_byte(), b"B", Until::End),
     );
     show(b"commit", call_commit::commit(image, words, 0, Until::End));
-}
-
-// B has stayed.
-fn mount_again(image: &mut [u8; 12552], words: &mut Words) {
-    let mut line = [0u8; 64];
     show(b"mount", call_mount::mount(image, words));
     show(b"step", call_step::step(image, words));
     show(b"read", call_read::read(image, words, 0, 0, 0, &mut line));
@@ -129,12 +112,7 @@ fn mount_again(image: &mut [u8; 12552], words: &mut Words) {
 fn main() {
     let mut image = [0u8; 12552];
     let mut words = [0u64; WORD_COUNT];
-    write_wide(&mut image, &mut words);
-    cut_commit(&mut image, &mut words);
-    meet_transaction(&mut image, &mut words);
-    meet_prepared(&mut image, &mut words);
-    meet_room(&mut image, &mut words);
-    meet_meters(&mut image, &mut words);
+    cut_round(&mut image, &mut words);
+    meet_the_copying(&mut image, &mut words);
     go_on(&mut image, &mut words);
-    mount_again(&mut image, &mut words);
 }
