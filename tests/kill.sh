@@ -8,22 +8,22 @@ cd "$(dirname "${BASH_SOURCE[0]}")/.."
 . tests/cabinet/build.sh
 
 copy whole
-build "$work/whole" cabinet
+build "$work/whole"
 python3 tests/cabinet/kill.py "$work/whole/built/cabinet" "$work/library.so" "$work/memory" "${KILLS:-80}" "${SEED:-1}"
 
-# must_catch NAME WORDS: what is printed of that cabinet begins with these words
+# must_catch NAME, and what replace is told of game.c
 must_catch() {
-    build "$work/$1" cabinet
+    copy "$1"
+    replace "$work/$1/game.c" 1/1 "$2" "$3"
+    build "$work/$1"
     if python3 tests/cabinet/kill.py "$work/$1/built/cabinet" "$work/library.so" "$work/memory" 2000 "${SEED:-1}" > "$work/printed"; then
         cat "$work/printed"
         echo "kill: $1 was not caught"
         exit 1
     fi
     sed "s/^kill: /kill: $1 is caught: /" "$work/printed"
-    grep -q "^kill: $2" "$work/printed"
+    grep -q "^kill: $4" "$work/printed"
 }
-copy_in_two round_in_two_commits
-must_catch round_in_two_commits "torn at kill"
-copy rounds_kept_nowhere
-replace "$work/rounds_kept_nowhere/game.c" 1/1 MAP_SHARED MAP_PRIVATE
-must_catch rounds_kept_nowhere "a mount was turned back with 2"
+must_catch round_in_two_commits '        answer = put(GLASS, 0, glass);' \
+    '        answer = round->scenes || (!commit() && !badgerdross_begin(&store, GAME)) ? put(GLASS, 0, glass) : 8;' "torn at kill"
+must_catch rounds_kept_nowhere MAP_SHARED MAP_PRIVATE "a mount was turned back with 2"

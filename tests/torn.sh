@@ -1,27 +1,24 @@
 #!/usr/bin/env bash
 # The compiled cabinet of examples/cabinet on memory behind a cache: a trace of its stores into the mapped file and of its fences (msync), images that a
-# power cut may leave of it, each mounted by the library and by the independent model and held to what the model has after the same calls
-# (tests/cabinet/torn.py). IMAGES (400) of ROUNDS (24) with the draws of SEED (1). With the fence before or the fence after each deciding store left
-# out, or the ranges untold, a torn round must be found.
+# power cut may leave of it, each mounted by the library and held to a second telling of the game (tests/cabinet/torn.py). IMAGES (400) of ROUNDS (24)
+# with the draws of SEED (1). With the fence before or the fence after each deciding store left out, or the ranges untold, a torn round must be found.
 # KEEP_ARCHIVE=1 takes the archive that stands in target/staticlib, where it was proved before.
 set -euo pipefail
 cd "$(dirname "${BASH_SOURCE[0]}")/.."
 . tests/cabinet/build.sh
 game_seed=1 # with it rounds 10 and 11 have the bonus
 
-cargo build --manifest-path model/Cargo.toml --release --offline --quiet --bin model-torn
 cc -std=gnu11 -O2 -Wall -Wextra -Werror -shared -fPIC tests/cabinet/tracer.c -o "$work/tracer.so"
 
 # torn NAME ROUNDS IMAGES: traces that build, and looks for torn images
 torn() {
     rm -f "$work/memory"
     TRACE="$work/trace" LD_PRELOAD="$work/tracer.so" "$work/$1/built/cabinet" -n "$2" -s "$game_seed" "$work/memory" > "$work/rounds"
-    python3 tests/cabinet/torn.py "$work/whole/built/cabinet" "$work/library.so" model/target/release/model-torn "$work/trace" "$work/memory" "$game_seed" \
-        "$3" "${SEED:-1}"
+    python3 tests/cabinet/torn.py "$work/whole/built/cabinet" "$work/library.so" "$work/trace" "$work/memory" "$game_seed" "$3" "${SEED:-1}"
 }
 
 copy whole
-build "$work/whole" cabinet
+build "$work/whole"
 torn whole "${ROUNDS:-24}" "${IMAGES:-400}"
 
 fence='        if (next.decides)
@@ -35,7 +32,7 @@ must_find() {
     mkdir "$work/$1/include"
     cp include/badgerdross.h "$work/$1/include"
     replace "$work/$1/include/badgerdross.h" "$2" "$3" ""
-    build "$work/$1" cabinet "$work/$1/include"
+    build "$work/$1" "$work/$1/include"
     if torn "$1" 12 400 > "$work/printed"; then
         cat "$work/printed"
         echo "torn: $1 was not caught"

@@ -8,12 +8,11 @@
  */
 #include "game.h"
 
+#include <stdio.h>
 #include <stdlib.h>
 #include <termios.h>
 #include <time.h>
 #include <unistd.h>
-
-#define CLEAR "\033[H\033[2J"
 
 enum { COINS = 100, MOST_BET = 3, PAID_OUT_FROM = 250, CONTROL_C = 3, CONTROL_D = 4 };
 
@@ -32,8 +31,9 @@ static void play_by_itself(unsigned long rounds)
             continue;
         }
         struct round last = last_round();
-        printf("round %lu: %s %s %s, bet %lu, win %lu%s, credit %lu\n", last.number, names[last.line[0]], names[last.line[1]],
-               names[last.line[2]], last.bet, last.win, last.scenes ? " with bonus" : "", meter(CREDIT));
+        printf("round %lu: %s %s %s, bet %lu, win %lu%s, credit %lu\n", last.number, names[last.line[0]],
+               names[last.line[1]], names[last.line[2]], last.bet, last.win,
+               last.scenes ? " with bonus" : "", meter(CREDIT));
         fflush(stdout);
         rounds--;
     }
@@ -63,41 +63,45 @@ static int key(void)
     return read(STDIN_FILENO, &byte, 1) == 1 ? byte : 'q';
 }
 
-static void show_until_key(void (*draw)(FILE *))
+static void clear_screen(void) { fputs("\033[H\033[2J", stdout); }
+
+static void show_until_key(void (*draw)(void))
 {
-    fputs(CLEAR, stdout);
-    draw(stdout);
+    clear_screen();
+    draw();
     puts("\n    any key goes on");
     key();
 }
 
-static size_t spin_reels(uint64_t bet)
+static void spin_reels(uint64_t bet)
 {
     uint64_t before = last_round().number;
     size_t answer = spin(bet);
-    if (last_round().number > before && last_round().scenes)
+    struct round last = last_round();
+    if (last.number > before && last.scenes)
         show_until_key(draw_bonus);
-    return answer;
+    clear_screen();
+    draw_glass();
+    printf("\n    %s\n", answer != BADGERDROSS_TAKEN ? sentence() : last.win ? "You win!" : "");
 }
 
 static void play(void)
 {
     uint64_t bet = 1;
-    const char *message = "";
     take_terminal();
     show_until_key(draw_recall);
+    clear_screen();
+    draw_glass();
+    puts("\n");
     for (;;) {
-        fputs(CLEAR, stdout);
-        draw_glass(stdout);
-        printf("\n    %s\n\n    space spin   b bet %lu   i insert %d   c cash out   r recall   q quit\n", message, bet, COINS);
+        printf("\n    space spin   b bet %lu   i insert %d   c cash out   r recall   q quit\n", bet, COINS);
         int pressed = key();
         size_t answer = BADGERDROSS_TAKEN;
-        message = "";
         if (pressed == 'q' || pressed == CONTROL_C || pressed == CONTROL_D)
             return;
         if (pressed == ' ') {
-            answer = spin_reels(bet);
-            message = last_round().win ? "You win!" : "";
+            spin_reels(bet);
+            continue;
         }
         if (pressed == 'b')
             bet = bet % MOST_BET + 1;
@@ -107,8 +111,9 @@ static void play(void)
             answer = pay_out();
         if (pressed == 'r')
             show_until_key(draw_recall);
-        if (answer != BADGERDROSS_TAKEN)
-            message = sentence();
+        clear_screen();
+        draw_glass();
+        printf("\n    %s\n", answer == BADGERDROSS_TAKEN ? "" : sentence());
     }
 }
 
@@ -133,7 +138,7 @@ int main(int count, char **arguments)
     }
     map_memory(arguments[optind]);
     if (recall_only) {
-        draw_recall(stdout);
+        draw_recall();
         return 0;
     }
     start(seed);

@@ -1,6 +1,5 @@
 /*
- * One spin of the bandit, its power cut after each of its stores in turn: every store with where it goes, and beside it the
- * recall screen as it is then. Stores in a row that leave the same screen share one drawing.
+ * One spin of the bandit, its power cut after each of its stores in turn: what the recall screen shows then.
  *
  *     demo          a spin that wins on the line
  *     demo bonus    a spin with the bonus, which is a wide round
@@ -8,15 +7,12 @@
  * It takes the game as it is, and the power supply into its own hand: badgerdross_finish is replaced by one that makes one
  * store at a time and goes no further than the power lasts. Ends with status 1 if a screen shows parts of two rounds.
  */
-#define _GNU_SOURCE
 #include <badgerdross.h>
 #include <setjmp.h>
 #include <string.h>
 
 static size_t power = SIZE_MAX; /* so many stores are left until it is gone */
-static const char *step;        /* of the spin: the one under way */
-static size_t last_word;        /* where the last store went */
-static const char *last_step;   /* and of which step it was */
+static size_t last_word;        /* where the last one went */
 static jmp_buf gone;
 
 static size_t finish_while_there_is_power(struct badgerdross *state, uint8_t *memory, size_t bytes, badgerdross_persist *persist,
@@ -28,17 +24,12 @@ static size_t finish_while_there_is_power(struct badgerdross *state, uint8_t *me
         if (power == 0)
             longjmp(gone, 1);
         power--;
-        last_word = next.word, last_step = step;
+        last_word = next.word;
         badgerdross_step(state, memory, bytes);
     }
     return BADGERDROSS_TAKEN;
 }
 #define badgerdross_finish finish_while_there_is_power
-#define badgerdross_begin(...) (step = "round", badgerdross_begin(__VA_ARGS__))
-#define badgerdross_begin_wide(...) (step = "round", badgerdross_begin_wide(__VA_ARGS__))
-#define badgerdross_event(state, memory, bytes, kind, ...) \
-    (step = kind == BADGERDROSS_BET ? "bet" : kind == BADGERDROSS_WON ? "win" : "count", \
-     badgerdross_event(state, memory, bytes, kind, __VA_ARGS__))
 #include "game.c"
 
 static const char *where(size_t word)
@@ -49,60 +40,12 @@ static const char *where(size_t word)
     if (word < journal)
         return "the tables";
     if (word < frames)
-        return "journal records";
-    return word < frames + 512 * (PAGES + SLOTS) ? "copies of lines" : "wide round's entries";
+        return "a record of the journal";
+    return word < frames + 512 * (PAGES + SLOTS) ? "a copy of a line" : "an entry of the wide round";
 }
 
-/* ---- the list of stores, and the screen beside it */
-
-struct row {
-    size_t first, last;
-    const char *step, *place;
-};
-static struct row rows[64]; /* since the screen was another */
-static size_t row_count;
-
-static void list_store(size_t number, const char *step, const char *place)
-{
-    struct row *row = row_count > 0 ? &rows[row_count - 1] : NULL;
-    if (row == NULL || strcmp(row->step, step) != 0 || strcmp(row->place, place) != 0) {
-        row = &rows[row_count++];
-        *row = (struct row){.first = number, .step = step, .place = place};
-    }
-    row->last = number;
-}
-
-/* Of the screen the last round is shown, which ends at the first blank line. */
-static void print_stretch(const char *screen)
-{
-    for (size_t i = 0; i < row_count || (*screen && *screen != '\n'); i++) {
-        char numbers[32] = "", left[64] = "";
-        if (i < row_count) {
-            snprintf(numbers, sizeof numbers, rows[i].first == rows[i].last ? "%zu" : "%zu-%zu", rows[i].first, rows[i].last);
-            snprintf(left, sizeof left, "%-8s%-6s %s", numbers, rows[i].step, rows[i].place);
-        }
-        size_t width = strcspn(screen, "\n");
-        printf(width ? "%-36s%.*s\n" : "%s%.*s\n", left, (int)width, screen);
-        screen += width > 0 ? width + 1 : 0;
-    }
-    puts("");
-    row_count = 0;
-}
-
-static char *drawn_recall(void)
-{
-    char *text;
-    size_t bytes;
-    FILE *to = open_memstream(&text, &bytes);
-    draw_recall(to);
-    fclose(to);
-    return text;
-}
-
-/* ---- the spin */
-
-/* Whether all that the screen shows is of one round. */
-static int is_whole(void)
+/* What the screen shows, in one line; and whether all that it shows is of one round. */
+static int screen_line(char *text, size_t room)
 {
     struct glass glass;
     struct scene scene;
@@ -113,6 +56,8 @@ static int is_whole(void)
         recall_line(SCENES + i, 0, &scene);
         whole = whole && scene.number == last.number;
     }
+    snprintf(text, room, "round %lu |%-6s|%-6s|%-6s| win %lu credit %lu%s", last.number, names[last.line[0]], names[last.line[1]],
+             names[last.line[2]], last.win, meter(CREDIT), whole ? "" : "  TORN");
     return whole;
 }
 
@@ -131,8 +76,8 @@ static void play_up_to(int bonus)
     }
 }
 
-/* The spin up to a cut after so many stores, from the same memory each time, and a mount; gives how many it could make. */
-static size_t spin_with(size_t stores, const uint64_t *before)
+/* The spin up to a cut after so many stores, from the same memory each time; gives how many it could make. */
+static size_t spin_with(size_t stores, const uint8_t *before)
 {
     memcpy(image, before, length);
     badgerdross_mount(&store, image, length);
@@ -141,36 +86,49 @@ static size_t spin_with(size_t stores, const uint64_t *before)
         spin(1);
     size_t made = stores - power;
     power = SIZE_MAX;
-    badgerdross_mount(&store, image, length);
     return made;
+}
+
+static void print_row(size_t first, size_t last, const char *place, const char *screen)
+{
+    char range[32];
+    snprintf(range, sizeof range, first == last ? "%zu" : "%zu to %zu", first, last);
+    printf("%-10s %-26s %s\n", range, place, screen);
 }
 
 int main(int count, char **arguments)
 {
     static uint64_t memory[1 << 14], before[1 << 14];
+    static char screen[200], shown[200];
     image = (uint8_t *)memory;
     length = badgerdross_image_length(PAGES, SLOTS, PLACES, ENTRIES);
-    if (length == 0 || length > sizeof memory)
+    for (size_t i = 0; i < 24; i++)
+        moduli[i] = i < 5 ? MODULUS : COUNT_MODULUS;
+    if (length == 0 || length > sizeof memory || badgerdross_format(&store, image, length, PAGES, SLOTS, PLACES, ENTRIES, BADGERDROSS_END))
         return 1;
-    start(27);
+    seed = 27;
     play_up_to(count > 1 && strcmp(arguments[1], "bonus") == 0);
     memcpy(before, memory, sizeof memory);
 
-    puts("A spin, and the recall screen if power is lost right after each of its stores.\n");
-    printf("%-8s%-6s %-22s%s\n\n", "store", "of the", "goes to", "the recall screen then");
-    char *shown = drawn_recall();
-    size_t torn = !is_whole(), cuts = 1;
-    list_store(0, "", "before the spin");
-    for (; spin_with(cuts, before) == cuts; cuts++) {
-        char *screen = drawn_recall();
-        torn += !is_whole();
-        if (strcmp(screen, shown) != 0)
-            print_stretch(shown);
-        list_store(cuts, last_step, where(last_word));
-        free(shown);
-        shown = screen;
+    size_t torn = !screen_line(shown, sizeof shown), cuts = 1, first = 0;
+    const char *place = "nothing yet";
+    puts("The recall screen before the spin:\n");
+    draw_recall();
+    puts("\nThe spin; after each of its stores the power goes and the memory is mounted again.\n");
+    printf("%-10s %-26s %s\n", "stores", "where they go", "the recall screen after each");
+    for (size_t stores = 1; spin_with(stores, (uint8_t *)before) == stores; stores++, cuts++) {
+        const char *to = where(last_word);
+        badgerdross_mount(&store, image, length);
+        torn += !screen_line(screen, sizeof screen);
+        if (strcmp(to, place) != 0 || strcmp(screen, shown) != 0) {
+            print_row(first, stores - 1, place, shown);
+            first = stores, place = to;
+            strcpy(shown, screen);
+        }
     }
-    print_stretch(shown);
-    printf("%zu cuts, %zu torn\n", cuts, torn);
+    print_row(first, cuts - 1, place, shown);
+    puts("\nAnd after all of them:\n");
+    draw_recall();
+    printf("\n%zu cuts, %zu torn\n", cuts, torn);
     return torn > 0;
 }

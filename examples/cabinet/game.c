@@ -6,6 +6,7 @@
 #include "game.h"
 
 #include <fcntl.h>
+#include <stdio.h>
 #include <stdlib.h>
 #include <sys/file.h>
 #include <sys/mman.h>
@@ -69,12 +70,13 @@ static size_t done(size_t answer)
 /* A full journal and no free slot are no failures: the game makes room and asks again. */
 static int made_room(size_t answer)
 {
-    int wanted = answer == BADGERDROSS_NO_FREE_SLOT || answer == BADGERDROSS_JOURNAL_FULL;
+    if (answer != BADGERDROSS_NO_FREE_SLOT && answer != BADGERDROSS_JOURNAL_FULL)
+        return 0;
     if (answer == BADGERDROSS_NO_FREE_SLOT)
         answer = done(badgerdross_free_slot(&store, image, length, BADGERDROSS_ASKED));
     if (answer == BADGERDROSS_JOURNAL_FULL)
         answer = done(badgerdross_checkpoint(&store, image, length, BADGERDROSS_ASKED));
-    return wanted && answer == BADGERDROSS_TAKEN;
+    return answer == BADGERDROSS_TAKEN;
 }
 
 /* Of a refused call the library composes the sentence, on the state that refused it. */
@@ -89,15 +91,6 @@ static size_t noted(size_t answer, struct badgerdross_refusal refusal)
     return answer;
 }
 
-/* For calls that a right game is never refused: without them it cannot go on. */
-static void must(size_t answer, struct badgerdross_refusal refusal)
-{
-    if (noted(answer, refusal) != BADGERDROSS_TAKEN) {
-        fprintf(stderr, "%s\n", words);
-        exit(1);
-    }
-}
-
 static size_t event(size_t kind, size_t number, uint64_t amount)
 {
     size_t answer;
@@ -107,28 +100,31 @@ static size_t event(size_t kind, size_t number, uint64_t amount)
     return noted(answer, (struct badgerdross_refusal){.call = BADGERDROSS_CALL_EVENT, .kind = kind, .meter = number});
 }
 
-static void put(size_t page, size_t line, const void *bytes)
+static size_t put(size_t page, size_t line, const void *bytes)
 {
     size_t answer;
     do
         answer = done(badgerdross_write(&store, image, length, GAME, page, line, 0, bytes, 64, BADGERDROSS_ASKED));
     while (made_room(answer));
-    must(answer, (struct badgerdross_refusal){.call = BADGERDROSS_CALL_WRITE, .writer = GAME, .page = page, .line = line});
+    return noted(answer, (struct badgerdross_refusal){.call = BADGERDROSS_CALL_WRITE, .writer = GAME, .page = page, .line = line});
 }
 
-static void commit(void)
+static size_t commit(void)
 {
     size_t answer;
     do
         answer = done(badgerdross_commit(&store, image, length, GAME, BADGERDROSS_ASKED));
     while (made_room(answer));
-    must(answer, (struct badgerdross_refusal){.call = BADGERDROSS_CALL_COMMIT, .writer = GAME});
+    return noted(answer, (struct badgerdross_refusal){.call = BADGERDROSS_CALL_COMMIT, .writer = GAME});
 }
 
 void recall_line(size_t page, size_t line, void *to)
 {
-    must(badgerdross_recall(page, line, image, length, to, 64),
-         (struct badgerdross_refusal){.call = BADGERDROSS_CALL_RECALL, .page = page, .line = line});
+    size_t answer = badgerdross_recall(page, line, image, length, to, 64);
+    if (noted(answer, (struct badgerdross_refusal){.call = BADGERDROSS_CALL_RECALL, .page = page, .line = line})) {
+        fprintf(stderr, "%s\n", words);
+        exit(1);
+    }
 }
 
 const char *sentence(void) { return words; }
@@ -189,32 +185,47 @@ static void draw_round(struct round *round, struct glass *glass, struct scene sc
 }
 
 /* Whole or not at all. A bonus writes more pages than there are slots: it is a wide round, by the same calls. */
-static void play_round(uint64_t bet)
+static size_t store_round(const struct round *round, const struct glass *glass, const struct scene *scenes)
 {
-    struct round last = last_round(), round = {.number = last.number + 1, .bet = bet, .bets = (last.bets + bet) % MODULUS};
+    size_t answer = round->scenes ? badgerdross_begin_wide(&store, GAME) : badgerdross_begin(&store, GAME);
+    if (noted(answer, (struct badgerdross_refusal){.call = BADGERDROSS_CALL_BEGIN, .writer = GAME}))
+        return answer;
+    answer = put(ROUNDS, round->number % ROUND_COUNT, round);
+    if (answer == BADGERDROSS_TAKEN)
+        answer = put(GLASS, 0, glass);
+    for (size_t i = 0; i < round->scenes && answer == BADGERDROSS_TAKEN; i++)
+        answer = put(SCENES + i, 0, &scenes[i]);
+    if (answer == BADGERDROSS_TAKEN)
+        answer = commit();
+    if (answer != BADGERDROSS_TAKEN)
+        badgerdross_abort(&store, GAME);
+    return answer;
+}
+
+static size_t play_round(const struct round *last, uint64_t bet)
+{
+    struct round round = {.number = last->number + 1, .bet = bet, .bets = (last->bets + bet) % MODULUS};
     struct glass glass = {0};
-    struct scene scenes[SCENE_COUNT];
+    struct scene scenes[SCENE_COUNT] = {{0}};
     draw_round(&round, &glass, scenes);
-    round.wins = (last.wins + round.win) % MODULUS;
-    must(round.scenes ? badgerdross_begin_wide(&store, GAME) : badgerdross_begin(&store, GAME),
-         (struct badgerdross_refusal){.call = BADGERDROSS_CALL_BEGIN, .writer = GAME});
-    put(ROUNDS, round.number % ROUND_COUNT, &round);
-    put(GLASS, 0, &glass);
-    for (size_t i = 0; i < round.scenes; i++)
-        put(SCENES + i, 0, &scenes[i]);
-    commit();
+    round.wins = (last->wins + round.win) % MODULUS;
+    return store_round(&round, &glass, scenes);
 }
 
 /* Does what of the last bet is still due, each step once: a bet without its round, a win that is not paid, a game that is
  * not counted. A power cut anywhere in it leaves one of these, and the next start calls it again. */
 static size_t go_on(void)
 {
-    uint64_t bet = (meter(BETS) + MODULUS - last_round().bets) % MODULUS;
-    if (bet > 0)
-        play_round(bet);
     struct round last = last_round();
+    size_t answer = BADGERDROSS_TAKEN;
+    uint64_t bet = (meter(BETS) + MODULUS - last.bets) % MODULUS;
+    if (bet > 0) {
+        answer = play_round(&last, bet);
+        last = last_round();
+    }
     uint64_t win = (last.wins + MODULUS - meter(WINS)) % MODULUS;
-    size_t answer = win > 0 ? event(BADGERDROSS_WON, 0, win) : (size_t)BADGERDROSS_TAKEN;
+    if (answer == BADGERDROSS_TAKEN && win > 0)
+        answer = event(BADGERDROSS_WON, 0, win);
     if (answer == BADGERDROSS_TAKEN && meter(GAMES_PLAYED) != last.number % COUNT_MODULUS)
         answer = event(BADGERDROSS_COUNT, GAMES_PLAYED, 1);
     return answer;
@@ -238,11 +249,14 @@ void start(uint64_t seed_of_draws)
 {
     seed = seed_of_draws;
     for (size_t i = 0; i < 24; i++)
-        moduli[i] = i < GAMES_PLAYED ? MODULUS : COUNT_MODULUS;
+        moduli[i] = i < 5 ? MODULUS : i < 15 ? COUNT_MODULUS : 10000;
     size_t answer = badgerdross_mount(&store, image, length);
     if (answer == BADGERDROSS_UNKNOWN_LAYOUT) /* a new file, or one whose format was cut */
         answer = badgerdross_format(&store, image, length, PAGES, SLOTS, PLACES, ENTRIES, BADGERDROSS_ASKED);
     answer = done(answer); /* of a format, or of a wide round that was cut in its commit */
-    must(answer, (struct badgerdross_refusal){.call = BADGERDROSS_CALL_MOUNT});
+    if (noted(answer, (struct badgerdross_refusal){.call = BADGERDROSS_CALL_MOUNT})) {
+        fprintf(stderr, "%s\n", words);
+        exit(1);
+    }
     go_on(); /* what is refused stays due, and the next spin says so */
 }

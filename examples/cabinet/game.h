@@ -10,7 +10,6 @@
 #define GAME_H
 
 #include <badgerdross.h>
-#include <stdio.h>
 
 enum { PAGES = 19, SLOTS = 4, PLACES = 16, ENTRIES = 20 };
 enum { METERS = 0, GLASS = 1, ROUNDS = 2, SCENES = 3 };
@@ -56,8 +55,8 @@ struct round last_round(void);
 
 /* screens.c */
 extern const char *const names[SYMBOLS];
-void draw_glass(FILE *to);
-void draw_bonus(FILE *to);
-void draw_recall(FILE *to);
+void draw_glass(void);
+void draw_bonus(void);
+void draw_recall(void);
 
 #endif

@@ -45,29 +45,16 @@ pub fn mount(buffer: &[u8]) -> Answer<State> {
     Ok(state)
 }
 
-/// Mounts, copies one committed line to the target's start and forgets.
+/// Mounts, copies one committed line to the target's start and forgets. A line with a committed entry is the entry's.
 pub fn recall(page: u64, line: u64, buffer: &[u8], target: &mut [u8]) -> Answer<()> {
     let state = mount(buffer)?;
     row(BadArgument, page >= state.sizes.p || line >= LINES || target.len() < 64)?;
-    target[..64].copy_from_slice(&line_recalled(&state, buffer, page, line));
-    Ok(())
-}
-
-/// The committed line of a state just mounted. A line with a committed entry is the entry's.
-fn line_recalled(state: &State, buffer: &[u8], page: u64, line: u64) -> [u8; 64] {
     let at = match state.wide.entry_of(page, line) {
         Some(entry) => state.sizes.entry_word(entry, 1),
         None => state.sizes.line_start(state.committed_frame(page, line), line),
     };
-    line_at(buffer, at)
-}
-
-/// What recall gives of every line of every page, by one mount.
-pub fn recall_all(buffer: &[u8]) -> Answer<Vec<[u8; 64]>> {
-    mount(buffer).map(|state| {
-        let lines = (0..state.sizes.p).flat_map(|page| (0..LINES).map(move |line| (page, line)));
-        lines.map(|(page, line)| line_recalled(&state, buffer, page, line)).collect()
-    })
+    target[..64].copy_from_slice(&line_at(buffer, at));
+    Ok(())
 }
 
 /// Rows 1 to 4.

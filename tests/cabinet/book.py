@@ -2,8 +2,7 @@
 does next depends on its memory and the seed alone, so kills and cuts must not change the list."""
 import struct
 
-SIZES = PAGES, SLOTS, PLACES, ENTRIES = 19, 4, 16, 20
-LINES, LINE, COUNT = 64, 64, 5
+PAGES, LINES, LINE = 19, 64, 64
 CREDIT, CASH_IN, CASH_OUT, BETS, WINS, GAMES = 0, 1, 2, 3, 4, 5
 NAMES = ["SEVEN", "CHERRY", "BAR", "PLUM", "BELL", "STAR", "LEMON"]
 REEL = ["SEVEN", "CHERRY", "BAR", "PLUM", "BELL", "CHERRY", "STAR", "LEMON"]
@@ -36,12 +35,11 @@ class Round:
 
 
 class Book:
-    """The pages, the meters, which line the cabinet has printed for the round that is over, and the last step as it is asked of the store, in the words
-    of model-torn."""
+    """The pages, the meters, and which line the cabinet has printed for the round that is over."""
 
     def __init__(self, seed):
         self.seed, self.pages, self.meters = seed, bytearray(PAGES * LINES * LINE), [0] * 24
-        self.number, self.round, self.over, self.call = 0, None, None, None
+        self.number, self.round, self.over = 0, None, None
 
     def lay(self, page, line, data):
         at = (page * LINES + line) * LINE
@@ -53,19 +51,16 @@ class Book:
             self.lay(0, CREDIT, struct.pack("<Q", self.meters[CREDIT]))
         self.meters[meter] = (self.meters[meter] + amount) % (10**8 if meter < 5 else 10**6)
         self.lay(0, meter, struct.pack("<Q", self.meters[meter]))
-        self.call = "event %d %d %d" % (min(meter, COUNT), meter, amount)
 
     def play_round(self, bet):
         self.number += 1
         r = self.round = Round(self.seed, self.number, bet)
         wins = (self.meters[WINS] + r.win) % 10**8
         line = bytes(NAMES.index(s) for s in r.line)
-        puts = [(2, r.number % 64, struct.pack("<5Q3sB", r.number, bet, r.win, self.meters[BETS], wins, line, len(r.prizes))),
-                (1, 0, struct.pack("<Q9s", r.number, bytes(NAMES.index(s) for row in r.window for s in row)))]
-        puts += [(3 + door, 0, struct.pack("<QQ", r.number, prize)) for door, prize in enumerate(r.prizes)]
-        for put in puts:
-            self.lay(*put)
-        self.call = " ".join(["wide" if r.prizes else "round"] + ["%d %d %s" % (page, at, data.ljust(LINE, b"\0").hex()) for page, at, data in puts])
+        self.lay(2, r.number % 64, struct.pack("<5Q3sB", r.number, bet, r.win, self.meters[BETS], wins, line, len(r.prizes)))
+        self.lay(1, 0, struct.pack("<Q9s", r.number, bytes(NAMES.index(s) for row in r.window for s in row)))
+        for door, prize in enumerate(r.prizes):
+            self.lay(3 + door, 0, struct.pack("<QQ", r.number, prize))
 
     def printed(self):
         r = self.round

@@ -1,6 +1,5 @@
-# For the tests of examples/cabinet, which source it: the archive, the library for screen.py, and build FOLDER PROGRAM, which builds the cabinet or the
-# demo of a folder, optionally with another folder of headers, into that folder. KEEP_ARCHIVE=1 takes the archive in target/staticlib, where it was
-# proved before.
+# For the tests of examples/cabinet, which source it: the archive, the library for screen.py, and build FOLDER, which builds the cabinet of a folder,
+# optionally with another folder of headers, into that folder. KEEP_ARCHIVE=1 takes the archive in target/staticlib, where it was proved before.
 top=$PWD
 work=$(mktemp -d)
 trap 'rm -rf "$work"' EXIT
@@ -15,21 +14,13 @@ cc -std=c11 -O2 -Wall -Wextra -Werror -shared -fPIC -Iinclude tests/cabinet/show
     -o "$work/library.so"
 
 build() {
-    make -s -C "$1" LIBRARY="$archive" INCLUDE="${3:-$top/include}" OUT="$1/built" "$1/built/$2"
+    make -s -C "$1" LIBRARY="$archive" INCLUDE="${2:-$top/include}" OUT="$1/built" "$1/built/cabinet"
 }
 
 # copy NAME: the cabinet's sources in a folder of their own
 copy() {
     mkdir "$work/$1"
     cp examples/cabinet/* "$work/$1"
-}
-
-# copy_in_two NAME: that cabinet commits a plain round in two halves, the glass first
-copy_in_two() {
-    copy "$1"
-    replace "$work/$1/game.c" 1/1 '    put(ROUNDS, ' \
-        '    if (!round.scenes) { put(GLASS, 0, &glass); commit(); badgerdross_begin(&store, GAME); }
-    put(ROUNDS, '
 }
 
 # replace FILE NUMBER OLD NEW: the one piece of text, the first, second .. of so many as NUMBER says, is another; where it does not stand, the test fails

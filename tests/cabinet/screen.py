@@ -9,7 +9,7 @@ class Library:
         self.library = ctypes.CDLL(path)
         for name in ("shown", "badgerdross_image_length"):
             getattr(self.library, name).restype = ctypes.c_size_t
-        self.length = self.library.badgerdross_image_length(*[ctypes.c_size_t(n) for n in book.SIZES])
+        self.length = self.library.badgerdross_image_length(*[ctypes.c_size_t(n) for n in (book.PAGES, 4, 16, 20)])
         self.target = ctypes.create_string_buffer(book.PAGES * 64 * 64)
         self.words = (ctypes.c_uint64 * (self.length // 8))()
 

@@ -1,12 +1,11 @@
 """The cabinet's compiled code on memory behind a cache: from a trace of its stores, msyncs and printed lines (tracer.c), the images that a power cut
 may leave. Of what was stored since an msync of it any bytes may have landed, each as of any moment (a word that decides lands whole). Each image is
-mounted by the library and by the independent model (model.py), whose recalls must show the same of every line, and what they show must be what the
-model's own store shows after the same calls. On some of the images the cabinet is started again, and must go on as the model does.
+mounted by the library, and what recall shows is held to the book. On some of them the cabinet is started again, and must go on as the book does.
 
-    torn.py CABINET LIBRARY MODEL TRACE FILE GAME_SEED IMAGES SEED
+    torn.py CABINET LIBRARY TRACE FILE GAME_SEED IMAGES SEED
 
-An image is torn if it shows no state of the model between the last one waited for and the last one stored, and lost if it shows an older one than
-the last msync or printed line promised. Ends with status 1 if there is any, and where library, model and book differ in anything."""
+An image is torn if it shows no state of the book between the last one waited for and the last one stored, and lost if it shows an older one than
+the last msync or printed line promised. Ends with status 1 if there is any."""
 import random
 import re
 import struct
@@ -14,7 +13,6 @@ import subprocess
 import sys
 
 import book
-import model
 import screen
 
 MAPPED, STORE, PERSIST, FLUSH = range(4)
@@ -36,28 +34,18 @@ def read_trace(path):
 
 
 class States:
-    """What recall shows of the model's own store, from the fresh image on, after each step of the game; the book says which calls a step makes, and
-    must come to the same by its own arithmetic."""
+    """The states of the book, made as they are asked for; state 0 is the fresh image."""
 
-    def __init__(self, seed, model):
-        self.book, self.model = book.Book(seed), model
-        self.steps, self.pages, self.ends, self.images = self.book.steps(), [], [], []
-        self.keep()
-
-    def keep(self):
-        answer, pages = self.model.shown(None)
-        if (answer, pages) != (0, bytes(self.book.pages)):
-            fail("the model shows other lines than the book after: %s" % self.book.call)
-        self.pages.append(pages)
+    def __init__(self, seed):
+        self.book = book.Book(seed)
+        self.steps, self.pages, self.ends = self.book.steps(), [bytes(self.book.pages)], []
 
     def at(self, index):
         while index >= len(self.pages):
             next(self.steps)
-            self.model.ask(self.book.call)
             if self.book.over is not None:
                 self.ends.append(len(self.pages))
-                self.images.append(self.model.image())
-            self.keep()
+            self.pages.append(bytes(self.book.pages))
         return self.pages[index]
 
     def after(self, number):
@@ -67,7 +55,7 @@ class States:
         return self.pages[self.ends[number - 1]]
 
     def find(self, answer, pages, first, last):
-        """The lowest of these states that is shown, or None."""
+        """The lowest of these states that this is, or None."""
         if answer == 2:
             return NO_IMAGE if first == NO_IMAGE else None
         return next((i for i in range(max(first, 0), last + 1) if answer == 0 and self.at(i) == pages), None)
@@ -145,78 +133,64 @@ def fail(what):
 class Search:
     """The images tried, and what was found."""
 
-    def __init__(self, cabinet, library, model, path, seed):
-        self.cabinet, self.library, self.model, self.path, self.seed = cabinet, library, model, path, seed
-        self.states = States(seed, model)
+    def __init__(self, cabinet, library, path, seed):
+        self.cabinet, self.library, self.path, self.seed, self.states = cabinet, library, path, seed, States(seed)
         self.made, self.found = 0, {"mixed": 0, "started": 0, "torn": 0, "lost": 0}
 
-    def shown(self, image, where):
-        """What the library shows of an image, which must be what the model shows of it."""
-        answer, pages = self.library.shown(image)
-        by_model = self.model.shown(image)
-        if (answer, pages) != by_model:
-            fail("%s, library and model differ: they answer %d and %d" % (where, answer, by_model[0]))
-        return answer, pages
-
-    def failure(self, image, waited, stored, where):
+    def failure(self, image, waited, stored):
         """What kind of failure this image is, or None."""
-        answer, pages = self.shown(image, where)
+        answer, pages = self.library.shown(image)
         if self.states.find(answer, pages, waited, stored) is not None:
             return None
         return "torn" if self.states.find(answer, pages, NO_IMAGE, stored) is None else "lost"
 
-    def goes_on(self, image, where):
-        """The cabinet, started on this image, plays two rounds more, and leaves the state of the model at their end."""
+    def goes_on(self, image):
+        """The cabinet, started on this image, plays two rounds more, and leaves the state of the book at their end."""
         open(self.path, "wb").write(image)
         command = [self.cabinet, "-n", "2", "-s", str(self.seed), self.path]
         rounds = re.findall(r"^round (\d+): ", subprocess.run(command, stdout=subprocess.PIPE, check=True).stdout.decode(), re.M)
-        return len(rounds) == 2 and self.shown(open(self.path, "rb").read(), where) == (0, self.states.after(int(rounds[1])))
+        return len(rounds) == 2 and self.library.shown(open(self.path, "rb").read()) == (0, self.states.after(int(rounds[1])))
 
     def try_image(self, image, waited, stored, where):
         self.made += 1
-        failure = self.failure(image, waited, stored, where)
+        failure = self.failure(image, waited, stored)
         if failure is not None:
             if self.found[failure] == 0:
                 print("torn: the first that is %s: %s" % (failure, where))
             self.found[failure] += 1
         elif self.made % STARTED == 0:
             self.found["started"] += 1
-            if not self.goes_on(image, where):
-                fail("%s, the cabinet goes on otherwise than the model" % where)
+            if not self.goes_on(image):
+                fail("%s, the cabinet goes on otherwise than the book" % where)
 
 
 def walk(entries, search, times, draw):
-    """Goes along the trace, with the cuts after each of its entries; gives the rounds that it has. At the end of each the stores in their order have
-    left the model's image, byte for byte."""
+    """Goes along the trace, with the cuts after each of its entries; gives the rounds that it has."""
     memory, states, stored, waited, flushed = Memory(entries[0][3]), search.states, NO_IMAGE, NO_IMAGE, 0
     for i, (kind, offset, count, data) in enumerate(entries):
-        where = "after entry %d of the trace, in round %d" % (i, flushed + 1)
         if kind == STORE:
             memory.store(offset, data)
             if count > 0 and offset in DECIDING:
-                stored = states.find(*search.shown(memory.now, where), stored, stored + 1)
+                stored = states.find(*search.library.shown(memory.now), stored, stored + 1)
                 if stored is None:
-                    fail("%s, the stores in their order show no state of the model" % where)
+                    fail("entry %d: the stores in their order show no state of the book" % i)
         elif kind == PERSIST:
             waited = stored if memory.persist(offset, count) else waited
         elif kind == FLUSH:
             flushed += 1
             states.after(flushed)
-            if memory.now != states.images[flushed - 1]:
-                fail("%s, the image is not the model's" % where)
             waited = max(waited, states.ends[flushed - 1])
         for _ in range(times.get(i, 0)):
             image = memory.cut(draw)
             search.found["mixed"] += image not in (memory.landed, memory.now)
-            search.try_image(image, waited, stored, where)
+            search.try_image(image, waited, stored, "after entry %d of the trace, in round %d" % (i, flushed + 1))
     return flushed
 
 
 def main():
-    cabinet, library, model_torn, trace, path = sys.argv[1:6]
-    game_seed, images, seed = map(int, sys.argv[6:9])
-    entries, draw, library = read_trace(trace), random.Random(seed), screen.Library(library)
-    search = Search(cabinet, library, model.Model(model_torn, library.length), path, game_seed)
+    cabinet, library, trace, path = sys.argv[1:5]
+    game_seed, images, seed = map(int, sys.argv[5:8])
+    entries, search, draw = read_trace(trace), Search(cabinet, screen.Library(library), path, game_seed), random.Random(seed)
     rounds = walk(entries, search, moments(entries, images, draw), draw)
     stores, waits = (sum(1 for entry in entries if entry[0] == kind) for kind in (STORE, PERSIST))
     print("torn: %d rounds, %d instructions that store, %d msyncs; %d images, %d mixed, %d played on; %d torn, %d lost"

@@ -11,9 +11,9 @@ use std::process::ExitCode;
 use std::{env, fmt};
 
 use model::compare::Kind;
-use model::image::{put_word, word};
+use model::image::{line as line_at, put_word, word};
 use model::layout::{Sizes, HEADER, HEAD_AT, LAYOUT_AT, LINE, LINES, TAIL_AT, WORD};
-use model::mount::recall_all;
+use model::mount::mount;
 use model::script::lines::{letter_and_numbers, lines};
 use model::script::powerhit::Session;
 
@@ -242,6 +242,19 @@ fn changes(above: &[[u8; 64]], lines: &[[u8; 64]]) -> String {
     texts.join("; ")
 }
 
+/// What recall gives of each line: it mounts, and copies the committed one.
 fn screen(image: &[u8]) -> Screen {
-    recall_all(image).map_err(|refusal| refusal.number())
+    let state = mount(image).map_err(|refusal| refusal.number())?;
+    let sizes = state.sizes;
+    let committed = |page, line| {
+        let frame = match state.slot_of(page) {
+            Some(slot) => state.slots[slot].committed_frame(line),
+            None => word(image, sizes.page_word(page)),
+        };
+        line_at(image, sizes.line_start(frame, line))
+    };
+    Ok((0..sizes.p)
+        .flat_map(|page| (0..LINES).map(move |line| (page, line)))
+        .map(|(page, line)| committed(page, line))
+        .collect())
 }

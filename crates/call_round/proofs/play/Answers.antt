@@ -1,7 +1,6 @@
-use Rattle.std.proofs.Common.{◌≡◌, true, sym, refl, ◌∙◌, arith}
+use Rattle.std.proofs.Common.{rules, ◌≡◌, true, sym, refl, ◌∙◌, arith}
 use Rattle.bounded.specs.Rows.{refusal}
 use Rattle.bounded.proofs.Rows.{row_at}
-use Rattle.bounded.proofs.Tests.{held}
 use Rattle.validity.specs.Validity.{state_ok}
 use Rattle.refinement.specs.Stores.{World}
 use Rattle.refinement.specs.Calls.{world_of, with_writers, begin_rows, begin_of}
@@ -49,7 +48,7 @@ abbrev tested : At-After-state_ok → At-Start
 tested t = t.before.before.before.before.before.before
 
 ok : (c : At-Else-not-state_ok) → state_ok (first c.before.before.before.before.before.before.before).st ≡ true
-ok c = held _ _ c.before.state_ok.ensures (ap not c.if-not-state_ok.false)
+ok c = search rules
 
 abbrev started : At-After-begin_made-begun → At-Else-not-state_ok
 started b = b.before.before.before.before
