@@ -23,7 +23,8 @@ import zlib
 SHARES = 12
 STAMPED, STAMPS = "tests/release_edits", "tests/edits_tried.txt"
 HEADING = """# Written by tools/try_edits.py: of each edit of tests/release_edits the count of commits (git rev-list --count HEAD) when it was last tried, and what
-# came of it. One that is not listed was not tried since the file began, at count 367; docs/CHECKS.md of 798c3cf says what was tried before.
+# came of it. One that is not listed was not tried since the file began, at count 367; docs/CHECKS.md of 798c3cf says what was tried before. Counts up to
+# 375 are of the older kit (docs/PORT.md).
 """
 
 
@@ -73,7 +74,8 @@ def put(one, other):
 
 
 def try_all(folder, asked):
-    """Has rt try each edit; gives those that were not refused, with what was said of them."""
+    """Has rt try each edit; gives those that were not refused, with what was said of them, and how many were refused for no fact of a contract: only because
+    a proof file names what the edit took away, or by a limit of the prover."""
     work = tempfile.mkdtemp()
     try:
         shutil.copytree("crates", f"{work}/crates", ignore=shutil.ignore_patterns("must-fail", "out"))
@@ -91,8 +93,9 @@ def try_all(folder, asked):
     if said.returncode not in (0, 1) or not of and asked:
         print(said.stdout[-3000:], said.stderr[-3000:])
         sys.exit(2)
-    return {(name, edit): of.get(f"{name}/{edit}", "not tried") for name in asked for edit in asked[name]
+    kept = {(name, edit): of.get(f"{name}/{edit}", "not tried") for name in asked for edit in asked[name]
             if not of.get(f"{name}/{edit}", "").startswith("refused")}
+    return kept, sum(words.startswith("refused, as it must be (only") for words in of.values())
 
 
 def main():
@@ -102,13 +105,13 @@ def main():
     if "--list" in options:
         print(*[f"{folder}/{name}/{edit}" for name in asked for edit in asked[name]], sep="\n")
         return
-    kept = try_all(folder, asked)
+    kept, weak = try_all(folder, asked)
     if folder == STAMPED:
         stamp(asked, kept)
     for (name, edit), words in kept.items():
         print(f"{folder}/{name}/{edit}: {words}")
     count = sum(len(edits) for edits in asked.values())
-    print(f"{count} edits tried; {count - len(kept)} refused, {len(kept)} not")
+    print(f"{count} edits tried; {count - len(kept)} refused, {weak} of them for no fact; {len(kept)} not")
     sys.exit(len(kept) > 0)
 
 
