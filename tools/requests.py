@@ -50,9 +50,9 @@ REQUESTS = {
 }
 HEAD = """# The requests of document 02
 
-All fourteen have landed, each with its note. Written by `python3 tools/requests.py`; the gate looks up every crate,
-theorem and note. "Landed" is the commit that brought the note to the main line; `-` where the page was written before
-it.
+All fourteen have landed, each with its note; the code of L4 has left its request since (its note says how). Written by
+`python3 tools/requests.py`; the gate looks up every crate, theorem and note. "Landed" is the commit that brought the
+note to the main line; `-` where the page was written before it.
 
 | Request | What | Note | Landed |
 |---|---|---|---|

@@ -74,8 +74,8 @@ def put(one, other):
 
 
 def try_all(folder, asked):
-    """Has rt try each edit; gives those that were not refused, with what was said of them, and how many were refused for no fact of a contract: only because
-    a proof file names what the edit took away, or by a limit of the prover."""
+    """Has rt try each edit; gives those that were not refused, with what was said of them, and how many rt marks as refused only because
+    a proof file names what the edit took away, or by a limit of the prover. rt marks none where another error stands beside that."""
     work = tempfile.mkdtemp()
     try:
         shutil.copytree("crates", f"{work}/crates", ignore=shutil.ignore_patterns("must-fail", "out"))
@@ -111,7 +111,7 @@ def main():
     for (name, edit), words in kept.items():
         print(f"{folder}/{name}/{edit}: {words}")
     count = sum(len(edits) for edits in asked.values())
-    print(f"{count} edits tried; {count - len(kept)} refused, {weak} of them for no fact; {len(kept)} not")
+    print(f"{count} edits tried; {count - len(kept)} refused, {weak} of them marked by rt as only for a name or a limit; {len(kept)} not")
     sys.exit(len(kept) > 0)
 
 
