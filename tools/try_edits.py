@@ -3,6 +3,7 @@
 
     --share     of them a twelfth, by the count of commits: another one with each, so that in twelve all have had their turn
     --share=K   the twelfth K, 0 to 11
+    --since=C   those alone that are not as they were at the commit C
     --list      prints the edits that would be tried
 
 What was tried of tests/release_edits stands in tests/edits_tried.txt with the count of commits and what came of it: commit it with the next change.
@@ -62,6 +63,9 @@ def chosen(folder, names, options):
             share = int(option.partition("=")[2] or commits()) % SHARES
             asked = {name: shared(name, edits, share) for name, edits in asked.items()}
             print(f"{folder}: share {share} of {SHARES}")
+        if option.startswith("--since="):
+            changed = subprocess.run(["git", "diff", "--name-only", option.partition("=")[2], "--", folder], capture_output=True, text=True, check=True).stdout.split()
+            asked = {name: [edit for edit in edits if f"{folder}/{name}/{edit}.edit" in changed] for name, edits in asked.items()}
     return {name: edits for name, edits in asked.items() if edits}
 
 
