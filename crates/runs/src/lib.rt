@@ -25,7 +25,7 @@ pub fn copy_words(src: &[u8], from: usize, dst: &mut [u8], to: usize, n: usize)
     }
 }
 
-// The 8 words of a line.
+// The 8 words of a line. Of `array::from_fn` the proof did not close: its items stand under pairs that no rule of the search takes apart.
 pub fn words_of(line: &[u8]) -> [u64; 8]
     requires { length line.now ≡ 64 }
     ensures { result ≡ words_at line.now 0 8 }
