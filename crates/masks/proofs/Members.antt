@@ -1,5 +1,5 @@
 -- Which lines are in a set that was made from others, and sets that are told by their lines. A set is a mask below 2 ^ 64.
-use Prim.Native.Nat.{ℕ, ◌-◌, ◌*◌, ◌^◌, ◌<◌, ◌%◌}
+use Prim.Native.Nat.{ℕ, ◌*◌, ◌^◌, ◌<◌, ◌%◌}
 use mathlib.Core.Bool.{Bool, true, false, not, cond, ◌||◌, or-true, or-false}
 use mathlib.Core.Path.{◌≡◌, refl, sym, ap, ◌∙◌}
 use lib.Bits.{or_lt, xor_lt}

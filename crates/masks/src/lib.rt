@@ -38,7 +38,7 @@ pub fn are_disjoint(a: u64, b: u64) -> bool
 pub fn count(m: u64) -> usize
     ensures { result ≡ count_lines m }
 {
-    u64::count_ones(m) as usize
+    m.count_ones() as usize
 }
 
 // The line of m that has n lines of m below it, or 64 where there is none.
@@ -46,15 +46,13 @@ pub fn nth_in(m: u64, n: usize) -> usize
     ensures { result ≡ get_or (lines_in m) n 64 }
 {
     let mut left = n;
-    let mut i = 0;
-    while i < 64 {
+    for i in 0..64 {
         if has(m, i) {
             if left == 0 {
                 return i;
             }
             left -= 1;
         }
-        i += 1;
     }
     64
 }

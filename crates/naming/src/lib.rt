@@ -16,12 +16,9 @@ fn mask_of(names: &[u64]) -> u64
 {
     let mut m = 0;
     let mut all = 0;
-    let mut i = 0;
-    while i < names.len() {
-        let name = names[i];
-        m = m | (1 << (name % 64));
-        all = all | name;
-        i += 1;
+    for name in names {
+        m |= 1 << (name % 64);
+        all |= name;
     }
     if 64 <= all {
         return 0;
@@ -35,7 +32,7 @@ fn first_ones(n: usize) -> u64
     ensures { result ≡ 2 ^ n - 1 }
 {
     if n == 64 {
-        return 18446744073709551615;
+        return u64::MAX;
     }
     (1 << n) - 1
 }
@@ -46,10 +43,8 @@ fn own_from(names: &[u64], from: usize, end: usize) -> bool
     ensures { result ≡ all_below end (λ i. ltb i from || eqb (get_or names.now i 0) i) }
 {
     let mut differ = 0;
-    let mut i = from;
-    while i < end {
-        differ = differ | (names[i] ^ i as u64);
-        i += 1;
+    for i in from..end {
+        differ |= names[i] ^ i as u64;
     }
     differ == 0
 }
@@ -76,11 +71,8 @@ fn run_own(names: &[u64], from: usize, end: usize) -> bool
 fn mark(seen: &mut [bool; 1041], names: &[u64])
     ensures { seen.new ≡ marked names.now seen.old }
 {
-    let mut i = 0;
-    while i < names.len() {
-        let at = bounded::smaller(names[i] as usize, 1040);
-        seen[at] = true;
-        i += 1;
+    for name in names {
+        seen[(*name as usize).min(1040)] = true;
     }
 }
 
@@ -90,16 +82,14 @@ fn mark_moved(seen: &mut [bool; 1041], homes: &[u64]) -> u64
     ensures { MarkedBut homes.now (length homes.now) seen.old result seen.new }
 {
     let mut own = 0;
-    let mut k = 0;
-    while RUN * k < homes.len() {
+    for k in 0..homes.len().div_ceil(RUN) {
         let from = RUN * k;
-        let end = bounded::smaller(from + RUN, homes.len());
+        let end = (from + RUN).min(homes.len());
         if run_own(homes, from, end) {
             own = masks::with(own, k);
         } else {
             mark(seen, &homes[from..end]);
         }
-        k += 1;
     }
     own
 }
@@ -110,10 +100,8 @@ fn marked_from(seen: &[bool; 1041], from: usize, end: usize) -> bool
     ensures { result ≡ all_below end (λ x. ltb x from || get_or seen.now x false) }
 {
     let mut all = true;
-    let mut i = from;
-    while i < end {
-        all = all & seen[i];
-        i += 1;
+    for i in from..end {
+        all &= seen[i];
     }
     all
 }
@@ -124,13 +112,11 @@ fn all_told(seen: &[bool; 1041], own: u64, p: usize, n: usize) -> bool
     ensures { result ≡ all_below n (told p own seen.now) }
 {
     let mut all = true;
-    let mut k = 0;
-    while RUN * k < p {
+    for k in 0..p.div_ceil(RUN) {
         let from = RUN * k;
         if !masks::has(own, k) {
-            all = all & marked_from(seen, from, bounded::smaller(from + RUN, p));
+            all &= marked_from(seen, from, (from + RUN).min(p));
         }
-        k += 1;
     }
     all & marked_from(seen, p, n)
 }

@@ -6,6 +6,8 @@ use native.Mathlib.Nat.{pow-suc, div-lt_iff_lt-mul, zero-lt-suc}
 use native.Mathlib.Omega.{arith}
 use lib.ListN.{length, take, drop, get_or}
 use lib.Seq.{get_or-drop}
+use Rattle.std.proofs.Common.{w64}
+use Rattle.std.specs.Int.{from_le_bytes, to_le_bytes}
 use Rattle.words.specs.Words.{le_of, bytes_of, Bytes}
 
 -- a list of 8 elements, one by one
@@ -71,3 +73,20 @@ bytes_take (suc n) (b ∷ l) h (suc i) = bytes_take n l (λ j. h (suc j)) i
 
 pub bytes_drop : (n : ℕ) (l : List ℕ) → Bytes l → Bytes (drop n l)
 bytes_drop n l h i = rw get_or-drop (h (n + i))
+
+-- ---- the library's words for the same
+
+pub from-eight : (l : List ℕ) → length l ≡ 8 → from_le_bytes w64 l ≡ le_of l
+unfolding le_of
+from-eight l h = omega (arith, ap le_of (eight l h))
+
+pub to-eight : (v : ℕ) → to_le_bytes w64 v ≡ bytes_of 8 v
+unfolding bytes_of
+to-eight v =
+    let e2 : v / 256 / 256 ≡ v / 65536 = omega arith in
+    let e3 : v / 65536 / 256 ≡ v / 16777216 = omega arith in
+    let e4 : v / 16777216 / 256 ≡ v / 4294967296 = omega arith in
+    let e5 : v / 4294967296 / 256 ≡ v / 1099511627776 = omega arith in
+    let e6 : v / 1099511627776 / 256 ≡ v / 281474976710656 = omega arith in
+    let e7 : v / 281474976710656 / 256 ≡ v / 72057594037927936 = omega arith in
+    rw (e2, e3, e4, e5, e6, e7)

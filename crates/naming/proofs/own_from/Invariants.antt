@@ -3,11 +3,7 @@ use lib.ListN.{get_or}
 use lib.Dec.{eqb, ltb}
 use mathlib.Core.Bool.{◌||◌}
 use mathlib.Core.Path.{◌≡◌}
-use Prim.Native.Nat.{◌≤◌, ◌-◌}
 use Rattle.naming.proofs.own_from.Given as goal
 
 abbrev pub invariant-loop-i : goal.invariant-loop-i
-invariant-loop-i l = (l.from ≤ l.i) × ((l.i ≤ l.end) × (eqb l.differ 0 ≡ all_below l.i (λ k. ltb k l.from || eqb (get_or l.names k 0) k)))
-
-abbrev pub decreases-loop-i : goal.decreases-loop-i
-decreases-loop-i l = l.end - l.i
+invariant-loop-i l = eqb l.differ 0 ≡ all_below l.i (λ k. ltb k l.from || eqb (get_or l.names k 0) k)

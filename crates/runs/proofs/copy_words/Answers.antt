@@ -1,5 +1,4 @@
 use mathlib.Core.Path.{◌≡◌, refl}
-use Prim.Native.Nat.{◌-◌}
 use borrow.Author.Rules.{rules}
 use native.Mathlib.Omega.{arith}
 use Rattle.words.specs.Words.{words_at, put_words}
@@ -8,12 +7,12 @@ use Rattle.runs.proofs.copy_words.Goals as goal
 
 pub loop-i-init : goal.loop-i-init
 unfolding put_words words_at
-loop-i-init c = (search rules, refl, refl)
+loop-i-init c = (refl, refl)
 
 pub loop-i-preserved : goal.loop-i-preserved
 loop-i-preserved c =
     let x = c.args in
-    (search rules, search rules, cc (puts-words x.dst.now x.to x.src.now x.from c.loop-i.i))
+    (search rules, cc (puts-words x.dst.now x.to x.src.now x.from c.loop-i.i))
 
 pub returns : goal.returns
 returns c =

@@ -1,12 +1,8 @@
 use mathlib.Core.Path.{◌≡◌}
-use Prim.Native.Nat.{◌-◌, ◌≤◌}
 use lib.ListN.{length}
 use Rattle.words.specs.Words.{words_at, put_words}
 use Rattle.runs.proofs.copy_words.Given as goal
 
 -- After i turns the first i words are put; all of them are the bytes of the part.
 abbrev pub invariant-loop-i : goal.invariant-loop-i
-invariant-loop-i l = (l.i ≤ l.n) × (length l.dst ≡ length l.initial.dst) × (l.dst ≡ put_words l.initial.dst l.to (words_at l.src l.from l.i))
-
-abbrev pub decreases-loop-i : goal.decreases-loop-i
-decreases-loop-i l = l.n - l.i
+invariant-loop-i l = (length l.dst ≡ length l.initial.dst) × (l.dst ≡ put_words l.initial.dst l.to (words_at l.src l.from l.i))

@@ -1,22 +1,24 @@
+use Prim.Native.Nat.{ℕ}
+use mathlib.Core.List.{List, ◌++◌, ◌∷◌, []}
+use mathlib.Core.Path.{◌≡◌, ◌∙◌, sym, ap}
 use native.Mathlib.Omega.{arith}
-use lib.ListN.{length-set}
-use Rattle.words.specs.Words.{bytes_of}
-use Rattle.words.proofs.Bytes.{eight}
+use lib.ListN.{length, get_or}
+use lib.Seq.{take_all}
+use Rattle.std.proofs.lemmas.List.{take_more, take_more_set}
+use Rattle.words.proofs.Bytes.{to-eight}
 use Rattle.words.proofs.put_bytes.Goals as goal
 
--- A list of 8 elements with each of them set is the 8 bytes.
-pub bounds-b-4 : goal.bounds-b-4
-bounds-b-4 c = simp length-set (omega arith)
-
-pub bounds-b-5 : goal.bounds-b-5
-bounds-b-5 c = simp length-set (omega arith)
-
-pub bounds-b-6 : goal.bounds-b-6
-bounds-b-6 c = simp length-set (omega arith)
-
-pub bounds-b-7 : goal.bounds-b-7
-bounds-b-7 c = simp length-set (omega arith)
+pub loop-i-preserved : goal.loop-i-preserved
+loop-i-preserved c =
+    let i = c.loop-i.i in
+    let bytes = c.to_le_bytes-bytes.result in
+    let size : length bytes ≡ 8 = ap (λ (l : List ℕ). length l) c.to_le_bytes-bytes.ensures in
+    take_more_set c.loop-i.b i (get_or bytes i 0) (omega arith) ∙ ap (λ (l : List ℕ). l ++ get_or bytes i 0 ∷ []) c.loop-i.invariant
+    ∙ sym (take_more bytes i 0 (omega arith))
 
 pub returns : goal.returns
-unfolding bytes_of
-returns c = rw (eight c.args.b.now c.requires)
+returns c =
+    let bytes = c.to_le_bytes-bytes.result in
+    let size : length bytes ≡ 8 = ap (λ (l : List ℕ). length l) c.to_le_bytes-bytes.ensures in
+    sym (take_all c.loop-i.i c.loop-i.b (omega arith)) ∙ c.loop-i.invariant ∙ take_all c.loop-i.i bytes (omega arith)
+    ∙ c.to_le_bytes-bytes.ensures ∙ to-eight c.args.v
