@@ -51,7 +51,7 @@ pub fn fresh_table(z: Sizes) -> Table
 {
     let mut t = replay::empty_table();
     for s in 0..z.slots {
-        t = replay::with_slot(t, s, journal::slots::free_slot(z.pages + s));
+        replay::put_slot(&mut t, s, journal::slots::free_slot(z.pages + s));
     }
     t
 }

@@ -10,7 +10,7 @@ loop-s-init c = c.empty_table-t.ensures ∙ up_none _ _
 
 pub loop-s-preserved : goal.loop-s-preserved
 loop-s-preserved c =
-    c.with_slot-t.ensures ∙ ap (with_slot c.loop-s.t c.loop-s.s) c.free_slot.ensures ∙ up_turn _ _ _ _ c.loop-s.invariant
+    c.put_slot.ensures ∙ ap (with_slot c.loop-s.t c.loop-s.s) c.free_slot.ensures ∙ up_turn _ _ _ _ c.loop-s.invariant
 
 pub returns : goal.returns
 unfolding fresh_table
