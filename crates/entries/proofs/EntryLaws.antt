@@ -1,18 +1,18 @@
 -- What right entries tell: they are at most L, each is one of a page, and no line has two. The entry of a line, and one more used.
-use Prim.Native.Nat.{ℕ, ◌+◌, ◌*◌, ◌/◌, ◌%◌, ◌≤◌, ◌<◌, min}
+use Prim.Native.Nat.{ℕ, ◌+◌, ◌≤◌, ◌<◌, min}
 use mathlib.Core.Path.{◌≡◌, refl, sym, ap, ◌∙◌, subst}
-use mathlib.Core.Bool.{Bool, true, false, ◌&&◌}
+use mathlib.Core.Bool.{Bool, true}
 use mathlib.Core.List.{List}
 use native.Mathlib.Nat.{le_antisymm}
 use native.Mathlib.Omega.{arith}
 use lib.Dec.{ltb, leb, eqb}
-use lib.ListN.{length, get_or, set, replicate, length-replicate}
+use lib.ListN.{length, get_or, set, length-replicate}
 use lib.Seq.{get_or-set_same, get_or-set_other}
 use borrow.Author.Tests.{leb-true, le-leb, ltb-true, ltb-false, lt-ltb, eqb-true, eq-eqb}
-use Rattle.bounded.specs.Below.{all_below, first_below, up_to}
+use Rattle.bounded.specs.Below.{all_below, up_to}
 use Rattle.bounded.specs.Tab.{filled}
 use Rattle.bounded.proofs.Tests.{case_on, contradicts, and_left, and_right}
-use Rattle.bounded.proofs.Below.{split_below, all-at, all_made, first-le, first_holds, first-before}
+use Rattle.bounded.proofs.Below.{all-at, all_made, first-le, first_holds, first-before}
 use Rattle.bounded.proofs.Tab.{length-filled, get_or-filled}
 use Rattle.layout.specs.declared.Sizes.{Sizes}
 use Rattle.layout.specs.Layout.{entry_word}

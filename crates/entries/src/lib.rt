@@ -1,26 +1,27 @@
 // The entries of a wide transaction: their keys, and whether they are right.
 #![tactic(auto)]
 
-ghost use Rattle.std.specs.Prelude.{◌≡◌, ◌<◌, ◌≤◌, length};
+ghost use Rattle.std.specs.Prelude.{◌≡◌, ◌<◌, ◌≤◌, ◌==◌, length, position, take};
 ghost use Rattle.layout.specs.Layout.{Legal, image_length};
 ghost use Rattle.words.specs.Words.{word};
 ghost use Rattle.entries.specs.Entries.{keys_from, entry_of, key_right, entries_ok};
 
 use layout::Sizes;
 
-// The first of n entries with this key, or n where there is none.
+// The first of n entries with this key.
+fn entry_with(keys: &[u64; 64], n: usize, key: u64) -> Option<usize>
+    requires { n ≤ 64 }
+    ensures { result ≡ position (λ k. k == key) (take n keys.now) }
+{
+    keys[..n].iter().position(|k| *k == key)
+}
+
+// The same, or n where there is none.
 pub fn find_entry(keys: &[u64; 64], n: usize, key: u64) -> usize
     requires { n ≤ 64 }
     ensures { result ≡ entry_of keys.now n key }
 {
-    let mut e = 0;
-    while e < n {
-        if keys[e] == key {
-            return e;
-        }
-        e += 1;
-    }
-    n
+    entry_with(keys, n, key).unwrap_or(n)
 }
 
 // Whether entry e is one of a page, and of a line that no entry before it has.
@@ -42,12 +43,10 @@ pub fn entries_ok(z: Sizes, keys: &[u64; 64], n: usize) -> bool
     if z.entries < n {
         return false;
     }
-    let mut e = 0;
-    while e < n {
+    for e in 0..n {
         if !key_right(z, keys, e) {
             return false;
         }
-        e += 1;
     }
     true
 }
@@ -57,12 +56,10 @@ pub fn read_keys(image: &[u8], z: Sizes, n: usize) -> [u64; 64]
     requires { Legal z × (image_length z ≤ length image.now) }
     ensures { result ≡ keys_from (word image.now) z n }
 {
-    let end = bounded::smaller(n, z.entries);
+    let end = n.min(z.entries);
     let mut keys = [0u64; 64];
-    let mut e = 0;
-    while e < end {
+    for e in 0..end {
         keys[e] = image_words::read_word(image, layout::entry_word(z, e));
-        e += 1;
     }
     keys
 }

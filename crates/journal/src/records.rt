@@ -4,7 +4,7 @@ ghost use Rattle.layout.specs.Layout.{Legal, image_length};
 ghost use Rattle.words.specs.Words.{word};
 ghost use Rattle.journal.specs.Records.{position, live_count, positions_ok, record_from, word_of_record, live_record, record_right, records_ok};
 
-use crate::{Record, slots};
+use crate::{HALF, Record, slots};
 use layout::Sizes;
 
 // The position i after from, without a division: their sum is below 4J.
@@ -35,13 +35,7 @@ pub fn positions_ok(z: Sizes, head: usize, tail: usize) -> bool
     requires { Legal z }
     ensures { result ≡ positions_ok z head tail }
 {
-    if 2 * z.places <= head {
-        return false;
-    }
-    if 2 * z.places <= tail {
-        return false;
-    }
-    live_count(z, head, tail) <= z.places
+    head < 2 * z.places && tail < 2 * z.places && live_count(z, head, tail) <= z.places
 }
 
 // The record in the four words from word a on.
@@ -52,8 +46,8 @@ pub fn record_from(image: &[u8], a: usize) -> Record
     let w = image_words::read_word(image, a);
     let now = slots::slot_from(image, a + 1);
     Record {
-        first: (w % 4294967296) as usize,
-        slot: (w / 4294967296) as usize,
+        first: (w % HALF) as usize,
+        slot: (w / HALF) as usize,
         now,
     }
 }
@@ -64,13 +58,13 @@ pub fn word_of_record(e: Record, k: usize) -> u64
     ensures { result ≡ word_of_record e k }
 {
     if k == 0 {
-        return (e.first + 4294967296 * e.slot) as u64;
+        return e.first as u64 + HALF * e.slot as u64;
     }
-    let now = e.now;
-    slots::word_of_slot(now, k - 1)
+    slots::word_of_slot(e.now, k - 1)
 }
 
 // The i-th live record.
+#[tactic(auto, unfolding(crate::specs::Records::live_record))]
 pub fn live_record(image: &[u8], z: Sizes, tail: usize, i: usize) -> Record
     requires { Legal z × (image_length z ≤ length image.now) × (tail < 2 * z.places) × (i ≤ z.places) }
     ensures { result ≡ live_record (word image.now) z tail i }
@@ -86,10 +80,9 @@ fn record_ok(z: Sizes, own: usize, i: usize, before: Record, e: Record) -> bool
     requires { Legal z }
     ensures { result ≡ record_right z own i before e }
 {
-    let now = e.now;
     (e.slot < z.slots)
         & ((e.first == own) | ((i != 0) & (e.first == before.first) & (before.slot < e.slot)))
-        & slots::is_shaped(z, now)
+        & slots::is_shaped(z, e.now)
 }
 
 // Whether each of the n live records is right (row 6). The first one has no record before it and is held to itself.
@@ -98,15 +91,13 @@ pub fn records_ok(image: &[u8], z: Sizes, tail: usize, n: usize) -> bool
     ensures { result ≡ records_ok z tail n (live_record (word image.now) z tail) }
 {
     let mut before = live_record(image, z, tail, 0);
-    let mut i = 0;
-    while i < n {
+    for i in 0..n {
         let own = position(z, tail, i);
         let e = live_record(image, z, tail, i);
         if !record_ok(z, own, i, before, e) {
             return false;
         }
         before = e;
-        i += 1;
     }
     true
 }

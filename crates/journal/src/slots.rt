@@ -4,7 +4,7 @@ ghost use Rattle.layout.specs.Layout.{Legal};
 ghost use Rattle.words.specs.Words.{word};
 ghost use Rattle.journal.specs.Slots.{slot_from, word_of_slot, free_slot, shaped};
 
-use crate::{NO_FRAME, NO_PAGE, Slot};
+use crate::{HALF, NO_FRAME, NO_PAGE, Slot};
 use layout::Sizes;
 
 // The slot in the three words from word a on.
@@ -17,8 +17,8 @@ pub fn slot_from(image: &[u8], a: usize) -> Slot
     let bitmap = image_words::read_word(image, a + 2);
     Slot {
         page: page as usize,
-        original: (frames % 4294967296) as usize,
-        spare: (frames / 4294967296) as usize,
+        original: (frames % HALF) as usize,
+        spare: (frames / HALF) as usize,
         bitmap,
     }
 }
@@ -28,13 +28,11 @@ pub fn word_of_slot(t: Slot, k: usize) -> u64
     requires { (t.original < 2 ^ 32) × (t.spare < 2 ^ 32) }
     ensures { result ≡ word_of_slot t k }
 {
-    if k == 0 {
-        return t.page as u64;
+    match k {
+        0 => t.page as u64,
+        1 => t.original as u64 + HALF * t.spare as u64,
+        _ => t.bitmap,
     }
-    if k == 1 {
-        return (t.original + 4294967296 * t.spare) as u64;
-    }
-    t.bitmap
 }
 
 // The free slot with spare f.

@@ -6,7 +6,7 @@ ghost use Rattle.layout.specs.Layout.{sizes_ok, Legal, frames, layout_of, page_w
 ghost use Rattle.layout.specs.Layout.{entry_word, image_length};
 
 // Sizes of a store (document 01: P, S and J; document 02, L14: L).
-#[derive(Clone, Copy)]
+#[derive(Clone, Copy, Debug, PartialEq, Eq)]
 pub struct Sizes {
     pub pages: usize,
     pub slots: usize,

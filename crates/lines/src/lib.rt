@@ -1,7 +1,7 @@
 // Whole lines of the frames: read, and merged with data.
 #![tactic(auto)]
 
-ghost use Rattle.std.specs.Prelude.{◌≡◌, ◌+◌, ◌≤◌, ◌<◌, not, eqb, length, get_or};
+ghost use Rattle.std.specs.Prelude.{◌≡◌, ◌+◌, ◌≤◌, ◌<◌, length};
 ghost use Rattle.words.specs.Words.{part, over};
 ghost use Rattle.layout.specs.Layout.{Legal, frames, image_length};
 ghost use Rattle.image.specs.Lines.{line_bytes, merged, differ, merge_changes, line_words};
@@ -16,30 +16,19 @@ pub fn read_line(image: &[u8], z: Sizes, f: usize, l: usize, target: &mut [u8])
     runs::copy_words(image::frame(image, z, f), 64 * l, target, 0, 8);
 }
 
-// Whether two lines differ in word k.
-fn word_differs<'a>(a: &'a [u64; 8], b: &'a [u64; 8], k: usize) -> bool
-    requires { k < 8 }
-    ensures { result ≡ not (eqb (get_or a.now k 0) (get_or b.now k 0)) }
-{
-    a[k] != b[k]
-}
-
-// Whether two lines differ, told by their words.
+// Whether two lines differ, told by their words, all of which are compared: `a != b` would branch at each.
 pub fn words_differ<'a>(a: &'a [u64; 8], b: &'a [u64; 8]) -> bool
     ensures { result ≡ differ 8 a.now b.now }
 {
-    word_differs(a, b, 0)
-        | word_differs(a, b, 1)
-        | word_differs(a, b, 2)
-        | word_differs(a, b, 3)
-        | word_differs(a, b, 4)
-        | word_differs(a, b, 5)
-        | word_differs(a, b, 6)
-        | word_differs(a, b, 7)
+    let mut differ = false;
+    for k in 0..8 {
+        differ |= a[k] != b[k];
+    }
+    differ
 }
 
 // The words of a line that data were laid over, and whether any byte changed.
-#[derive(Clone, Copy)]
+#[derive(Clone, Copy, Debug, PartialEq, Eq)]
 pub struct Merged {
     pub words: [u64; 8],
     pub changed: bool,

@@ -89,7 +89,7 @@ pub fn table_ok(image: &[u8], z: Sizes, t: Table) -> bool
     requires { Legal z × (image_length z ≤ length image.now) }
     ensures { result ≡ table_ok (page_frames (word image.now)) z t }
 {
-    if !replay::slots_shaped(z, &t.page, &t.original, &t.spare, &t.bitmap) {
+    if !replay::slots_shaped(z, &t) {
         return false;
     }
     if !replay::pages_apart(z, &t.page) {

@@ -1,6 +1,6 @@
 -- The slots as mount makes them: the slot table, then the live records in order, each replacing its slot and becoming
 -- its last record.
-use Rattle.std.specs.Prelude.{ℕ, ◌-◌, ◌^◌, ◌+◌, Bool, ◌&&◌, ◌||◌, not, cond, List, ◌++◌, ltb, eqb, get_or, set, replicate}
+use Rattle.std.specs.Prelude.{ℕ, ◌-◌, ◌^◌, Bool, ◌&&◌, ◌||◌, not, cond, List, ◌++◌, ltb, eqb, get_or, set, replicate}
 use Rattle.bounded.specs.Below.{up_to, all_below, first_below}
 use Rattle.bounded.specs.Tab.{tab}
 use Rattle.bounded.specs.Count.{each_once}
@@ -10,7 +10,7 @@ use Rattle.journal.specs.declared.Slot.{Slot}
 use Rattle.journal.specs.declared.Record.{Record}
 use Rattle.replay.specs.declared.Table.{Table}
 use Rattle.journal.specs.Slots.{no_page, slot_from, shaped}
-use Rattle.journal.specs.Records.{position, live_record}
+use Rattle.journal.specs.Records.{position}
 
 -- no last record
 abbrev pub no_position : ℕ

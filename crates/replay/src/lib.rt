@@ -5,16 +5,16 @@ ghost use Rattle.std.specs.Prelude.{◌≡◌, true, ◌+◌, ◌*◌, ◌≤◌
 ghost use Rattle.layout.specs.Layout.{Legal, image_length};
 ghost use Rattle.words.specs.Words.{word};
 ghost use Rattle.journal.specs.Records.{live_record, records_ok};
-ghost use Rattle.replay.specs.Table.{slot_in, with_slot, empty_table, table_from, replay, slots_of_arrays, slots_shaped, page_apart, pages_apart};
+ghost use Rattle.replay.specs.Table.{slot_in, with_slot, empty_table, table_from, replay, slots_shaped, page_apart, pages_apart};
 
 use journal::Slot;
 use layout::Sizes;
 
 // What stands for the position of a slot without a live record: 2^64 - 1.
-pub const NO_POSITION: usize = 18446744073709551615;
+pub const NO_POSITION: usize = usize::MAX;
 
 // Up to 16 slots, and for each the position of its last live record, or none.
-#[derive(Clone, Copy)]
+#[derive(Clone, Copy, Debug, PartialEq, Eq)]
 pub struct Table {
     pub page: [usize; 16],
     pub original: [usize; 16],
@@ -24,9 +24,9 @@ pub struct Table {
 }
 
 // Slot s of a table.
-pub fn slot_in(t: Table, s: usize) -> Slot
+pub fn slot_at(t: &Table, s: usize) -> Slot
     requires { s < 16 }
-    ensures { result ≡ slot_in t s }
+    ensures { result ≡ slot_in t.now s }
 {
     Slot {
         page: t.page[s],
@@ -36,36 +36,23 @@ pub fn slot_in(t: Table, s: usize) -> Slot
     }
 }
 
-// Slot s of the arrays of a table.
-pub fn slot_at<'a>(
-    page: &'a [usize; 16],
-    original: &'a [usize; 16],
-    spare: &'a [usize; 16],
-    bitmap: &'a [u64; 16],
-    s: usize,
-) -> Slot
+// The same of a table that goes by value.
+pub fn slot_in(t: Table, s: usize) -> Slot
     requires { s < 16 }
-    ensures { result ≡ slot_in (slots_of_arrays page.now original.now spare.now bitmap.now) s }
+    ensures { result ≡ slot_in t s }
 {
-    Slot {
-        page: page[s],
-        original: original[s],
-        spare: spare[s],
-        bitmap: bitmap[s],
-    }
+    slot_at(&t, s)
 }
 
-// A table with slot s replaced.
-pub fn with_slot(t: Table, s: usize, v: Slot) -> Table
+// Puts v as slot s of a table.
+pub fn put_slot(t: &mut Table, s: usize, v: Slot)
     requires { s < 16 }
-    ensures { result ≡ with_slot t s v }
+    ensures { t.new ≡ with_slot t.old s v }
 {
-    let mut u = t;
-    u.page[s] = v.page;
-    u.original[s] = v.original;
-    u.spare[s] = v.spare;
-    u.bitmap[s] = v.bitmap;
-    u
+    t.page[s] = v.page;
+    t.original[s] = v.original;
+    t.spare[s] = v.spare;
+    t.bitmap[s] = v.bitmap;
 }
 
 // A table with nothing in it.
@@ -87,15 +74,12 @@ fn table_from(image: &[u8], z: Sizes) -> Table
     ensures { result ≡ table_from (word image.now) z }
 {
     let mut t = empty_table();
-    let mut s = 0;
-    while s < z.slots {
-        let a = layout::slot_word(z, s);
-        let v = journal::slots::slot_from(image, a);
-        t.page[s] = v.page;
-        t.original[s] = v.original;
-        t.spare[s] = v.spare;
-        t.bitmap[s] = v.bitmap;
-        s += 1;
+    for s in 0..z.slots {
+        put_slot(
+            &mut t,
+            s,
+            journal::slots::slot_from(image, layout::slot_word(z, s)),
+        );
     }
     t
 }
@@ -107,44 +91,23 @@ pub fn replayed(image: &[u8], z: Sizes, tail: usize, n: usize) -> Table
     ensures { result ≡ replay z tail n (live_record (word image.now) z tail) (table_from (word image.now) z) }
 {
     let mut t = table_from(image, z);
-    let mut i = 0;
-    while i < n {
+    for i in 0..n {
         let e = journal::records::live_record(image, z, tail, i);
-        let q = journal::records::position(z, tail, i);
-        let s = e.slot;
-        t.page[s] = e.now.page;
-        t.original[s] = e.now.original;
-        t.spare[s] = e.now.spare;
-        t.bitmap[s] = e.now.bitmap;
-        t.last[s] = q;
-        i += 1;
+        put_slot(&mut t, e.slot, e.now);
+        t.last[e.slot] = journal::records::position(z, tail, i);
     }
     t
 }
 
 // Whether each slot has a shape.
-pub fn slots_shaped<'a>(
-    z: Sizes,
-    page: &'a [usize; 16],
-    original: &'a [usize; 16],
-    spare: &'a [usize; 16],
-    bitmap: &'a [u64; 16],
-) -> bool
+pub fn slots_shaped(z: Sizes, t: &Table) -> bool
     requires { Legal z }
-    ensures { result ≡ slots_shaped z (slots_of_arrays page.now original.now spare.now bitmap.now) }
+    ensures { result ≡ slots_shaped z t.now }
 {
-    let mut s = 0;
-    while s < z.slots {
-        let v = Slot {
-            page: page[s],
-            original: original[s],
-            spare: spare[s],
-            bitmap: bitmap[s],
-        };
-        if !journal::slots::is_shaped(z, v) {
+    for s in 0..z.slots {
+        if !journal::slots::is_shaped(z, slot_at(t, s)) {
             return false;
         }
-        s += 1;
     }
     true
 }
@@ -155,17 +118,7 @@ fn page_apart(page: &[usize; 16], s: usize) -> bool
     ensures { result ≡ page_apart page.now s }
 {
     let p = page[s];
-    if p == journal::NO_PAGE {
-        return true;
-    }
-    let mut k = 0;
-    while k < s {
-        if p == page[k] {
-            return false;
-        }
-        k += 1;
-    }
-    true
+    p == journal::NO_PAGE || !page[..s].contains(&p)
 }
 
 // Whether no page is in two slots.
@@ -173,12 +126,10 @@ pub fn pages_apart(z: Sizes, page: &[usize; 16]) -> bool
     requires { Legal z }
     ensures { result ≡ pages_apart z page.now }
 {
-    let mut s = 0;
-    while s < z.slots {
+    for s in 0..z.slots {
         if !page_apart(page, s) {
             return false;
         }
-        s += 1;
     }
     true
 }

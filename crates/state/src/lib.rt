@@ -6,7 +6,7 @@ pub mod slots;
 
 // An operation that has been asked for, with its arguments. `Log` and `Copy` are the wide writer's write and commit;
 // `Format` is of the sizes that the state has.
-#[derive(Clone, Copy)]
+#[derive(Clone, Copy, Debug, PartialEq, Eq)]
 pub enum Op {
     Idle,
     Write {
@@ -49,7 +49,7 @@ pub const NO_WRITER: usize = 4;
 
 // The pending operation, how many of its stores are made, and for a write the finished line's words. An event has the same, and the second line's
 // words where it has two.
-#[derive(Clone, Copy)]
+#[derive(Clone, Copy, Debug, PartialEq, Eq)]
 pub struct Pending {
     pub op: Op,
     pub made: usize,
@@ -58,7 +58,7 @@ pub struct Pending {
 }
 
 // Head, tail, the next slot to try, the prepared writer, the wide one, and how many entries it uses.
-#[derive(Clone, Copy)]
+#[derive(Clone, Copy, Debug, PartialEq, Eq)]
 pub struct Places {
     pub head: usize,
     pub tail: usize,

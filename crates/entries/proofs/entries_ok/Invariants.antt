@@ -1,4 +1,4 @@
-use Prim.Native.Nat.{◌≤◌, ◌-◌}
+use Prim.Native.Nat.{◌≤◌}
 use mathlib.Core.Bool.{true}
 use mathlib.Core.Path.{◌≡◌}
 use Rattle.bounded.specs.Below.{all_below}
@@ -6,7 +6,4 @@ use Rattle.entries.specs.Entries.{key_right}
 use Rattle.entries.proofs.entries_ok.Given as goal
 
 abbrev pub invariant-loop-e : goal.invariant-loop-e
-invariant-loop-e l = (l.e ≤ l.n) × (l.n ≤ l.z.entries) × (all_below l.e (key_right l.z l.keys) ≡ true)
-
-abbrev pub decreases-loop-e : goal.decreases-loop-e
-decreases-loop-e l = l.n - l.e
+invariant-loop-e l = (l.n ≤ l.z.entries) × (all_below l.e (key_right l.z l.keys) ≡ true)

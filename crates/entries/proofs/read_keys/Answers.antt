@@ -1,4 +1,4 @@
-use Prim.Native.Nat.{ℕ, ◌-◌}
+use Prim.Native.Nat.{ℕ}
 use mathlib.Core.Path.{ap, ◌∙◌}
 use borrow.Author.Rules.{rules}
 use Rattle.bounded.specs.Tab.{filled}
@@ -9,16 +9,16 @@ use Rattle.entries.specs.Entries.{no_keys, keys_from}
 use Rattle.entries.proofs.read_keys.Goals as goal
 
 pub loop-e-init : goal.loop-e-init
-loop-e-init c = (search rules, search rules, filled_none _ _)
+loop-e-init c = (search rules, filled_none _ _)
 
 pub loop-e-preserved : goal.loop-e-preserved
 loop-e-preserved c =
     let a = c.args in
-    (search rules, search rules, filled-turn _ _ _ _ _ c.loop-e.invariant.2 (c.read_word.ensures ∙ ap (word a.image.now) c.entry_word.ensures))
+    (search rules, filled-turn _ _ _ _ _ c.loop-e.invariant.1 (c.read_word.ensures ∙ ap (word a.image.now) c.entry_word.ensures))
 
 pub returns : goal.returns
 unfolding keys_from
 returns c =
     let a = c.args in
-    filled-ends _ _ _ _ _ c.loop-e.invariant.0 c.loop-e-test.false c.loop-e.invariant.2
-    ∙ ap (λ (k : ℕ). filled k (λ e. word a.image.now (entry_word a.z e)) no_keys) c.loop-e.invariant.1
+    filled-ends _ _ _ _ _ c.loop-e.auto.e-end c.loop-e-test.false c.loop-e.invariant.1
+    ∙ ap (λ (k : ℕ). filled k (λ e. word a.image.now (entry_word a.z e)) no_keys) c.loop-e.invariant.0

@@ -1,9 +1,9 @@
 use Prim.Native.Nat.{ℕ, suc}
 use mathlib.Core.Bool.{Bool, true, false, not, ◌&&◌, ◌||◌}
-use mathlib.Core.Path.{◌≡◌, refl, ap, ◌∙◌}
-use lib.Dec.{eqb}
-use lib.ListN.{get_or}
+use mathlib.Core.Path.{◌≡◌, refl, sym, ap, ◌∙◌}
+use Rattle.bounded.proofs.Below.{some-none}
 use Rattle.bounded.specs.Below.{all_below, some_below}
+use native.Mathlib.Numerals.{add-one}
 use Rattle.lines.proofs.words_differ.Goals as goal
 
 -- One place more: something holds below it or at it.
@@ -16,14 +16,8 @@ more : (f : ℕ → Bool) (n : ℕ) (r : Bool) → r ≡ some_below n f → r ||
 unfolding some_below all_below
 more f n r e = ap (λ (x : Bool). x || f n) e ∙ or-not (all_below n (λ i. not (f i))) (f n)
 
-none : (f : ℕ → Bool) → false ≡ some_below 0 f
-unfolding some_below all_below
-none f = refl
+pub loop-k-init : goal.loop-k-init
+loop-k-init c = sym (some-none _)
 
-eight : (f : ℕ → Bool) → f 0 || f 1 || f 2 || f 3 || f 4 || f 5 || f 6 || f 7 ≡ some_below 8 f
-eight f = more f 7 _ (more f 6 _ (more f 5 _ (more f 4 _ (more f 3 _ (more f 2 _ (more f 1 _ (more f 0 false (none f))))))))
-
-pub returns : goal.returns
-returns c =
-    let x = c.args in
-    cc (eight (λ i. not (eqb (get_or x.a.now i 0) (get_or x.b.now i 0))))
+pub loop-k-preserved : goal.loop-k-preserved
+loop-k-preserved c = rw add-one (more _ c.loop-k.k _ c.loop-k.invariant)

@@ -1,5 +1,4 @@
 use mathlib.Core.Path.{◌≡◌}
-use Prim.Native.Nat.{◌≤◌, ◌-◌}
 use Rattle.bounded.specs.Below.{up_to}
 use Rattle.words.specs.Words.{word}
 use Rattle.journal.specs.Records.{live_record, position}
@@ -8,7 +7,4 @@ use Rattle.replay.proofs.replayed.Given as goal
 
 -- After i turns the first i records are laid. Each one's slot is below S, since the records are right.
 abbrev pub invariant-loop-i : goal.invariant-loop-i
-invariant-loop-i l = (l.i ≤ l.n) × (l.t ≡ up_to l.i (λ k u. replaced u (live_record (word l.image) l.z l.tail k) (position l.z l.tail k)) (table_from (word l.image) l.z))
-
-abbrev pub decreases-loop-i : goal.decreases-loop-i
-decreases-loop-i l = l.n - l.i
+invariant-loop-i l = (l.t ≡ up_to l.i (λ k u. replaced u (live_record (word l.image) l.z l.tail k) (position l.z l.tail k)) (table_from (word l.image) l.z))

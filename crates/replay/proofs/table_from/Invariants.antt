@@ -1,5 +1,4 @@
 use mathlib.Core.Path.{◌≡◌}
-use Prim.Native.Nat.{◌≤◌, ◌-◌}
 use Rattle.bounded.specs.Below.{up_to}
 use Rattle.layout.specs.Layout.{slot_word}
 use Rattle.words.specs.Words.{word}
@@ -9,7 +8,4 @@ use Rattle.replay.proofs.table_from.Given as goal
 
 -- After s turns the first s slots are laid.
 abbrev pub invariant-loop-s : goal.invariant-loop-s
-invariant-loop-s l = (l.s ≤ l.z.slots) × (l.t ≡ up_to l.s (λ k u. with_slot u k (slot_from (word l.image) (slot_word l.z k))) empty_table)
-
-abbrev pub decreases-loop-s : goal.decreases-loop-s
-decreases-loop-s l = l.z.slots - l.s
+invariant-loop-s l = (l.t ≡ up_to l.s (λ k u. with_slot u k (slot_from (word l.image) (slot_word l.z k))) empty_table)
