@@ -79,19 +79,14 @@ pub fn put_made(words: &mut Words, made: usize)
     words[PENDING + 6] = made as u64;
 }
 
-// The 8 words from word a on.
-fn eight_at(words: &Words, a: usize) -> [u64; 8]
-    requires { a + 8 ≤ 1280 }
-    ensures { result ≡ take 8 (drop a words.now) }
+// The N words from word a on.
+fn words_at<const N: usize>(words: &Words, a: usize) -> [u64; N]
+    requires { a + N ≤ 1280 }
+    ensures { result ≡ take N (drop a words.now) }
 {
-    let _ = crate::all_words(*words);
-    let mut l = [0u64; 8];
-    let mut i = 0;
-    while i < 8 {
-        l[i] = words[a + i];
-        i += 1;
-    }
-    l
+    let mut part = [0u64; N];
+    part.copy_from_slice(&words[a..a + N]);
+    part
 }
 
 // Its finished line.
@@ -99,7 +94,7 @@ pub fn line_in(words: &Words) -> [u64; 8]
     requires { is_idle (decoded words.now).pending.op ≡ false }
     ensures { result ≡ (decoded words.now).pending.line }
 {
-    eight_at(words, LINE)
+    words_at(words, LINE)
 }
 
 // Its second finished line.
@@ -107,22 +102,7 @@ pub fn second_in(words: &Words) -> [u64; 8]
     requires { is_idle (decoded words.now).pending.op ≡ false }
     ensures { result ≡ (decoded words.now).pending.second }
 {
-    eight_at(words, SECOND)
-}
-
-// The 16 words from word a on.
-fn words_at(words: &Words, a: usize) -> [u64; 16]
-    requires { a + 16 ≤ 1280 }
-    ensures { result ≡ take 16 (drop a words.now) }
-{
-    let _ = crate::all_words(*words);
-    let mut l = [0u64; 16];
-    let mut i = 0;
-    while i < 16 {
-        l[i] = words[a + i];
-        i += 1;
-    }
-    l
+    words_at(words, SECOND)
 }
 
 // The bitmaps of the slots.

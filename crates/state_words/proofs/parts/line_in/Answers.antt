@@ -3,4 +3,4 @@ use Rattle.state_words.proofs.PendingLaws.{line_read}
 use Rattle.state_words.proofs.parts.line_in.Goals as goal
 
 pub returns : goal.returns
-returns c = c.eight_at.ensures ∙ line_read c.args.words.now c.requires
+returns c = c.words_at.ensures ∙ line_read c.args.words.now c.requires
