@@ -15,14 +15,9 @@ pub fn recorded_count(z: Sizes, words: &Words) -> usize
     requires { Legal z }
     ensures { result ≡ length (recorded_slots z (decoded words.now).table.last) }
 {
-    let mut n = 0;
-    let mut s = 0;
-    while s < z.slots {
-        let q = state_words::last_at(words, s);
-        n += state::held::one_if(q != replay::NO_POSITION);
-        s += 1;
-    }
-    n
+    (0..z.slots)
+        .filter(|&s| state_words::last_at(words, s) != replay::NO_POSITION)
+        .count()
 }
 
 // The stores that a checkpoint needs.
@@ -37,38 +32,24 @@ pub fn checkpoint_needs(z: Sizes, at: Places, words: &Words) -> usize
 }
 
 // The stores that an operation needs, which no row turns back.
+#[tactic(auto, unfolding(operations::specs::Operations::needs))]
 pub fn op_needs(z: Sizes, at: Places, words: &Words, op: Op) -> usize
     requires { Legal z × (at.count ≤ 64) × Asked z (decoded words.now).table.page op }
     ensures { result ≡ needs (seen z at (decoded words.now)) op }
 {
     match op {
         Op::Idle => 0,
-        Op::Write {
-            writer: _,
-            page: _,
-            line: _,
-            offset: _,
-            length: _,
-        } => 8,
+        Op::Write { .. } => 8,
         Op::Commit { writer } => needs::commit_needs(held_count(z, words, writer)),
-        Op::Consolidate { page: p } => {
-            let s = state_held::slots::slot_of(z, words, p);
+        Op::Consolidate { page } => {
+            let s = state_held::slots::slot_of(z, words, page);
             needs::consolidate_needs(state_words::bitmap_at(words, s))
         }
         Op::Checkpoint => checkpoint_needs(z, at, words),
-        Op::Event {
-            kind,
-            meter: _,
-            amount: _,
-        } => meters::event_needs(kind),
+        Op::Event { kind, .. } => meters::event_needs(kind),
         Op::Prepare { writer } => needs::prepare_needs(held_count(z, words, writer)),
         Op::Confirm { writer } => needs::confirm_needs(held_count(z, words, writer)),
-        Op::Log {
-            page: _,
-            line: _,
-            offset: _,
-            length: _,
-        } => 9,
+        Op::Log { .. } => 9,
         Op::Copy => needs::copy_needs(at.count),
         Op::Format => needs::format_needs(z),
     }

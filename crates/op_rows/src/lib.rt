@@ -9,6 +9,7 @@ mod writing;
 
 ghost use Rattle.std.specs.Prelude.{◌≡◌, ◌≤◌};
 ghost use Rattle.bounded.specs.Rows.{refusal};
+ghost use Rattle.rows.specs.Numbers.{row_of};
 ghost use Rattle.operations.specs.Operations.{op_rows};
 ghost use Rattle.state_words.specs.Decoded.{decoded};
 ghost use Rattle.op_rows.specs.Seen.{Low, seen};
@@ -20,6 +21,7 @@ pub use events::event_next_row;
 use events::event_row;
 use layout::Sizes;
 pub use room::no_room;
+use rows::Refusal;
 use state::{Op, Places};
 use state_held::slots::slot_of;
 use state_words::Words;
@@ -34,55 +36,47 @@ pub struct Span {
     pub length: usize,
 }
 
-fn span_of(page: usize, line: usize, offset: usize, length: usize) -> Span
-    ensures { result ≡ record { page = page; line = line; offset = offset; length = length } }
-{
-    Span {
-        page,
-        line,
-        offset,
-        length,
-    }
-}
-
 // The first row from 11 on that turns an operation back.
-pub fn op_row(z: Sizes, at: Places, words: &Words, op: Op) -> usize
+pub fn op_row(z: Sizes, at: Places, words: &Words, op: Op) -> Result<(), Refusal>
     requires { Low z at × (at.count ≤ 64) }
-    ensures { result ≡ refusal (op_rows (seen z at (decoded words.now)) op) }
+    ensures { row_of result ≡ refusal (op_rows (seen z at (decoded words.now)) op) }
 {
     match op {
-        Op::Idle => 0,
+        Op::Idle | Op::Checkpoint | Op::Format => Ok(()),
         Op::Write {
             writer,
-            page: p,
+            page,
             line,
             offset,
             length,
         } => {
-            let s = slot_of(z, words, p);
-            let a = span_of(p, line, offset, length);
-            write_row(z, at, words, writer, a, s)
+            let span = Span {
+                page,
+                line,
+                offset,
+                length,
+            };
+            write_row(z, at, words, writer, span, slot_of(z, words, page))
         }
         Op::Commit { writer } => commit_row(z, at, words, writer),
-        Op::Consolidate { page: p } => consolidate_row(z, at, words, p),
-        Op::Checkpoint => 0,
-        Op::Event {
-            kind,
-            meter,
-            amount: _,
-        } => event_row(z, at, words, kind, meter),
+        Op::Consolidate { page } => consolidate_row(z, at, words, page),
+        Op::Event { kind, meter, .. } => event_row(z, at, words, kind, meter),
         Op::Prepare { writer } => prepare_row(z, at, words, writer),
         Op::Confirm { writer } => confirm_row(at.prepared, writer),
         Op::Log {
-            page: p,
+            page,
             line,
             offset,
             length,
         } => {
-            let a = span_of(p, line, offset, length);
-            log_row(z, at, words, a)
+            let span = Span {
+                page,
+                line,
+                offset,
+                length,
+            };
+            log_row(z, at, words, span)
         }
         Op::Copy => copy_row(at.prepared),
-        Op::Format => 0,
     }
 }

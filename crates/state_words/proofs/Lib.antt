@@ -1,3 +1,4 @@
 pub mod DecodedLaws
 pub mod PendingLaws
 pub mod Lent
+pub mod Ranges
