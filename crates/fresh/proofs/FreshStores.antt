@@ -1,22 +1,21 @@
 -- Format store by store: where a store goes, what the stores so far leave of a word, and what all of them come to.
 use Prim.Native.Nat.{ℕ, zero, suc, ◌+◌, ◌-◌, ◌*◌, ◌≤◌, ◌<◌}
-use mathlib.Core.Path.{◌≡◌, refl, sym, ap, ap₂, ◌∙◌}
+use mathlib.Core.Path.{◌≡◌, refl, sym, ap, ◌∙◌}
 use mathlib.Core.List.{List}
 use native.Mathlib.Omega.{arith}
-use native.Mathlib.Numerals.{add-one}
 use lib.Dec.{eqb, leb}
-use lib.ListN.{length, drop, get_or}
+use lib.ListN.{length, drop}
 use borrow.Author.Tests.{eq-eqb, ne_eqb, eqb-true, eqb-false, le-leb, lt-leb, leb-true, leb-false}
 use Rattle.bounded.specs.Below.{up_to}
 use Rattle.bounded.specs.Tab.{tab}
-use Rattle.bounded.proofs.Below.{up_turn, split_below}
+use Rattle.bounded.proofs.Below.{up_turn}
 use Rattle.bounded.proofs.Tab.{tab-get_or}
 use Rattle.bounded.proofs.Tests.{case_on}
 use Rattle.layout.specs.declared.Sizes.{Sizes}
 use Rattle.layout.specs.Layout.{Legal, layout_of, layout_word, image_words, image_length}
-use Rattle.words.specs.Words.{Bytes, word, store, flat, over, put_word, put_words}
+use Rattle.words.specs.Words.{Bytes, word, store, put_word, put_words}
 use Rattle.words.proofs.WordLaws.{word-store, word-store-other, length-store, bytes-store, store-store, store-comm, drop-store}
-use Rattle.fresh.specs.Fresh.{fresh_header, fresh_words, fresh_word, format_at, format_value, format_stores, formatted}
+use Rattle.fresh.specs.Fresh.{fresh_words, fresh_word, format_at, format_value, format_stores, formatted}
 use Rattle.fresh.proofs.FreshWords.{length-fresh, fresh-header}
 use Rattle.fresh.proofs.Puts.{puts_none, puts-turn, words-over}
 

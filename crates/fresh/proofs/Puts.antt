@@ -1,23 +1,15 @@
 -- Words put one after the other: one word more of a list by its places, and the bytes they come to.
-use mathlib.Core.Path.{◌≡◌, refl, sym, ap, ◌∙◌, subst}
-use mathlib.Core.Bool.{false}
+use mathlib.Core.Path.{◌≡◌, refl, sym, ap, ◌∙◌}
 use mathlib.Core.List.{List, [], ◌∷◌, ◌++◌}
-use Prim.Native.Nat.{ℕ, ◌+◌, ◌-◌, ◌*◌, ◌/◌, ◌≤◌, ◌<◌}
+use Prim.Native.Nat.{ℕ, ◌+◌, ◌*◌, ◌≤◌}
 use native.Mathlib.Numerals.{add-one}
-use lib.Dec.{eqb}
-use borrow.Author.Tests.{eq-eqb, ne_eqb}
 use native.Mathlib.Omega.{arith}
-use lib.ListN.{length, replicate}
+use lib.ListN.{length}
 use Rattle.bounded.specs.Tab.{tab}
 use Rattle.bounded.proofs.Tab.{length-tab}
-use Rattle.bounded.proofs.Tests.{row-yes, row-no}
-use Rattle.layout.specs.declared.Sizes.{Sizes}
-use Rattle.layout.specs.Layout.{Legal, layout_of, slot_word, image_words, image_length}
-use Rattle.words.specs.Words.{bytes_of, over, put_word, store, flat, put_words}
+use Rattle.words.specs.Words.{bytes_of, over, put_word, flat, put_words}
 use Rattle.words.proofs.Parts.{over-nil, over-over}
 use Rattle.words.proofs.WordLaws.{length-put}
-use Rattle.fresh.specs.Fresh.{fresh_header, fresh_pages, fresh_slot, fresh_words, formatted, format_row, format_bytes}
-use Rattle.fresh.proofs.FreshWords.{length-fresh}
 
 pub puts-append : (xs ys l : List ℕ) (a : ℕ) → put_words l a (xs ++ ys) ≡ put_words (put_words l a xs) (a + 8 * length xs) ys
 unfolding put_words

@@ -1,5 +1,5 @@
 -- The fresh image (document 01, "Fresh"), and format on any sizes and any bytes lent (rows 3 and 4).
-use Rattle.std.specs.Prelude.{ℕ, ◌+◌, ◌-◌, ◌*◌, ◌/◌, ◌%◌, Bool, ◌||◌, not, cond, List, [], ◌∷◌, ◌++◌, ltb, leb, eqb, length, get_or, replicate}
+use Rattle.std.specs.Prelude.{ℕ, ◌+◌, ◌-◌, ◌*◌, ◌/◌, ◌%◌, ◌||◌, not, cond, List, [], ◌∷◌, ◌++◌, ltb, leb, eqb, length, get_or, replicate}
 use Rattle.bounded.specs.Below.{up_to}
 use Rattle.bounded.specs.Tab.{tab}
 use Rattle.bounded.specs.Rows.{Row, refusal}

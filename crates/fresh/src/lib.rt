@@ -3,10 +3,12 @@
 
 ghost use Rattle.std.specs.Prelude.{◌≡◌, ◌<◌, get_or};
 ghost use Rattle.layout.specs.Layout.{Legal};
+ghost use Rattle.rows.specs.Numbers.{row_of};
 ghost use Rattle.fresh.specs.Fresh.{fresh_header, fresh_word, fresh_table, format_row};
 
 use layout::Sizes;
 use replay::Table;
+use rows::Refusal;
 
 // Word a of its header: head and tail 0, no entry counted.
 fn header_word(z: Sizes, a: usize) -> u64
@@ -48,23 +50,21 @@ pub fn fresh_table(z: Sizes) -> Table
     ensures { result ≡ fresh_table z }
 {
     let mut t = replay::empty_table();
-    let mut s = 0;
-    while s < z.slots {
+    for s in 0..z.slots {
         t = replay::with_slot(t, s, journal::slots::free_slot(z.pages + s));
-        s += 1;
     }
     t
 }
 
-// The row that turns format back, 0 where none does.
-pub fn format_row(image: &[u8], z: Sizes) -> usize
-    ensures { result ≡ format_row z image.now }
+// The row that turns format back, if one does.
+pub fn format_row(image: &[u8], z: Sizes) -> Result<(), Refusal>
+    ensures { row_of result ≡ format_row z image.now }
 {
     if !layout::sizes_ok(z) {
-        return 3;
+        return Err(Refusal::SizesOutOfRange);
     }
     if image.len() < layout::image_length(z) {
-        return 4;
+        return Err(Refusal::BufferTooShort);
     }
-    0
+    Ok(())
 }

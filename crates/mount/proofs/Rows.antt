@@ -1,8 +1,8 @@
 -- Mount's rows: the number of the first that applies with nothing found, or what is found.
 use mathlib.Core.Path.{◌≡◌, refl, sym, ap, ap₂, ◌∙◌}
-use mathlib.Core.Bool.{Bool, true, false}
+use mathlib.Core.Bool.{true, false}
 use mathlib.Core.List.{List, [], ◌∷◌}
-use Prim.Native.Nat.{ℕ, zero, suc, ◌-◌, ◌<◌}
+use Prim.Native.Nat.{ℕ, zero, suc, ◌<◌}
 use native.Mathlib.Nat.{not-suc-le-zero, le_of_suc-le-suc}
 use native.Mathlib.Omega.{arith}
 use lib.Dec.{eqb}
@@ -14,13 +14,12 @@ use Rattle.bounded.proofs.Tests.{row-yes, row-no}
 use Rattle.layout.specs.declared.Sizes.{Sizes}
 use Rattle.layout.specs.Layout.{head_word, tail_word}
 use Rattle.words.specs.Words.{word}
-use Rattle.journal.specs.declared.Record.{Record}
 use Rattle.replay.specs.declared.Table.{Table}
 use Rattle.mount.specs.declared.Judged.{Judged}
-use Rattle.journal.specs.Records.{position, live_count, positions_ok, live_record, record_right, record_ok, records_ok}
+use Rattle.journal.specs.Records.{live_count, positions_ok, live_record, records_ok}
 use Rattle.replay.specs.Table.{table_from, replay}
 use Rattle.entries.specs.Entries.{keys_from, entries_ok}
-use Rattle.mount.specs.Mount.{sizes_from, live_from, table_after, count_from, keys_after, mount_rows, turned_back, found, mount_read, mount_of, judged}
+use Rattle.mount.specs.Mount.{sizes_from, live_from, table_after, count_from, keys_after, mount_rows, turned_back, found, mount_read, mount_of, Mounted, judged}
 
 -- ---- any table of refusals
 
@@ -35,9 +34,9 @@ numbered-at [] k l n = absurd (not-suc-le-zero l)
 numbered-at (r ∷ rs) zero l n = n.0
 numbered-at (r ∷ rs) (suc k) l n = numbered-at rs k (le_of_suc-le-suc l) n.1
 
--- row 0, and what is found
+-- what is found
 abbrev taken : Sizes → ℕ → ℕ → Table → ℕ → List ℕ → Judged
-taken z head tail t count keys = record { row = 0; sizes = z; head = head; tail = tail; table = t; count = count; keys = keys }
+taken z head tail t count keys = record { sizes = z; head = head; tail = tail; table = t; count = count; keys = keys }
 
 -- ---- the header as it was read, and what is worked out from it
 
@@ -84,16 +83,16 @@ pub mount-past : (img : List ℕ) (k : ℕ) → Past (mount_rows (length img) (w
 mount-past img = past_more (mount_rows (length img) (word img))
 
 pub mount-refused : (img : List ℕ) (k : ℕ) → k < 7 → Past (mount_rows (length img) (word img)) k → (get_or (mount_rows (length img) (word img)) k (true, 0)).0 ≡ true
-    → judged (turned_back (get_or (mount_rows (length img) (word img)) k (true, 0)).1) ≡ judged (mount_of img)
+    → (get_or (mount_rows (length img) (word img)) k (true, 0)).1 ≡ (mount_of img).row
 unfolding mount_of mount_read
 mount-refused img k l p t =
     let rs = mount_rows (length img) (word img) in
     let e : (get_or rs k (true, 0)).1 ≡ refusal rs = row_at rs k l p t in
     let n : 0 < (get_or rs k (true, 0)).1 = numbered-at rs k l (omega arith, (omega arith, (omega arith, (omega arith, (omega arith, (omega arith, (omega arith, tt))))))) in
-    ap judged (row-no (eqb (refusal rs) 0) (found (word img)) (turned_back (refusal rs)) (turned_back (get_or rs k (true, 0)).1) (ne_eqb (refusal rs) 0 (λ q. omega arith)) (ap turned_back e))
+    e ∙ ap (λ (m : Mounted). m.row) (row-no (eqb (refusal rs) 0) (found (word img)) (turned_back (refusal rs)) (turned_back (refusal rs)) (ne_eqb (refusal rs) 0 (λ q. omega arith)) refl)
 
-pub mount-taken : (img : List ℕ) → Past (mount_rows (length img) (word img)) 7 → judged (found (word img)) ≡ judged (mount_of img)
+pub mount-taken : (img : List ℕ) → Past (mount_rows (length img) (word img)) 7 → found (word img) ≡ mount_of img
 unfolding mount_of mount_read
 mount-taken img p =
     let rs = mount_rows (length img) (word img) in
-    ap judged (row-yes (eqb (refusal rs) 0) (found (word img)) (turned_back (refusal rs)) (eq-eqb (refusal rs) 0 (sym (row-none rs p))))
+    row-yes (eqb (refusal rs) 0) (found (word img)) (turned_back (refusal rs)) (eq-eqb (refusal rs) 0 (sym (row-none rs p)))

@@ -30,7 +30,7 @@ use Rattle.mount.specs.Mount.{Mounted, sizes_from, live_from, count_from, turned
 use Rattle.journal.proofs.Ring.{Positions, positions, positions-ok}
 use Rattle.replay.specs.declared.Table.{Table}
 use Rattle.replay.proofs.Maps.{map_at}
-use Rattle.mount.proofs.View.{View, live, view_with, view_of, Shows, shown, table-shown, Agree, same_view}
+use Rattle.mount.proofs.View.{View, live, view_with, view_of, Shows, shown, table-shown}
 
 -- the i-th live record
 abbrev no_record : Record

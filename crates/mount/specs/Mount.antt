@@ -1,6 +1,8 @@
 -- Mount's judgement on any bytes (document 01, rows 1 to 7), and what a taken mount finds.
-use Rattle.std.specs.Prelude.{ℕ, ◌+◌, Bool, ◌&&◌, ◌||◌, not, cond, List, [], ◌∷◌, ltb, eqb, length}
+use Rattle.std.specs.Prelude.{ℕ, ◌≡◌, ◌&&◌, ◌||◌, not, cond, List, [], ◌∷◌, ltb, eqb, length, Result, MatchResult}
 use Rattle.bounded.specs.Rows.{Row, refusal}
+use Rattle.rows.specs.declared.Refusal.{Refusal}
+use Rattle.rows.specs.Numbers.{number}
 use Rattle.layout.specs.declared.Sizes.{Sizes}
 use Rattle.layout.specs.Layout.{sizes_ok, layout_of, image_length, pages_word, slots_word, places_word, layout_word, head_word, tail_word, count_word, entries_word}
 use Rattle.words.specs.Words.{word}
@@ -89,6 +91,10 @@ mount_read n r = let row = refusal (mount_rows n r) in cond (eqb row 0) (found r
 unfoldable pub mount_of : List ℕ → Mounted
 mount_of img = mount_read (length img) (word img)
 
--- the same without the map, which is put where the state is (`put_homes` of names)
+-- what is found without the map, which is put where the state is (`put_homes` of names)
 abbrev pub judged : Mounted → Judged
-judged m = record { row = m.row; sizes = m.sizes; head = m.head; tail = m.tail; table = m.table; count = m.count; keys = m.keys }
+judged m = record { sizes = m.sizes; head = m.head; tail = m.tail; table = m.table; count = m.count; keys = m.keys }
+
+-- what the code answers: what is found under row 0, or the row that turns the image back
+abbrev pub Judges : Result Judged Refusal → Mounted → Type 0
+Judges r m = MatchResult r (λ j. (m.row ≡ 0) × (j ≡ judged m)) (λ e. number e ≡ m.row)

@@ -20,7 +20,7 @@ use Rattle.mount.specs.declared.Judged.{Judged}
 use Rattle.replay.specs.declared.Table.{Table}
 use Rattle.entries.specs.Entries.{key_of, entry_of}
 use Rattle.entries.proofs.EntryLaws.{entries-right}
-use Rattle.mount.specs.Mount.{Mounted, mount_of, judged, mount_read, mount_rows, sizes_from, count_from, keys_after, found}
+use Rattle.mount.specs.Mount.{mount_of, judged, mount_read, mount_rows, sizes_from, count_from, keys_after, found}
 use Rattle.replay.specs.Table.{slot_in, slot_of, frame_names}
 use Rattle.replay.specs.Map.{page_frames}
 use Rattle.mount.proofs.Verdict.{mount-taken, taken-mount}
@@ -61,10 +61,9 @@ module _ (img : List ℕ) (p l : ℕ) (target : List ℕ) where
   rest = (args_bad (sizes_from (word img)).pages, 11) ∷ []
 
   -- mount turns it back
-  pub recall-unmounted : (m : Judged) → m ≡ judged (mount_of img) → (m.row ≡ 0 → ⊥) → m.row ≡ recall_row img p l target
+  pub recall-unmounted : (n : ℕ) → n ≡ (mount_of img).row → (n ≡ 0 → ⊥) → n ≡ recall_row img p l target
   unfolding recall_row
-  recall-unmounted m e n =
-      rows-first (mount_rows (length img) (word img)) rest m.row (ap (λ (x : Judged). x.row) e ∙ mount-row img) n
+  recall-unmounted n e h = rows-first (mount_rows (length img) (word img)) rest n (e ∙ mount-row img) h
 
   -- past mount's rows, row 11 decides
   number : (b : Bool) → args_bad (sizes_from (word img)).pages ≡ b → (mount_of img).row ≡ 0 → cond b 11 0 ≡ recall_row img p l target
@@ -74,14 +73,11 @@ module _ (img : List ℕ) (p l : ℕ) (target : List ℕ) where
       rows_then rows rest (cond b 11 0) (none-apply rows (omega arith) (sym (mount-row img) ∙ z)) (rw e)
 
   -- what mount found, where it takes the image
-  takes : (m : Judged) → m ≡ judged (mount_of img) → m.row ≡ 0 → m ≡ judged (found (word img))
-  takes m e z =
-      let v = view_of (word img) in
-      e ∙ ap judged (taken-mount img v refl (mount-taken img v refl (sym (ap (λ (x : Judged). x.row) e) ∙ z)))
+  takes : (m : Judged) → (mount_of img).row ≡ 0 → m ≡ judged (mount_of img) → m ≡ judged (found (word img))
+  takes m z e = let v = view_of (word img) in e ∙ ap judged (taken-mount img v refl (mount-taken img v refl z))
 
-  pub recall-bad : (m : Judged) → m ≡ judged (mount_of img) → m.row ≡ 0 → args_bad m.sizes.pages ≡ true → 11 ≡ recall_row img p l target
-  recall-bad m e z b =
-      number true (subst (λ (x : Judged). args_bad x.sizes.pages ≡ true) (takes m e z) b) (sym (ap (λ (x : Judged). x.row) e) ∙ z)
+  pub recall-bad : (m : Judged) → (mount_of img).row ≡ 0 → m ≡ judged (mount_of img) → args_bad m.sizes.pages ≡ true → 11 ≡ recall_row img p l target
+  recall-bad m z e b = number true (subst (λ (x : Judged). args_bad x.sizes.pages ≡ true) (takes m z e) b) z
 
   -- and where it takes the arguments too
   pub record Recalled (m : Judged) : Type 0 where
@@ -123,8 +119,7 @@ module _ (img : List ℕ) (p l : ℕ) (target : List ℕ) where
             rw (g, taken, t);
       }
 
-  pub recalled : (m : Judged) → m ≡ judged (mount_of img) → m.row ≡ 0 → args_bad m.sizes.pages ≡ false → Recalled m
-  recalled m e z b =
-      let f = takes m e z in
-      subst Recalled (sym f)
-      (found-recalled (sym (ap (λ (x : Judged). x.row) e) ∙ z) (subst (λ (x : Judged). args_bad x.sizes.pages ≡ false) f b))
+  pub recalled : (m : Judged) → (mount_of img).row ≡ 0 → m ≡ judged (mount_of img) → args_bad m.sizes.pages ≡ false → Recalled m
+  recalled m z e b =
+      let f = takes m z e in
+      subst Recalled (sym f) (found-recalled z (subst (λ (x : Judged). args_bad x.sizes.pages ≡ false) f b))

@@ -6,10 +6,12 @@ ghost use Rattle.layout.specs.Layout.{Legal, image_length};
 ghost use Rattle.words.specs.Words.{word};
 ghost use Rattle.replay.specs.Map.{page_frames};
 ghost use Rattle.state.specs.Slots.{slot_of_page};
+ghost use Rattle.rows.specs.Numbers.{row_of};
 ghost use Rattle.refinement.specs.Recall.{frame_of, recall_row, recall_bytes};
 
 use layout::Sizes;
 use replay::Table;
+use rows::Refusal;
 
 // The slot of page p, or S where it has none.
 fn slot_of(z: Sizes, page: &[usize; 16], p: usize) -> usize
@@ -38,25 +40,33 @@ fn recall_frame(image: &[u8], z: Sizes, t: Table, page: usize, line: usize) -> u
     image_words::read_word(image, layout::page_word(page)) as usize
 }
 
+// Copies the committed line of a page to the target's start, which a refusal leaves as it is.
+fn copy_line(page: usize, line: usize, image: &[u8], target: &mut [u8]) -> Result<(), Refusal>
+    ensures number { row_of result ≡ recall_row image.now page line target.old }
+    ensures bytes { target.new ≡ recall_bytes image.now page line target.old }
+{
+    let m = mount::judge(image)?;
+    if (page >= m.sizes.pages) | (line > 63) | (target.len() < 64) {
+        return Err(Refusal::BadArgument);
+    }
+    let e = entries::find_entry(&m.keys, m.count, (64 * page + line) as u64);
+    if e < m.count {
+        entry_lines::read_entry(image, m.sizes, e, target);
+        return Ok(());
+    }
+    let f = recall_frame(image, m.sizes, m.table, page, line);
+    lines::read_line(image, m.sizes, f, line, target);
+    Ok(())
+}
+
 // The committed line of a page into the target's start, or the number of the first row that turns it back.
 #[unsafe(no_mangle)]
 pub extern "C" fn recall(page: usize, line: usize, image: &[u8], target: &mut [u8]) -> usize
     ensures number { result ≡ recall_row image.now page line target.old }
     ensures bytes { target.new ≡ recall_bytes image.now page line target.old }
 {
-    let m = mount::judge(image);
-    if m.row != 0 {
-        return m.row;
+    match copy_line(page, line, image, target) {
+        Ok(()) => 0,
+        Err(row) => usize::from(row),
     }
-    if (page >= m.sizes.pages) | (line > 63) | (target.len() < 64) {
-        return 11;
-    }
-    let e = entries::find_entry(&m.keys, m.count, (64 * page + line) as u64);
-    if e < m.count {
-        entry_lines::read_entry(image, m.sizes, e, target);
-        return 0;
-    }
-    let f = recall_frame(image, m.sizes, m.table, page, line);
-    lines::read_line(image, m.sizes, f, line, target);
-    0
 }

@@ -12,7 +12,7 @@ use Rattle.layout.specs.Layout.{Legal, sizes_ok, layout_of, image_length, layout
 use Rattle.entries.specs.Entries.{entries_ok}
 use Rattle.words.specs.Words.{word}
 use Rattle.layout.proofs.LayoutLaws.{legal}
-use Rattle.mount.specs.Mount.{sizes_from, live_from, count_from, keys_after, table_after, mount_rows}
+use Rattle.mount.specs.Mount.{Mounted, judged, sizes_from, live_from, count_from, keys_after, table_after, mount_rows}
 use Rattle.journal.specs.Records.{positions_ok, records_ok, live_record}
 use Rattle.replay.specs.Table.{table_ok}
 use Rattle.replay.specs.Map.{page_frames}
@@ -64,8 +64,8 @@ At-After-positions_ok = Lts.After-positions_ok Tie.the-claims Reads.Pre Reads.Po
 abbrev At-After-entries_ok : Type 0
 At-After-entries_ok = Lts.After-entries_ok Tie.the-claims Reads.Pre Reads.Post
 
-abbrev At-After-replayed-found : Type 0
-At-After-replayed-found = Lts.After-replayed Tie.the-claims Reads.Pre Reads.Post
+abbrev At-After-replayed-table : Type 0
+At-After-replayed-table = Lts.After-replayed Tie.the-claims Reads.Pre Reads.Post
 
 abbrev At-After-table_ok : Type 0
 At-After-table_ok = Lts.After-table_ok Tie.the-claims Reads.Pre Reads.Post
@@ -128,8 +128,8 @@ records-test c =
     (c.before.before.records_ok.ensures ∙ records-read h _ c.before.before.before.before.before.live_count-n.ensures)
     (c.entries_ok.ensures ∙ entries-read h _ _ c.before.before.before.before.wide_word-count.ensures c.before.before.before.read_keys-keys.ensures)
 
-table_is : (c : At-After-replayed-found) → c.replayed-found.result ≡ table_after (word (img6 c.before))
-table_is c = c.replayed-found.ensures ∙ table-read (header c.before.before.before.before.before.before.before.before.before.before) _ c.before.before.before.before.before.before.before.live_count-n.ensures
+table_is : (c : At-After-replayed-table) → c.replayed-table.result ≡ table_after (word (img6 c.before))
+table_is c = c.replayed-table.ensures ∙ table-read (header c.before.before.before.before.before.before.before.before.before.before) _ c.before.before.before.before.before.before.before.live_count-n.ensures
 
 table-test : (c : At-After-table_ok) → let r = word (img6 c.before.before) in c.table_ok.result ≡ table_ok (page_frames r) (sizes_from r) (table_after r)
 table-test c =
@@ -171,27 +171,26 @@ placed : (c : At-Else-not-positions_ok)
 placed c = positions _ _ _ (held _ _ c.before.positions_ok.ensures (ap not c.if-not-positions_ok.false))
 
 pub returns-then-image-lt64 : goal.returns-then-image-lt64
-returns-then-image-lt64 c = c.turned_back.ensures ∙ mount-refused _ 0 (search rules) tt (lt-ltb _ _ c.if-image-lt64.true)
+returns-then-image-lt64 c = mount-refused _ 0 (search rules) tt (lt-ltb _ _ c.if-image-lt64.true)
 
 pub returns-then-not-form : goal.returns-then-not-form
 returns-then-not-form c =
-    c.turned_back-then-not-form.ensures
-    ∙ mount-refused _ 1 (search rules) (past1 c.before.before.before.before) (ap not (sym (form-test c.before.before.before)) ∙ (ap not c.if-not-form.true))
+    mount-refused _ 1 (search rules) (past1 c.before.before.before) (ap not (sym (form-test c.before.before)) ∙ (ap not c.if-not-form.true))
 
 pub returns-then-not-sizes_ok-form : goal.returns-then-not-sizes_ok-form
-returns-then-not-sizes_ok-form c = c.turned_back-then-not-sizes_ok-form.ensures ∙ mount-refused _ 2 (search rules) (past2 c.before.before.before.before.before.before) (ap not (sym (sizes-test c.before.before.before)) ∙ (ap not c.if-not-sizes_ok-form.true))
+returns-then-not-sizes_ok-form c = mount-refused _ 2 (search rules) (past2 c.before.before.before.before.before) (ap not (sym (sizes-test c.before.before)) ∙ (ap not c.if-not-sizes_ok-form.true))
 
 pub image_length-requires : goal.image_length-requires
 image_length-requires c = lawful c.before
 
 pub returns-then-image-image_length : goal.returns-then-image-image_length
-returns-then-image-image_length c = c.turned_back-then-image-image_length.ensures ∙ mount-refused _ 3 (search rules) (past3 c.before.before.before.before) (lt-ltb _ _ (rw (length-test c.before.before.before) at c.if-image-image_length.true))
+returns-then-image-image_length c = mount-refused _ 3 (search rules) (past3 c.before.before.before) (lt-ltb _ _ (rw (length-test c.before.before) at c.if-image-image_length.true))
 
 pub positions_ok-requires : goal.positions_ok-requires
 positions_ok-requires c = lawful c.before.before.before.before.before
 
 pub returns-then-not-positions_ok : goal.returns-then-not-positions_ok
-returns-then-not-positions_ok c = c.turned_back-then-not-positions_ok.ensures ∙ mount-refused _ 4 (search rules) (past4 c.before.before.before.before.before.before) (ap not (sym (positions-test c.before.before.before)) ∙ (ap not c.if-not-positions_ok.true))
+returns-then-not-positions_ok c = mount-refused _ 4 (search rules) (past4 c.before.before.before.before.before) (ap not (sym (positions-test c.before.before)) ∙ (ap not c.if-not-positions_ok.true))
 
 pub live_count-n-requires : goal.live_count-n-requires
 live_count-n-requires c = (lawful c.before.before.before.before.before.before.before, (placed c.before).head-low, (placed c.before).tail-low)
@@ -209,10 +208,10 @@ pub entries_ok-requires : goal.entries_ok-requires
 entries_ok-requires c = lawful c.before.before.before.before.before.before.before.before.before.before.before.before
 
 pub returns-then-not-records_ok-entries_ok : goal.returns-then-not-records_ok-entries_ok
-returns-then-not-records_ok-entries_ok c = c.turned_back-then-not-records_ok-entries_ok.ensures ∙ mount-refused _ 5 (search rules) (past5 c.before.before.before.before.before.before.before.before.before) (ap not (sym (records-test c.before.before.before)) ∙ (ap not c.if-not-records_ok-entries_ok.true))
+returns-then-not-records_ok-entries_ok c = mount-refused _ 5 (search rules) (past5 c.before.before.before.before.before.before.before.before) (ap not (sym (records-test c.before.before)) ∙ (ap not c.if-not-records_ok-entries_ok.true))
 
-pub replayed-found-requires : goal.replayed-found-requires
-replayed-found-requires c =
+pub replayed-table-requires : goal.replayed-table-requires
+replayed-table-requires c =
     let h = c.before.before.before.before.before.before.before.before in
     let p = placed h in (
       lawful h.before.before.before.before.before.before,
@@ -228,10 +227,13 @@ table_ok-requires c =
     (lawful h.before.before, long h)
 
 pub returns-then-not-table_ok : goal.returns-then-not-table_ok
-returns-then-not-table_ok c = c.turned_back-then-not-table_ok.ensures ∙ mount-refused _ 6 (search rules) (past6 c.before.before.before.before.before) (ap not (sym (table-test c.before.before.before)) ∙ (ap not c.if-not-table_ok.true))
+returns-then-not-table_ok c = mount-refused _ 6 (search rules) (past6 c.before.before.before.before) (ap not (sym (table-test c.before.before)) ∙ (ap not c.if-not-table_ok.true))
 
 pub returns : goal.returns
 returns d =
-    let c = d.before.before in
+    let c = d.before in
     let b = c.before.before.before.before.before.before.before in
-    d.holds.ensures ∙ found-read (header b.before.before.before.before.before) _ _ _ (table_is c.before.before) b.before.wide_word-count.ensures b.read_keys-keys.ensures ∙ mount-taken (img7 c) (past7 c)
+    let m = mount-taken (img7 c) (past7 c) in (
+      sym (ap (λ (x : Mounted). x.row) m),
+      found-read (header b.before.before.before.before.before) _ _ _ (table_is c.before.before) b.before.wide_word-count.ensures b.read_keys-keys.ensures ∙ ap judged m,
+    )
