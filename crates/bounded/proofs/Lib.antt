@@ -6,3 +6,4 @@ pub mod Tab
 pub mod Rows
 pub mod Pigeonhole
 pub mod Least
+pub mod Lists

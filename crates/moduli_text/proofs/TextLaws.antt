@@ -1,5 +1,5 @@
 -- Laws of a text of moduli: which line decides, and that a table that is read is one of 24 moduli in the range.
-use Prim.Native.Nat.{ℕ, zero, suc, ◌+◌, ◌-◌, ◌<◌, ◌≤◌, min}
+use Prim.Native.Nat.{ℕ, zero, suc, ◌+◌, ◌-◌, ◌<◌, ◌≤◌}
 use mathlib.Core.Bool.{true, false, ◌||◌, not, cond}
 use mathlib.Core.List.{List, [], ◌∷◌}
 use mathlib.Core.Path.{◌≡◌, refl, sym, ap, ap₂, ◌∙◌, subst}
@@ -8,68 +8,29 @@ use native.Mathlib.Omega.{arith}
 use lib.Dec.{ltb, leb, eqb}
 use lib.ListN.{length, get_or, take, drop, set, replicate, length-drop}
 use lib.Seq.{take_all, ext_get_or}
-use borrow.Author.Tests.{eqb-true, eqb-false, eq-eqb, ne_eqb, ltb-true, ltb-false, lt-ltb, le-ltb, lt-leb}
+use Rattle.std.proofs.lemmas.List.{drop-drop}
+use borrow.Author.Tests.{eqb-true, eqb-false, eq-eqb, ne_eqb, lt-ltb, le-ltb, le-leb, lt-leb}
 use Rattle.bounded.specs.Below.{all_below}
 use Rattle.bounded.specs.Rows.{Row, refusal}
 use Rattle.bounded.specs.Tab.{tab, filled}
 use Rattle.bounded.proofs.Below.{split_below, all_made}
+use Rattle.bounded.proofs.Lists.{position_first, position_none}
 use Rattle.bounded.proofs.Rows.{none-apply}
 use Rattle.bounded.proofs.Tab.{length-tab, get_or-tab, filled_none, filled-turn, length-filled, get_or-filled}
-use Rattle.bounded.proofs.Tests.{case_on, contradicts, or_right, row-yes, row-no, row_keeps}
+use Rattle.bounded.proofs.Tests.{case_on, contradicts, row-yes, row-no, row_keeps}
 use Rattle.meters.specs.Meters.{modulus_bad, moduli_ok}
-use Rattle.moduli_text.specs.declared.Entry.{Entry}
-use Rattle.moduli_text.specs.declared.Moduli.{Moduli}
-use Rattle.moduli_text.specs.Text.{place_of, value_of, meter_text, modulus_text, modulus_in, entry_rows, line_rows, first_line, first_rows, line_start, from_line, lines_row, text_row, moduli_in, read_of}
+use Rattle.std.proofs.Common.{Ok, Err, Some, None}
+use Rattle.std.specs.List.{position}
+use Rattle.rows.specs.declared.Refusal.{Refusal}
+use Rattle.rows.specs.declared.Refusal.TheVariants.{BadTableLine}
+use Rattle.rows.specs.Numbers.{number}
+use Rattle.rows.proofs.Numbers.{number-some}
+use Rattle.moduli_text.specs.Text.{place_of, modulus_in, line_rows, first_line, first_rows, line_start, from_line, lines_row, text_row, moduli_in, read_of, Reading, Decides, Reads}
 
--- ---- a number that the code has capped: r is what it has of v
+-- ---- the text from byte a on
 
-module _ (v r : ℕ) (e : r ≡ min v 1000000000001) where
-  pub capped-other : (m : ℕ) → m < 24 → (r ≡ m → ⊥) → not (eqb v m) ≡ true
-  capped-other m l n = ap not (ne_eqb v m (λ q. n (omega (arith, e, q, l))))
-
-  pub capped_same : (m : ℕ) → m < 24 → r ≡ m → not (eqb v m) ≡ false
-  capped_same m l q = ap not (eq-eqb v m (omega (arith, e, q, l)))
-
-  pub capped-bad : modulus_bad r ≡ modulus_bad v
-  capped-bad =
-      case_on (ltb 1000000000000 v)
-      (λ t.
-      let h = ltb-true 1000000000000 v t in
-      let q : r ≡ 1000000000001 = omega (arith, e, h) in
-      rw (q, t, le-ltb v 100 (omega (arith, h))))
-      (λ t. let q : r ≡ v = omega (arith, e, ltb-false 1000000000000 v t) in ap modulus_bad q)
-
-  pub capped-good : modulus_bad r ≡ false → r ≡ v
-  capped-good t = omega (arith, e, ltb-false 1000000000000 r (or_right (ltb r 100) (ltb 1000000000000 r) t))
-
--- a line that is turned back
-pub turned : {A : Type 0} (row n : ℕ) (e : Entry) → e ≡ record { row = row; length = 0; modulus = 0 } → 0 < row → row ≡ n → (e.row ≡ n) × (e.row ≡ 0 → A)
-turned row n e q l h =
-    let r : e.row ≡ row = ap (λ (x : Entry). x.row) q in
-    (r ∙ h, λ z. absurd (omega (arith, r, z, l)))
-
--- ---- one line: what the code finds in a part of a text
-
--- the text from byte a on
 pub from_byte : (a : ℕ) (l : List ℕ) → take (length l - a) (drop a l) ≡ drop a l
 from_byte a l = take_all (length l - a) (drop a l) (omega (arith, length-drop a l))
-
-pub line-found : (m comma : ℕ) (l : List ℕ) (e : Entry) → comma ≡ place_of 44 l → comma < length l
-    → (e.row ≡ refusal (entry_rows m (take comma l) (take (length l - (comma + 1)) (drop (comma + 1) l)))) × (e.row ≡ 0 → e.modulus ≡ value_of (take (length l - (comma + 1)) (drop (comma + 1) l)))
-    → (e.row ≡ refusal (line_rows m l)) × (e.row ≡ 0 → e.modulus ≡ modulus_in l)
-line-found m comma l e q low h =
-    let t : take (length l - (comma + 1)) (drop (comma + 1) l) ≡ modulus_text l = from_byte (comma + 1) l ∙ ap (λ (c : ℕ). drop (c + 1) l) q in
-    let row : e.row ≡ refusal (entry_rows m (meter_text l) (modulus_text l)) = h.0 ∙ ap₂ (λ (a b : List ℕ). refusal (entry_rows m a b)) (ap (λ (c : ℕ). take c l) q) t in
-    (row-no (leb (length l) (place_of 44 l)) 25 (refusal (entry_rows m (meter_text l) (modulus_text l))) e.row (lt-leb (length l) (place_of 44 l) (omega (arith, q, low))) row, λ z. h.1 z ∙ ap value_of t)
-
-pub first_found : (m n : ℕ) (text : List ℕ) (e : Entry) → n ≡ place_of 10 text → n < length text
-    → (e.row ≡ refusal (line_rows m (take n text))) × (e.row ≡ 0 → e.modulus ≡ modulus_in (take n text))
-    → (e.row ≡ refusal (first_rows m text)) × (e.row ≡ 0 → (n ≡ place_of 10 text) × (n < length text) × (e.modulus ≡ modulus_in (first_line text)))
-first_found m n text e q low h =
-    let row : e.row ≡ refusal (line_rows m (first_line text)) = h.0 ∙ ap (λ (k : ℕ). refusal (line_rows m (take k text))) q in (
-      row-no (leb (length text) (place_of 10 text)) 25 (refusal (line_rows m (first_line text))) e.row (lt-leb (length text) (place_of 10 text) (omega (arith, q, low))) row,
-      λ z. (q, low, h.1 z ∙ ap (λ (k : ℕ). modulus_in (take k text)) q),
-    )
 
 -- ---- the numbers of a line
 
@@ -162,66 +123,77 @@ module _ (text : List ℕ) where
       ∙ ap not (none-apply (first_rows m (from_line text m)) (omega arith) (each_row 24 m l (lines-taken e))).1.1.1.1.1.0) in
       rw (length-tab 24 entry, each)
 
--- ---- the lines one after the other: the first m are read, and the next starts at byte a
+-- ---- the lines one after the other: the first m are read, and rest is the text after them
 
-pub record Going (text moduli : List ℕ) (a m : ℕ) : Type 0 where
-  pub low : m ≤ 24
-  pub inside : a ≤ length text
-  pub start : a ≡ line_start text m
+pub record Going (text moduli rest : List ℕ) (m : ℕ) : Type 0 where
+  pub inside : line_start text m ≤ length text
+  pub start : rest ≡ from_line text m
   pub right : lines_row text m ≡ 0
   pub so_far : moduli ≡ filled m (entry text) (replicate 24 0)
 
-pub going-first : (text : List ℕ) → Going text (replicate 24 0) 0 0
+pub going-first : (text : List ℕ) → Going text (replicate 24 0) text 0
 unfolding line_start lines_row
-going-first text = record { low = omega arith; inside = omega arith; start = refl; right = refl; so_far = filled_none (entry text) (replicate 24 0) }
+going-first text = record { inside = omega arith; start = refl; right = refl; so_far = filled_none (entry text) (replicate 24 0) }
 
-module _ (text moduli : List ℕ) (a m : ℕ) (g : Going text moduli a m) (l : m < 24) (e : Entry) where
-  abbrev rest : List ℕ
-  rest = take (length text - a) (drop a text)
+-- a row that turns the text back
+refused : (text : List ℕ) (r : Refusal) → number r ≡ text_row text → Reads (Err r) (read_of text)
+unfolding read_of
+refused text r e = rw (← e, ne_eqb (number r) 0 (number-some r))
 
-  rest-is : rest ≡ from_line text m
-  rest-is = from_byte a text ∙ ap (λ (k : ℕ). drop k text) g.start
+module _ (text moduli rest : List ℕ) (m : ℕ) (g : Going text moduli rest m) (l : m < 24) where
+  row-here : refusal (first_rows m rest) ≡ row text m
+  row-here = ap (λ (t : List ℕ). refusal (first_rows m t)) g.start
 
-  module _ (h : (e.row ≡ refusal (first_rows m rest)) × (e.row ≡ 0 → (e.length ≡ place_of 10 rest) × (e.length < length rest) × (e.modulus ≡ modulus_in (first_line rest)))) where
-    row_is : e.row ≡ row text m
-    row_is = h.0 ∙ ap (λ (t : List ℕ). refusal (first_rows m t)) rest-is
+  stopped : (r : Refusal) → number r ≡ refusal (first_rows m rest) → Reads (Err r) (read_of text)
+  stopped r e = refused text r (text-stop text m (number r) l g.right (e ∙ row-here) (number-some r))
 
-    pub going-stops : (e.row ≡ 0 → ⊥) → e.row ≡ text_row text
-    going-stops z = text-stop text m e.row l g.right row_is z
+  -- line m has no end
+  pub unended : length rest ≡ place_of 10 rest → Reads (Err BadTableLine) (read_of text)
+  unended e = stopped BadTableLine (row-yes (leb (length rest) (place_of 10 rest)) 25 (refusal (line_rows m (first_line rest))) (le-leb (length rest) (place_of 10 rest) (omega (arith, e))))
 
-    pub going_on : e.row ≡ 0 → Going text (set moduli m e.modulus) (a + (e.length + 1)) (m + 1)
+  module _ (line : List ℕ) (e : line ≡ first_line rest) (inside : place_of 10 rest < length rest) where
+    row_line : refusal (line_rows m line) ≡ refusal (first_rows m rest)
+    row_line =
+        ap (λ (t : List ℕ). refusal (line_rows m t)) e
+        ∙ row-no (leb (length rest) (place_of 10 rest)) 25 (refusal (line_rows m (first_line rest))) _ (lt-leb (length rest) (place_of 10 rest) inside) refl
+
+    pub going-stops : (r : Refusal) → Decides (Err r) (line_rows m line) (modulus_in line) → Reads (Err r) (read_of text)
+    going-stops r h = stopped r (h ∙ row_line)
+
+    pub going_on : (v : ℕ) → Decides (Ok v) (line_rows m line) (modulus_in line) → (after : List ℕ) → after ≡ drop (place_of 10 rest + 1) rest → Going text (set moduli m v) after (m + 1)
     unfolding line_start
-    going_on z =
-        let f = h.1 z in
-        let n : e.length ≡ place_of 10 (from_line text m) = f.0 ∙ ap (place_of 10) rest-is in
-        let size : length rest ≡ length text - a = ap (λ (t : List ℕ). length t) (from_byte a text) ∙ length-drop a text in
+    going_on v h after q =
+        let n : place_of 10 rest ≡ place_of 10 (from_line text m) = ap (place_of 10) g.start in
+        let size : length rest ≡ length text - line_start text m = ap (λ (t : List ℕ). length t) g.start ∙ length-drop (line_start text m) text in
+        let next : line_start text (m + 1) ≡ line_start text m + (place_of 10 (from_line text m) + 1) = rw add-one refl in
         record {
-          low = omega (arith, l);
-          inside = omega (arith, f.1, size, g.inside);
-          start = ap₂ (λ (x y : ℕ). x + (y + 1)) g.start n ∙ (let q : suc m ≡ m + 1 = omega arith in ap (line_start text) q);
-          right = lines-on text m g.right ∙ sym row_is ∙ z;
-          so_far = filled-turn (entry text) (replicate 24 0) moduli m e.modulus g.so_far (f.2 ∙ ap (λ (t : List ℕ). modulus_in (first_line t)) rest-is);
+          inside = omega (arith, next, n, size, inside, g.inside);
+          start = q ∙ ap₂ (λ (k : ℕ) (t : List ℕ). drop (k + 1) t) n g.start ∙ drop-drop (place_of 10 (from_line text m) + 1) (line_start text m) text ∙ ap (λ (k : ℕ). drop k text) (sym next);
+          right = lines-on text m g.right ∙ sym row-here ∙ sym row_line ∙ sym h.0;
+          so_far = filled-turn (entry text) (replicate 24 0) moduli m v g.so_far (h.1 ∙ ap modulus_in e ∙ ap (λ (t : List ℕ). modulus_in (first_line t)) g.start);
         }
 
-module _ (text moduli : List ℕ) (a m : ℕ) (g : Going text moduli a m) (h : 24 ≤ m) where
-  all_read : m ≡ 24
-  all_read = omega (arith, g.low, h)
+module _ (text moduli rest : List ℕ) (m : ℕ) (low : m ≤ 24) (high : 24 ≤ m) (so : Going text moduli rest m) where
+  g : Going text moduli rest 24
+  g = let e : m ≡ 24 = omega arith in subst (λ (k : ℕ). Going text moduli rest k) e so
 
   row_ends : cond (ltb (line_start text 24) (length text)) 25 0 ≡ text_row text
-  row_ends = text-end text (subst (λ (k : ℕ). lines_row text k ≡ 0) all_read g.right)
+  row_ends = text-end text g.right
 
-  start_is : a ≡ line_start text 24
-  start_is = g.start ∙ ap (line_start text) all_read
+  size_left : length rest ≡ length text - line_start text 24
+  size_left = ap (λ (t : List ℕ). length t) g.start ∙ length-drop (line_start text 24) text
 
-  pub more_left : a < length text → 25 ≡ text_row text
-  more_left l = row-yes (ltb (line_start text 24) (length text)) 25 0 (lt-ltb (line_start text 24) (length text) (omega (arith, start_is, l))) ∙ row_ends
+  pub more_left : (length rest ≡ 0 → ⊥) → Reads (Err BadTableLine) (read_of text)
+  more_left n =
+      refused text BadTableLine
+      (row-yes (ltb (line_start text 24) (length text)) 25 0 (lt-ltb (line_start text 24) (length text) (omega (arith, size_left, n))) ∙ row_ends)
 
-  pub nothing_left : length text ≤ a → (0 ≡ text_row text) × (moduli ≡ moduli_in text)
-  unfolding moduli_in
-  nothing_left l = (
-    row-no (ltb (line_start text 24) (length text)) 25 0 0 (le-ltb (line_start text 24) (length text) (omega (arith, start_is, l))) refl ∙ row_ends,
-    subst (λ (k : ℕ). moduli ≡ filled k (entry text) (replicate 24 0)) all_read g.so_far ∙ filled_is,
-  )
+  pub nothing_left : length rest ≡ 0 → Reads (Ok moduli) (read_of text)
+  unfolding moduli_in read_of
+  nothing_left n =
+      let none : 0 ≡ text_row text = row-no (ltb (line_start text 24) (length text)) 25 0 0 (le-ltb (line_start text 24) (length text) (omega (arith, size_left, n))) refl ∙ row_ends in
+      let all : moduli ≡ tab 24 (entry text) = g.so_far ∙ filled_is in
+      rw (← none, all)
     where
       filled_is : filled 24 (entry text) (replicate 24 0) ≡ tab 24 (entry text)
       filled_is =
@@ -230,22 +202,29 @@ module _ (text moduli : List ℕ) (a m : ℕ) (g : Going text moduli a m) (h : 2
           let k : i < 24 = omega (arith, b, length-filled 24 (entry text) (replicate 24 0)) in
           get_or-filled 24 (entry text) (replicate 24 0) i 0 k (omega arith) ∙ sym (get_or-tab 24 (entry text) i 0 k))
 
--- ---- what a reading gives
+-- ---- what a reading gives, of each result
 
-module _ (text : List ℕ) (r : Moduli) where
-  pub read-refused : (row : ℕ) → row ≡ text_row text → (row ≡ 0 → ⊥) → r ≡ record { row = row; moduli = replicate 24 0 } → r ≡ read_of text
+module _ (text : List ℕ) where
+  pub read-row : (r : Refusal) → Reads (Err r) (read_of text) → number r ≡ text_row text
   unfolding read_of
-  read-refused row e n h = h ∙ rw (← e, ne_eqb row 0 n)
+  read-row r h = ap (λ (x : Reading). x.row) h
 
-  -- its parts
-  pub read-row : r ≡ read_of text → r.row ≡ text_row text
+  pub read_taken : (ms : List ℕ) → Reads (Ok ms) (read_of text) → (0 ≡ text_row text) × (ms ≡ moduli_in text)
   unfolding read_of
-  read-row h = ap (λ (x : Moduli). x.row) h
+  read_taken ms h =
+      let e : 0 ≡ text_row text = ap (λ (x : Reading). x.row) h in
+      (e, ap (λ (x : Reading). x.moduli) h ∙ sym (row-yes (eqb (text_row text) 0) (moduli_in text) (replicate 24 0) (eq-eqb (text_row text) 0 (sym e))))
 
-  pub read_taken : r ≡ read_of text → r.row ≡ 0 → r.moduli ≡ moduli_in text
-  unfolding read_of
-  read_taken h z = ap (λ (x : Moduli). x.moduli) h ∙ sym (row-yes (eqb (text_row text) 0) (moduli_in text) (replicate 24 0) (eq-eqb (text_row text) 0 (sym (read-row h) ∙ z)))
+-- ---- the parts that a line is cut into
 
-pub read_all : (text ms : List ℕ) → 0 ≡ text_row text → ms ≡ moduli_in text → record { row = 0; moduli = ms } ≡ read_of text
-unfolding read_of
-read_all text ms e h = rw (← e, h)
+pub split-found : (b i : ℕ) (s : List ℕ) → position (λ (x : ℕ). eqb x b) s ≡ Some i
+    → (place_of b s < length s) × (take i s ≡ take (place_of b s) s) × (take (length s - (i + 1)) (drop (i + 1) s) ≡ drop (place_of b s + 1) s)
+unfolding place_of
+split-found b i s e =
+    let h = position_first (λ (x : ℕ). eqb x b) s 0 i e in
+    let q : i ≡ place_of b s = h.1 in
+    (omega (arith, h.0, q), ap (λ (k : ℕ). take k s) q, from_byte (i + 1) s ∙ ap (λ (k : ℕ). drop (k + 1) s) q)
+
+pub split-none : (b : ℕ) (s : List ℕ) → position (λ (x : ℕ). eqb x b) s ≡ None → length s ≡ place_of b s
+unfolding place_of
+split-none b s e = sym (position_none (λ (x : ℕ). eqb x b) s 0 e)

@@ -1,10 +1,11 @@
 -- A table of moduli as text (document 02, L10): 24 lines `meter,modulus`, each ended by a newline, meters 0 to 23 in order, plain decimals.
-use Rattle.std.specs.Prelude.{ℕ, zero, suc, ◌+◌, ◌-◌, ◌*◌, Bool, ◌&&◌, not, cond, List, [], ◌∷◌, ltb, leb, eqb, length, get_or, take, drop, replicate}
+use Rattle.std.specs.Prelude.{ℕ, zero, suc, ◌≡◌, ◌+◌, ◌-◌, ◌*◌, Bool, ◌&&◌, not, cond, List, [], ◌∷◌, ltb, leb, eqb, length, get_or, take, drop, replicate, Result, Ok, Err}
 use Rattle.bounded.specs.Below.{all_below, first_below, up_to}
 use Rattle.bounded.specs.Rows.{Row, refusal}
 use Rattle.bounded.specs.Tab.{tab}
 use Rattle.meters.specs.Meters.{modulus_bad}
-use Rattle.moduli_text.specs.declared.Moduli.{Moduli}
+use Rattle.rows.specs.declared.Refusal.{Refusal}
+use Rattle.rows.specs.Numbers.{number}
 
 -- the place of the first byte b, the length where there is none
 unfoldable pub place_of : ℕ → List ℕ → ℕ
@@ -54,6 +55,11 @@ first_line text = take (place_of 10 text) text
 abbrev pub first_rows : ℕ → List ℕ → List Row
 first_rows m text = (leb (length text) (place_of 10 text), 25) ∷ line_rows m (first_line text)
 
+-- a line is turned back by the first row of a table that holds, or it gives a modulus
+abbrev pub Decides : Result ℕ Refusal → List Row → ℕ → Type 0
+Decides (Ok v) rows modulus = (0 ≡ refusal rows) × (v ≡ modulus)
+Decides (Err r) rows modulus = number r ≡ refusal rows
+
 -- ---- line by line
 
 -- where line m starts, and the text from there on
@@ -78,5 +84,14 @@ unfoldable pub moduli_in : List ℕ → List ℕ
 moduli_in text = tab 24 (λ m. modulus_in (first_line (from_line text m)))
 
 -- what a reading gives: the number that turns the text back and 24 zeros, or 0 and the moduli
-unfoldable pub read_of : List ℕ → Moduli
+pub record Reading : Type 0 where
+  pub row : ℕ
+  pub moduli : List ℕ
+
+unfoldable pub read_of : List ℕ → Reading
 read_of text = record { row = text_row text; moduli = cond (eqb (text_row text) 0) (moduli_in text) (replicate 24 0) }
+
+-- a result that says what a reading gives: moduli where no number turns the text back, or the row of the number
+abbrev pub Reads : Result (List ℕ) Refusal → Reading → Type 0
+Reads (Ok ms) reading = record { row = 0; moduli = ms } ≡ reading
+Reads (Err r) reading = record { row = number r; moduli = replicate 24 0 } ≡ reading

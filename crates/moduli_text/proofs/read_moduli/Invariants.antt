@@ -1,9 +1,5 @@
-use Prim.Native.Nat.{◌-◌}
 use Rattle.moduli_text.proofs.TextLaws.{Going}
 use Rattle.moduli_text.proofs.read_moduli.Given as goal
 
 abbrev pub invariant-loop-m : goal.invariant-loop-m
-invariant-loop-m l = Going l.text l.moduli l.at l.m
-
-abbrev pub decreases-loop-m : goal.decreases-loop-m
-decreases-loop-m l = 24 - l.m
+invariant-loop-m l = Going l.text l.moduli l.rest l.m
