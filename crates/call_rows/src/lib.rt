@@ -6,6 +6,7 @@ mod freeing;
 
 ghost use Rattle.std.specs.Prelude.{true, ◌≡◌, ◌++◌, ◌<◌};
 ghost use Rattle.bounded.specs.Rows.{refusal};
+ghost use Rattle.rows.specs.Numbers.{row_of};
 ghost use Rattle.operations.specs.Operations.{commit_rows};
 ghost use Rattle.validity.specs.Validity.{state_ok};
 ghost use Rattle.refinement.specs.Calls.{quiet_rows, busy_rows};
@@ -13,70 +14,58 @@ ghost use Rattle.state_words.specs.Decoded.{decoded, places_of};
 
 pub use freeing::free_row;
 use layout::Sizes;
+use rows::Refusal;
 use state::Places;
 use state_words::Words;
 
 // The first of rows 8, 4 and 9, of a state that row 8 accepts.
-pub fn valid_row(z: Sizes, words: &Words, n: usize) -> usize
+pub fn valid_row(z: Sizes, words: &Words, n: usize) -> Result<(), Refusal>
     requires { (z ≡ (decoded words.now).sizes) × (state_ok (decoded words.now) ≡ true) }
-    ensures { result ≡ refusal (quiet_rows (decoded words.now) n) }
+    ensures { row_of result ≡ refusal (quiet_rows (decoded words.now) n) }
 {
     if n < layout::image_length(z) {
-        return 4;
+        return Err(Refusal::BufferTooShort);
     }
     if !state_words::parts::idle_in(words) {
-        return 9;
+        return Err(Refusal::OperationPending);
     }
-    0
+    Ok(())
 }
 
 // The first of rows 8, 4 and 9.
-pub fn quiet_row(z: Sizes, at: Places, words: &Words, n: usize) -> usize
+pub fn quiet_row(z: Sizes, at: Places, words: &Words, n: usize) -> Result<(), Refusal>
     requires { (z ≡ (decoded words.now).sizes) × (at ≡ places_of (decoded words.now)) }
-    ensures { result ≡ refusal (quiet_rows (decoded words.now) n) }
+    ensures { row_of result ≡ refusal (quiet_rows (decoded words.now) n) }
 {
     if !state_rules::state_ok(z, at, words) {
-        return 8;
+        return Err(Refusal::BadState);
     }
     valid_row(z, words, n)
 }
 
-// The first of rows 8, 4 and 10: quiet_row's, which tells by 9 that something is pending.
-pub fn busy_row(z: Sizes, at: Places, words: &Words, n: usize) -> usize
+// The first of rows 8, 4 and 10: quiet_row's, which says by row 9 that something is pending.
+pub fn busy_row(z: Sizes, at: Places, words: &Words, n: usize) -> Result<(), Refusal>
     requires { (z ≡ (decoded words.now).sizes) × (at ≡ places_of (decoded words.now)) }
-    ensures { result ≡ refusal (busy_rows (decoded words.now) n) }
+    ensures { row_of result ≡ refusal (busy_rows (decoded words.now) n) }
 {
-    let row = quiet_row(z, at, words, n);
-    if row == 9 {
-        return 0;
+    match quiet_row(z, at, words, n) {
+        Err(Refusal::OperationPending) => Ok(()),
+        Ok(()) => Err(Refusal::NothingPending),
+        other => other,
     }
-    if row == 0 {
-        return 10;
-    }
-    row
 }
 
 // The first row that turns a commit back, of a state that row 8 accepts: 4, 9, 11, 13, 23, 19.
-pub fn commit_row(z: Sizes, at: Places, words: &Words, writer: usize, n: usize) -> usize
+pub fn commit_row(
+    z: Sizes,
+    at: Places,
+    words: &Words,
+    writer: usize,
+    n: usize,
+) -> Result<(), Refusal>
     requires { (z ≡ (decoded words.now).sizes) × (at ≡ places_of (decoded words.now)) × (state_ok (decoded words.now) ≡ true) }
-    ensures { result ≡ refusal (quiet_rows (decoded words.now) n ++ commit_rows (decoded words.now) writer) }
+    ensures { row_of result ≡ refusal (quiet_rows (decoded words.now) n ++ commit_rows (decoded words.now) writer) }
 {
-    let row = valid_row(z, words, n);
-    if row != 0 {
-        return row;
-    }
-    if writer > 3 {
-        return 11;
-    }
-    if !state_words::open_at(words, writer) {
-        return 13;
-    }
-    if at.prepared < 4 {
-        return 23;
-    }
-    let c = state_held::held::held_count(z, words, writer);
-    if z.places < journal::records::live_count(z, at.head, at.tail) + c {
-        return 19;
-    }
-    0
+    valid_row(z, words, n)?;
+    op_rows::commit_row(z, at, words, writer)
 }

@@ -18,13 +18,9 @@ fn slot_fresh(z: Sizes, words: &Words, s: usize) -> bool
     ensures { result ≡ fresh_at z (decoded words.now).table s }
 {
     let v = state_words::slot_at(words, s);
-    if v.page != journal::NO_PAGE {
-        return false;
-    }
-    if v.spare != z.pages + s {
-        return false;
-    }
-    state_words::last_at(words, s) == replay::NO_POSITION
+    v.page == journal::NO_PAGE
+        && v.spare == z.pages + s
+        && state_words::last_at(words, s) == replay::NO_POSITION
 }
 
 // The same of each slot.
@@ -32,14 +28,7 @@ fn slots_fresh(z: Sizes, words: &Words) -> bool
     requires { Legal z }
     ensures { result ≡ all_below z.slots (fresh_at z (decoded words.now).table) }
 {
-    let mut s = 0;
-    while s < z.slots {
-        if !slot_fresh(z, words, s) {
-            return false;
-        }
-        s += 1;
-    }
-    true
+    (0..z.slots).all(|s| slot_fresh(z, words, s))
 }
 
 // Whether page i is in frame i, of each page.
@@ -54,18 +43,18 @@ fn map_fresh(z: Sizes, words: &Words) -> bool
 }
 
 // Whether the state is fresh: nothing in the journal, no writer open, prepared or wide, no entry used, every slot and the map fresh.
+#[tactic(auto, unfolding(validity::specs::Validity::fresh_of))]
 pub(crate) fn is_fresh(z: Sizes, at: Places, words: &Words) -> bool
     requires { Legal z }
     ensures { result ≡ is_fresh (seen z at (decoded words.now)) }
 {
-    if (at.head != 0) | (at.tail != 0) | (at.next != 0) | (at.count != 0) {
-        return false;
-    }
-    if state_held::held::some_open(words) | (at.prepared < 4) | (at.wide < 4) {
-        return false;
-    }
-    if !slots_fresh(z, words) {
-        return false;
-    }
-    map_fresh(z, words)
+    at.head == 0
+        && at.tail == 0
+        && at.next == 0
+        && at.count == 0
+        && !state_held::held::some_open(words)
+        && at.prepared >= 4
+        && at.wide >= 4
+        && slots_fresh(z, words)
+        && map_fresh(z, words)
 }

@@ -20,16 +20,14 @@ use state_words::parts::{idle_in, made_in, op_in};
 use state_words::{Words, last_at};
 
 // The rules of rows 3, 5 and 7 for the slots and the map.
+#[tactic(auto, unfolding(validity::specs::Validity::slots_ok))]
 fn slots_ok(z: Sizes, head: usize, tail: usize, words: &Words) -> bool
     ensures { result ≡ slots_ok z head tail (decoded words.now).table (own_frame (decoded words.now)) }
 {
     if !layout::sizes_ok(z) {
         return false;
     }
-    if !journal::records::positions_ok(z, head, tail) {
-        return false;
-    }
-    slots::slots_fine(z, words)
+    journal::records::positions_ok(z, head, tail) && slots::slots_fine(z, words)
 }
 
 // Whether q is a live position, of which there are so many.
@@ -37,10 +35,7 @@ fn is_live(z: Sizes, tail: usize, live: usize, q: usize) -> bool
     requires { Legal z × (tail < 2 * z.places) }
     ensures { result ≡ is_live_of z tail live q }
 {
-    if 2 * z.places <= q {
-        return false;
-    }
-    journal::records::live_count(z, q, tail) < live
+    q < 2 * z.places && journal::records::live_count(z, q, tail) < live
 }
 
 // Whether the last position of slot s, where it has one, is live and that of no slot below it.
@@ -49,20 +44,8 @@ fn last_ok(z: Sizes, tail: usize, live: usize, words: &Words, s: usize) -> bool
     ensures { result ≡ last_ok_of z tail live (decoded words.now).table.last s }
 {
     let q = last_at(words, s);
-    if q == replay::NO_POSITION {
-        return true;
-    }
-    if !is_live(z, tail, live, q) {
-        return false;
-    }
-    let mut k = 0;
-    while k < s {
-        if q == last_at(words, k) {
-            return false;
-        }
-        k += 1;
-    }
-    true
+    q == replay::NO_POSITION
+        || (is_live(z, tail, live, q) && (0..s).all(|k| q != last_at(words, k)))
 }
 
 // The same of each slot.
@@ -71,52 +54,36 @@ fn lasts_ok(z: Sizes, head: usize, tail: usize, words: &Words) -> bool
     ensures { result ≡ lasts_ok z head tail (decoded words.now).table.last }
 {
     let live = journal::records::live_count(z, head, tail);
-    let mut s = 0;
-    while s < z.slots {
-        if !last_ok(z, tail, live, words, s) {
-            return false;
-        }
-        s += 1;
-    }
-    true
+    (0..z.slots).all(|s| last_ok(z, tail, live, words, s))
 }
 
 // Whether a prepared writer is open and its records fit.
+#[tactic(auto, unfolding(validity::specs::Validity::prepared_ok))]
 fn prepared_ok(z: Sizes, at: Places, words: &Words) -> bool
     requires { Legal z × (at.head < 2 * z.places) × (at.tail < 2 * z.places) × (live_count z at.head at.tail ≤ z.places) }
     ensures { result ≡ prepared_ok z at.head at.tail (decoded words.now).writers.opened
         (decoded words.now).writers.held at.prepared }
 {
-    if 4 <= at.prepared {
-        return true;
-    }
-    if !state_words::open_at(words, at.prepared) {
-        return false;
-    }
-    let n = held::held_count(z, words, at.prepared);
-    !(z.places < journal::records::live_count(z, at.head, at.tail) + n)
+    at.prepared >= 4
+        || (state_words::open_at(words, at.prepared)
+            && journal::records::live_count(z, at.head, at.tail)
+                + held::held_count(z, words, at.prepared)
+                <= z.places)
 }
 
 // Whether the state keeps every rule of row 8 that says nothing of what is pending.
+#[tactic(auto, unfolding(validity::specs::Validity::quiet_ok))]
 fn quiet_ok(z: Sizes, at: Places, words: &Words) -> bool
     ensures { result ≡ quiet_in z at (decoded words.now) }
 {
     if !slots_ok(z, at.head, at.tail, words) {
         return false;
     }
-    if !held::held_ok(z, words) {
-        return false;
-    }
-    if z.slots <= at.next {
-        return false;
-    }
-    if !lasts_ok(z, at.head, at.tail, words) {
-        return false;
-    }
-    if !prepared_ok(z, at, words) {
-        return false;
-    }
-    held::wide_ok(z, at, words)
+    held::held_ok(z, words)
+        && at.next < z.slots
+        && lasts_ok(z, at.head, at.tail, words)
+        && prepared_ok(z, at, words)
+        && held::wide_ok(z, at, words)
 }
 
 // Whether a write or a commit that is pending is not one by the wide writer, whose are `Log` and `Copy`, and a format is beside the fresh state.
@@ -125,32 +92,16 @@ fn op_fits(z: Sizes, at: Places, words: &Words, op: Op) -> bool
     ensures { result ≡ op_fits at.wide (is_fresh (seen z at (decoded words.now))) op }
 {
     match op {
-        Op::Write {
-            writer,
-            page: _,
-            line: _,
-            offset: _,
-            length: _,
-        } => at.wide != writer,
-        Op::Idle => true,
-        Op::Commit { writer } => at.wide != writer,
-        Op::Consolidate { page: _ } => true,
-        Op::Checkpoint => true,
-        Op::Event {
-            kind: _,
-            meter: _,
-            amount: _,
-        } => true,
-        Op::Prepare { writer: _ } => true,
-        Op::Confirm { writer: _ } => true,
-        Op::Log {
-            page: _,
-            line: _,
-            offset: _,
-            length: _,
-        } => true,
-        Op::Copy => true,
+        Op::Write { writer, .. } | Op::Commit { writer } => at.wide != writer,
         Op::Format => fresh_state::is_fresh(z, at, words),
+        Op::Idle
+        | Op::Consolidate { .. }
+        | Op::Checkpoint
+        | Op::Event { .. }
+        | Op::Prepare { .. }
+        | Op::Confirm { .. }
+        | Op::Log { .. }
+        | Op::Copy => true,
     }
 }
 
@@ -159,26 +110,18 @@ fn op_ok(z: Sizes, at: Places, words: &Words, op: Op, made: usize) -> bool
     requires { Low z at × (at.count ≤ 64) }
     ensures { result ≡ op_ok (seen z at (decoded words.now)) op made }
 {
-    if !op_fits(z, at, words, op) {
-        return false;
-    }
-    if op_rows::op_row(z, at, words, op) != 0 {
-        return false;
-    }
-    made < op_rows::op_needs(z, at, words, op)
+    op_fits(z, at, words, op)
+        && op_rows::op_row(z, at, words, op).is_ok()
+        && made < op_rows::op_needs(z, at, words, op)
 }
 
 // The same of the operation that is pending, where one is.
+#[tactic(auto, unfolding(validity::specs::Validity::pending_ok))]
 fn pending_ok(z: Sizes, at: Places, words: &Words) -> bool
     requires { Low z at × (at.count ≤ 64) }
     ensures { result ≡ pending_ok (seen z at (decoded words.now)) }
 {
-    if idle_in(words) {
-        return true;
-    }
-    let op = op_in(words);
-    let made = made_in(words);
-    op_ok(z, at, words, op, made)
+    idle_in(words) || op_ok(z, at, words, op_in(words), made_in(words))
 }
 
 // Whether the state keeps every rule of row 8. z and at are its sizes and places.
@@ -186,8 +129,5 @@ pub fn state_ok(z: Sizes, at: Places, words: &Words) -> bool
     requires { (z ≡ (decoded words.now).sizes) × (at ≡ places_of (decoded words.now)) }
     ensures { result ≡ state_ok (decoded words.now) }
 {
-    if !quiet_ok(z, at, words) {
-        return false;
-    }
-    pending_ok(z, at, words)
+    quiet_ok(z, at, words) && pending_ok(z, at, words)
 }

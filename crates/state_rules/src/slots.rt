@@ -18,14 +18,7 @@ fn page_apart(words: &Words, s: usize) -> bool
     ensures { result ≡ all_below s (λ k. not (eqb (get_or (decoded words.now).table.page s 0) (get_or (decoded words.now).table.page k 0))) }
 {
     let p = page_at(words, s);
-    let mut k = 0;
-    while k < s {
-        if p == page_at(words, k) {
-            return false;
-        }
-        k += 1;
-    }
-    true
+    (0..s).all(|k| p != page_at(words, k))
 }
 
 // Whether slot s has a shape, and as an owning one a page that no slot below it has, with its original for its frame.
@@ -36,15 +29,14 @@ fn slot_fine(z: Sizes, words: &Words, s: usize) -> bool
     let a = slot_at(words, s);
     let f = z.pages + z.slots;
     if a.page == journal::NO_PAGE {
-        return (a.original == journal::NO_FRAME) & (a.bitmap == 0) & (a.spare < f);
+        return a.original == journal::NO_FRAME && a.bitmap == 0 && a.spare < f;
     }
-    if !((a.page < z.pages) & (a.original < f) & (a.spare < f) & (a.original != a.spare)) {
-        return false;
-    }
-    if !page_apart(words, s) {
-        return false;
-    }
-    state_words::entry_at(words, a.page) == a.original
+    a.page < z.pages
+        && a.original < f
+        && a.spare < f
+        && a.original != a.spare
+        && page_apart(words, s)
+        && state_words::entry_at(words, a.page) == a.original
 }
 
 // The same of each slot.
@@ -52,14 +44,7 @@ fn each_fine(z: Sizes, words: &Words) -> bool
     requires { Legal z }
     ensures { result ≡ all_below z.slots (slot_fine (own_frame (decoded words.now)) z (decoded words.now).table) }
 {
-    let mut s = 0;
-    while s < z.slots {
-        if !slot_fine(z, words, s) {
-            return false;
-        }
-        s += 1;
-    }
-    true
+    (0..z.slots).all(|s| slot_fine(z, words, s))
 }
 
 // Whether the spares and the frames of the pages name each frame once.
@@ -79,8 +64,5 @@ pub fn slots_fine(z: Sizes, words: &Words) -> bool
     requires { Legal z }
     ensures { result ≡ slots_fine (own_frame (decoded words.now)) z (decoded words.now).table }
 {
-    if !each_fine(z, words) {
-        return false;
-    }
-    names_once(z, words)
+    each_fine(z, words) && names_once(z, words)
 }

@@ -1,15 +1,18 @@
+use Prim.Native.Nat.{ℕ}
+use mathlib.Core.Bool.{Bool}
+use mathlib.Core.Path.{refl, ◌∙◌}
+use native.Mathlib.Omega.{arith}
 use borrow.Author.Rules.{rules}
-use Rattle.bounded.proofs.Below.{all_none, all-turn, all-stops, all-ends}
+use borrow.Author.Tests.{tests}
+use Rattle.std.proofs.lemmas.Iterator.{YieldsList-from_range}
+use Rattle.std.proofs.lemmas.Iterator.Search.{all_from_yields_List}
+use Rattle.validity.specs.Validity.{fresh_at}
+use Rattle.state_words.specs.Decoded.{decoded}
+use Rattle.state_words.proofs.Ranges.{all-range}
 use Rattle.state_rules.proofs.fresh_state.slots_fresh.Goals as goal
 
-pub loop-s-init : goal.loop-s-init
-loop-s-init c = (search rules, all_none _)
-
-pub returns-then-not-slot_fresh : goal.returns-then-not-slot_fresh
-returns-then-not-slot_fresh c = all-stops _ _ _ _ c.loop-s-test.true c.slot_fresh.ensures (c.if-not-slot_fresh.true)
-
-pub loop-s-preserved : goal.loop-s-preserved
-loop-s-preserved c = (search rules, all-turn _ _ _ c.loop-s.invariant.1 c.slot_fresh.ensures (c.if-not-slot_fresh.false))
-
 pub returns : goal.returns
-returns c = all-ends _ _ _ c.loop-s.invariant.0 c.loop-s-test.false c.loop-s.invariant.1
+returns c =
+    let a = c.args in
+    let test : ℕ → Bool = fresh_at a.z (decoded a.words.now).table in
+    all_from_yields_List test _ _ c.all.result c.all.ensures.ran (YieldsList-from_range 0 a.z.slots a.z.slots refl (omega arith)) (λ x b q k. search (rules, tests)) ∙ all-range test a.z.slots

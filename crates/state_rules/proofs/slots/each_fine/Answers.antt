@@ -1,15 +1,19 @@
+use Prim.Native.Nat.{ℕ}
+use mathlib.Core.Bool.{Bool}
+use mathlib.Core.Path.{refl, ◌∙◌}
+use native.Mathlib.Omega.{arith}
 use borrow.Author.Rules.{rules}
-use Rattle.bounded.proofs.Below.{all_none, all-turn, all-stops, all-ends}
+use borrow.Author.Tests.{tests}
+use Rattle.std.proofs.lemmas.Iterator.{YieldsList-from_range}
+use Rattle.std.proofs.lemmas.Iterator.Search.{all_from_yields_List}
+use Rattle.slot_rules.specs.Slots.{slot_fine}
+use Rattle.state.specs.State.{own_frame}
+use Rattle.state_words.specs.Decoded.{decoded}
+use Rattle.state_words.proofs.Ranges.{all-range}
 use Rattle.state_rules.proofs.slots.each_fine.Goals as goal
 
-pub loop-s-init : goal.loop-s-init
-loop-s-init c = (search rules, all_none _)
-
-pub returns-then-not-slot_fine : goal.returns-then-not-slot_fine
-returns-then-not-slot_fine c = all-stops _ _ _ _ c.loop-s-test.true c.slot_fine.ensures (c.if-not-slot_fine.true)
-
-pub loop-s-preserved : goal.loop-s-preserved
-loop-s-preserved c = (search rules, all-turn _ _ _ c.loop-s.invariant.1 c.slot_fine.ensures c.if-not-slot_fine.false)
-
 pub returns : goal.returns
-returns c = all-ends _ _ _ c.loop-s.invariant.0 c.loop-s-test.false c.loop-s.invariant.1
+returns c =
+    let a = c.args in
+    let test : ℕ → Bool = slot_fine (own_frame (decoded a.words.now)) a.z (decoded a.words.now).table in
+    all_from_yields_List test _ _ c.all.result c.all.ensures.ran (YieldsList-from_range 0 a.z.slots a.z.slots refl (omega arith)) (λ x b q k. search (rules, tests)) ∙ all-range test a.z.slots
