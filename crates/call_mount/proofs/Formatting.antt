@@ -6,6 +6,7 @@ use mathlib.Core.Path.{◌≡◌, refl, sym, ap, ◌∙◌, subst}
 use native.Mathlib.Omega.{arith}
 use lib.Dec.{eqb}
 use lib.ListN.{length, replicate}
+use Rattle.std.specs.Prelude.{Err}
 use borrow.Author.Tests.{not-false, ltb-false, ne_eqb, eq-eqb, eqb-true}
 use Rattle.bounded.proofs.Rows.{none-apply}
 use Rattle.bounded.proofs.Tests.{row-yes, row-no}
@@ -25,9 +26,10 @@ use Rattle.refinement.specs.Stores.{left, state_after}
 use Rattle.refinement.specs.Mount.{quiet_state, fresh_state, format_of, format_call}
 use Rattle.refinement.proofs.CallMounted.{fresh-valid}
 use Rattle.refinement.proofs.FormatAsked.{formatting, fresh-is, format-left, ran-image, ran-state}
-use Rattle.answers.specs.declared.Answer.{Answer}
-use Rattle.answers.specs.declared.Answer.TheVariants.{Taken}
-use Rattle.answers.specs.Answers.{as_answer}
+use Rattle.rows.specs.declared.Refusal.{Refusal}
+use Rattle.rows.specs.Numbers.{number}
+use Rattle.rows.proofs.Numbers.{number-some}
+use Rattle.answers.specs.Answers.{Answer}
 use Rattle.state_words.specs.Decoded.{places_of}
 use Rattle.op_stores.specs.declared.Until.{Until}
 use Rattle.op_stores.specs.declared.Until.TheVariants.{End}
@@ -36,30 +38,27 @@ use Rattle.op_stores.specs.Started.{Started, started_of, started_bytes}
 use Rattle.op_stores.proofs.Starting.{started-refused}
 use Rattle.call_mount.specs.Replacing.{replacing, FormatStarted}
 use Rattle.call_mount.specs.Entries.{with_entries}
-use Rattle.call_mount.proofs.Found.{format-known}
 use Rattle.call_mount.proofs.MapFilled.{over_zeros}
 
--- ---- row is what the code found
+module _ (z : Sizes) (img : List ℕ) where
+  module _ (r : Refusal) (e : number r ≡ format_row z img) where
+    pub format-refused : (st : State) (u : Until) → FormatStarted (Err r) st img z st img u
+    unfolding format_of
+    format-refused st u = started-refused st img u (format_rows z (length img)) r e _ _
 
-module _ (z : Sizes) (img : List ℕ) (row : ℕ) (e : row ≡ format_row z img) where
-  pub format-refused : (row ≡ 0 → ⊥) → (a : Answer) → a ≡ as_answer row 0 → (st : State) (u : Until) → FormatStarted a st img z st img u
-  unfolding format_of
-  format-refused n a ha st u =
-      started-refused st img u (format_rows z (length img)) row e n (format-known z img row e) a ha _ _
+    -- the bytes after it in one call
+    pub refused-bytes : img ≡ format_bytes z img
+    refused-bytes = row-no (eqb (format_row z img) 0) (formatted z img) img img (ne_eqb (format_row z img) 0 (λ q. number-some r (e ∙ q))) refl
 
-  -- the bytes after it in one call
-  pub refused-bytes : (row ≡ 0 → ⊥) → img ≡ format_bytes z img
-  refused-bytes n = row-no (eqb (format_row z img) 0) (formatted z img) img img (ne_eqb (format_row z img) 0 (λ q. n (e ∙ q))) refl
+  module _ (none : 0 ≡ format_row z img) where
+    pub taken-bytes : formatted z img ≡ format_bytes z img
+    taken-bytes = row-yes (eqb (format_row z img) 0) (formatted z img) img (eq-eqb (format_row z img) 0 (sym none))
 
-  pub taken-bytes : row ≡ 0 → formatted z img ≡ format_bytes z img
-  taken-bytes none = row-yes (eqb (format_row z img) 0) (formatted z img) img (eq-eqb (format_row z img) 0 (sym e ∙ none))
-
-  module _ (none : row ≡ 0) where
     pub sizes-right : sizes_ok z ≡ true
-    sizes-right = not-false (sizes_ok z) (none-apply (format_rows z (length img)) (omega arith) (sym e ∙ none)).0
+    sizes-right = not-false (sizes_ok z) (none-apply (format_rows z (length img)) (omega arith) (sym none)).0
 
     pub long-enough : image_length z ≤ length img
-    long-enough = ltb-false (length img) (image_length z) (none-apply (format_rows z (length img)) (omega arith) (sym e ∙ none)).1.0
+    long-enough = ltb-false (length img) (image_length z) (none-apply (format_rows z (length img)) (omega arith) (sym none)).1.0
 
     -- the words put to the fresh state may have a format asked for on them
     -- the words put to the fresh state but for its map, then that
@@ -86,7 +85,7 @@ module _ (z : Sizes) (img : List ℕ) (row : ℕ) (e : row ≡ format_row z img)
     format-asks : (st : State) → replacing st (format_of z img) ≡ asked 0 (fresh_state z) Format (replicate 8 0)
     unfolding format_of needs
     format-asks st =
-        let zero : format_row z img ≡ 0 = sym e ∙ none in
+        let zero : format_row z img ≡ 0 = sym none in
         let some : eqb (image_words z + 1) 0 ≡ false = ne_eqb (image_words z + 1) 0 (λ q. omega (arith, q)) in
         rw (zero, some)
 
@@ -107,7 +106,7 @@ module _ (z : Sizes) (img : List ℕ) (row : ℕ) (e : row ≡ format_row z img)
     pub end-bytes : (st : State) → started_bytes (replacing st (format_of z img)) img End ≡ formatted z img
     unfolding format_of
     end-bytes st =
-        let zero : format_row z img ≡ 0 = sym e ∙ none in
+        let zero : format_row z img ≡ 0 = sym none in
         let some : eqb (image_words z + 1) 0 ≡ false = ne_eqb (image_words z + 1) 0 (λ q. omega (arith, q)) in
         rw (zero, some)
         (ran-image z sizes-right img long-enough (left (formatting z)) ∙ ap (λ (n : ℕ). format_stores z n img) all-stores ∙ stores-all z (legal z sizes-right) img long-enough)
@@ -115,7 +114,7 @@ module _ (z : Sizes) (img : List ℕ) (row : ℕ) (e : row ≡ format_row z img)
     pub end-state : (st : State) → (started_of (replacing st (format_of z img)) img End).state ≡ fresh_state z
     unfolding format_of
     end-state st =
-        let zero : format_row z img ≡ 0 = sym e ∙ none in
+        let zero : format_row z img ≡ 0 = sym none in
         let some : eqb (image_words z + 1) 0 ≡ false = ne_eqb (image_words z + 1) 0 (λ q. omega (arith, q)) in
         rw (zero, some)
         (ran-state z sizes-right img long-enough (left (formatting z)) ∙ ap (state_after (formatting z)) all-stores ∙ fresh-last)

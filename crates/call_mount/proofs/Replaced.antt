@@ -4,6 +4,7 @@ use mathlib.Core.Bool.{true}
 use mathlib.Core.List.{List}
 use mathlib.Core.Path.{◌≡◌, refl, sym, ap, ◌∙◌}
 use borrow.Author.Tests.{ne_eqb}
+use Rattle.std.specs.Prelude.{Ok, Err}
 use Rattle.mount.specs.declared.Judged.{Judged}
 use Rattle.mount.specs.Mount.{Mounted, mount_of, judged}
 use Rattle.state.specs.State.{State}
@@ -13,24 +14,20 @@ use Rattle.validity.specs.Validity.{state_ok}
 use Rattle.refinement.specs.Outcome.{answered}
 use Rattle.refinement.specs.Mount.{quiet_state, copying, no_state, mounted_state}
 use Rattle.refinement.proofs.CallMounted.{mounted-valid}
-use Rattle.answers.specs.declared.Answer.{Answer}
-use Rattle.answers.specs.declared.Answer.TheVariants.{Taken}
-use Rattle.answers.specs.Answers.{number_of, stores_of, as_answer, answered_at, is_answer}
-use Rattle.answers.proofs.Answered.{as-known}
+use Rattle.rows.specs.declared.Refusal.{Refusal}
+use Rattle.rows.specs.Numbers.{number}
+use Rattle.rows.proofs.Numbers.{number-some}
+use Rattle.answers.specs.Answers.{answered_at}
 use Rattle.call_mount.proofs.Found.{mounted-copying}
 use Rattle.state_words.specs.Decoded.{with_wide}
 use Rattle.state_pending.specs.Put.{with_pending}
 use Rattle.call_mount.specs.Replacing.{replacing}
 
 module _ (st after : State) (row : ℕ) where
-  pub replace-refused : (a : Answer) → a ≡ as_answer row 0 → is_answer row ≡ true → (row ≡ 0 → ⊥) → answered_at a st ≡ replacing st (answered row no_state 0 after)
-  replace-refused a e l n =
-      let k = as-known row l in
-      let number : number_of a ≡ row = ap number_of e ∙ k.0 in
-      let stores : stores_of a ≡ 0 = ap stores_of e ∙ k.1 in
-      rw (ne_eqb row 0 n, number, stores)
+  pub replace-refused : (r : Refusal) → number r ≡ row → answered_at (Err r) st ≡ replacing st (answered row no_state 0 after)
+  replace-refused r e = rw (sym e) (rw (ne_eqb (number r) 0 (number-some r)) refl)
 
-  pub replace-taken : (left : State) → row ≡ 0 → left ≡ after → answered_at (Taken 0) left ≡ replacing st (answered row no_state 0 after)
+  pub replace-taken : (left : State) → row ≡ 0 → left ≡ after → answered_at (Ok 0) left ≡ replacing st (answered row no_state 0 after)
   replace-taken left z e = rw (z, e)
 
 -- the copying of the entries that an image counts may be put pending on the quiet state; j is what the code found, st what the words are then
@@ -47,8 +44,8 @@ module _ (img : List ℕ) (j : Judged) (st : State) (e : j ≡ judged (mount_of 
         let some : m.count ≡ 0 → ⊥ = λ z. n (ap (λ (x : Judged). x.count) e ∙ z) in
         ap with q ∙ rw e (mounted-copying m some)
 
-    pub copying-may : j.row ≡ 0 → (is_idle st.pending.op ≡ true) × (state_ok (with st) ≡ true)
-    copying-may z = (ap (λ (u : State). is_idle u.pending.op) q, ap state_ok copies ∙ mounted-valid img (sym (ap (λ (x : Judged). x.row) e) ∙ z))
+    pub copying-may : m.row ≡ 0 → (is_idle st.pending.op ≡ true) × (state_ok (with st) ≡ true)
+    copying-may z = (ap (λ (u : State). is_idle u.pending.op) q, ap state_ok copies ∙ mounted-valid img z)
 
     pub copying-left : (after : State) → after ≡ with st → after ≡ mounted_state m
     copying-left after h = h ∙ copies

@@ -4,7 +4,7 @@ use Rattle.layout.specs.declared.Sizes.{Sizes}
 use Rattle.state.specs.State.{State}
 use Rattle.refinement.specs.Outcome.{Outcome, answered}
 use Rattle.refinement.specs.Mount.{format_of}
-use Rattle.answers.specs.declared.Answer.{Answer}
+use Rattle.answers.specs.Answers.{Answer}
 use Rattle.op_stores.specs.declared.Until.{Until}
 use Rattle.op_stores.specs.Started.{Started}
 

@@ -23,11 +23,9 @@ fn put_table(words: &mut Words, t: Table)
     ensures { decoded words.new ≡ with_table (decoded words.old) t }
 {
     let _ = state_words::all_words(*words);
-    let mut s = 0;
-    while s < 16 {
+    for s in 0..16 {
         state_words::put_slot(words, s, replay::slot_in(t, s));
         state_words::put_last(words, s, t.last[s]);
-        s += 1;
     }
 }
 
@@ -70,10 +68,8 @@ pub fn put_homes(words: &mut Words, image: &[u8], z: Sizes, t: Table)
 fn put_numbers(entries: &mut [u64])
     ensures { entries.new ≡ tab (length entries.old) (λ p. p) }
 {
-    let mut p = 0;
-    while p < entries.len() {
-        entries[p] = p as u64;
-        p += 1;
+    for (p, entry) in entries.iter_mut().enumerate() {
+        *entry = p as u64;
     }
 }
 
@@ -100,10 +96,8 @@ fn put_entries(words: &mut Words, n: usize, keys: [u64; 64])
     ensures { decoded words.new ≡ with_wide (decoded words.old) (wide_of 4 n keys) }
 {
     let _ = state_words::all_words(*words);
-    let mut e = 0;
-    while e < 64 {
-        state_words::put_key(words, e, keys[e]);
-        e += 1;
+    for (e, key) in keys.iter().enumerate() {
+        state_words::put_key(words, e, *key);
     }
     state_words::put_wide(words, state::NO_WRITER, n);
 }
@@ -116,11 +110,10 @@ pub fn put_copying(words: &mut Words, n: usize, keys: [u64; 64])
 {
     put_entries(words, n, keys);
     let none = [0u64; 8];
-    let op = Op::Copy;
     state_pending::put_pending(
         words,
         Pending {
-            op,
+            op: Op::Copy,
             made: 1,
             line: none,
             second: none,

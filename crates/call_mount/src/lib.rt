@@ -22,20 +22,16 @@ pub fn mount(image: &[u8], words: &mut Words) -> Answer
     ensures state { answered_at result (decoded words.new) ≡ replacing (decoded words.old) (mount_call image.now) }
     ensures words { (number_of result ≡ 0 → ⊥) → words.new ≡ words.old }
 {
-    let m = mount::judge(image);
-    if m.row != 0 {
-        return answers::answer_of(m.row, 0);
-    }
+    let m = mount::judge(image)?;
     let z = m.sizes;
     let t = m.table;
     filling::put_quiet(words, z, m.head, m.tail, t);
     filling::put_homes(words, image, z, t);
     if m.count == 0 {
-        return Answer::Taken(0);
+        return Ok(0);
     }
-    let keys = m.keys;
-    filling::put_copying(words, m.count, keys);
-    Answer::Taken(0)
+    filling::put_copying(words, m.count, m.keys);
+    Ok(0)
 }
 
 // Asks for a format, whose state the words then are, and goes on with it as far as is said: asking changes no byte.
@@ -43,10 +39,7 @@ pub fn format(image: &mut [u8], words: &mut Words, z: Sizes, until: Until) -> An
     ensures started { FormatStarted result (decoded words.new) image.new z (decoded words.old) image.old until }
     ensures words { (number_of result ≡ 0 → ⊥) → words.new ≡ words.old }
 {
-    let row = fresh::format_row(image, z);
-    if row != 0 {
-        return answers::answer_of(row, 0);
-    }
+    fresh::format_row(image, z)?;
     filling::put_quiet(words, z, 0, 0, fresh::fresh_table(z));
     filling::put_own(words, z);
     let at = state_words::places_in(words);
@@ -59,11 +52,7 @@ pub fn format_whole(image: &mut [u8], words: &mut Words, z: Sizes) -> Answer
     ensures bytes { image.new ≡ format_bytes z image.old }
     ensures words { (number_of result ≡ 0 → ⊥) → words.new ≡ words.old }
 {
-    let row = fresh::format_row(image, z);
-    if row != 0 {
-        return answers::answer_of(row, 0);
-    }
-    let end = Until::End;
-    let _ = format(image, words, z, end);
-    Answer::Taken(0)
+    fresh::format_row(image, z)?;
+    let _ = format(image, words, z, Until::End);
+    Ok(0)
 }

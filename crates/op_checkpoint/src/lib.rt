@@ -22,8 +22,7 @@ fn recorded_slot(z: Sizes, words: &Words, j: usize) -> usize
     ensures { result ≡ get_or (recorded_slots z (decoded words.now).table.last) j z.slots }
 {
     let mut left = j;
-    let mut s = 0;
-    while s < z.slots {
+    for s in 0..z.slots {
         let q = state_words::last_at(words, s);
         if q != replay::NO_POSITION {
             if left == 0 {
@@ -31,7 +30,6 @@ fn recorded_slot(z: Sizes, words: &Words, j: usize) -> usize
             }
             left -= 1;
         }
-        s += 1;
     }
     z.slots
 }
@@ -64,10 +62,8 @@ fn put_no_lasts(z: Sizes, words: &mut Words)
     requires { Legal z }
     ensures { decoded words.new ≡ with_table (decoded words.old) (without_lasts z (decoded words.old).table) }
 {
-    let mut s = 0;
-    while s < z.slots {
+    for s in 0..z.slots {
         state_words::put_last(words, s, replay::NO_POSITION);
-        s += 1;
     }
 }
 

@@ -1,12 +1,14 @@
 -- A turn of each loop, and the state after the last store.
-use Prim.Native.Nat.{ℕ, ◌+◌, ◌*◌}
+use Prim.Native.Nat.{ℕ, ◌+◌, ◌*◌, ◌<◌}
 use mathlib.Core.Bool.{false}
 use mathlib.Core.List.{List}
 use mathlib.Core.Path.{◌≡◌, refl, ap, ap₂, ◌∙◌}
+use native.Mathlib.Omega.{arith}
 use lib.ListN.{length, get_or, set}
 use Rattle.bounded.specs.Below.{up_to}
 use Rattle.bounded.proofs.Below.{up_turn}
 use Rattle.layout.specs.declared.Sizes.{Sizes}
+use Rattle.layout.specs.Layout.{Legal}
 use Rattle.masks.specs.Lines.{exclusive_or}
 use Rattle.journal.specs.Records.{position}
 use Rattle.replay.specs.Table.{with_last}
@@ -14,9 +16,14 @@ use Rattle.state.specs.State.{State}
 use Rattle.state.specs.Held.{held_at, held_slots, let_go}
 use Rattle.refinement.specs.Commit.{bitmaps_after, lasts_after, commit_done}
 use Rattle.refinement.specs.Settled.{no_pending}
+use Rattle.refinement.proofs.CommitPlaces.{held-slot-low}
 use Rattle.op_commit.proofs.CommitMade.{bitmaps-turn, lasts-turn, commit-done}
 use Rattle.state_words.specs.Decoded.{with_table, with_writers, with_bitmap, with_held, with_opened, with_prepared, with_head, with_nothing}
 use Rattle.op_commit.specs.After.{with_bitmaps, with_lasts}
+
+-- a slot that a writer holds lines of, or 0, is one of sixteen
+pub slot-low : (z : Sizes) (held : List ℕ) (w j s : ℕ) → Legal z → s ≡ get_or (held_slots z held w) j 0 → s < 16
+slot-low z held w j s l e = omega (arith, held-slot-low z held w j s l e, l)
 
 -- from is the state at entry, now the one at the loop's head, next the one after the turn
 module _ (from now next : State) (z : Sizes) (w j s : ℕ) where

@@ -19,8 +19,7 @@ fn held_slot(z: Sizes, words: &Words, w: usize, j: usize) -> usize
     ensures { result ≡ get_or (held_slots z (decoded words.now).writers.held w) j 0 }
 {
     let mut left = j;
-    let mut s = 0;
-    while s < z.slots {
+    for s in 0..z.slots {
         let m = held_at(words, w, s);
         if m != 0 {
             if left == 0 {
@@ -28,7 +27,6 @@ fn held_slot(z: Sizes, words: &Words, w: usize, j: usize) -> usize
             }
             left -= 1;
         }
-        s += 1;
     }
     0
 }
@@ -40,12 +38,10 @@ fn put_bitmaps(z: Sizes, words: &mut Words, w: usize, n: usize)
         (bitmaps_after z (decoded words.old).table.bitmap (decoded words.old).writers.held w n) }
 {
     let before = state_words::parts::bitmaps_in(words);
-    let mut j = 0;
-    while j < n {
+    for j in 0..n {
         let s = held_slot(z, words, w, j);
         let m = held_at(words, w, s);
         state_words::put_bitmap(words, s, masks::exclusive_or(before[s], m));
-        j += 1;
     }
 }
 
@@ -55,11 +51,9 @@ fn put_lasts(z: Sizes, head: usize, words: &mut Words, w: usize, n: usize)
     ensures { decoded words.new ≡ with_lasts (decoded words.old)
         (lasts_after z head (decoded words.old).table.last (decoded words.old).writers.held w n) }
 {
-    let mut j = 0;
-    while j < n {
+    for j in 0..n {
         let s = held_slot(z, words, w, j);
         state_words::put_last(words, s, journal::records::position(z, head, j));
-        j += 1;
     }
 }
 
@@ -69,10 +63,8 @@ pub fn let_go(z: Sizes, words: &mut Words, w: usize)
     ensures { decoded words.new ≡ with_writers (decoded words.old)
         (with_held (decoded words.old).writers (let_go z (decoded words.old).writers.held w)) }
 {
-    let mut s = 0;
-    while s < z.slots {
+    for s in 0..z.slots {
         state_words::put_held(words, w, s, 0);
-        s += 1;
     }
 }
 

@@ -21,10 +21,8 @@ pub fn put_no_wide(words: &mut Words)
     ensures { decoded words.new ≡ with_wide (decoded words.old) no_wide }
 {
     let _ = state_words::all_words(*words);
-    let mut e = 0;
-    while e < 64 {
+    for e in 0..64 {
         words[KEYS + e] = 0;
-        e += 1;
     }
     words[WIDE] = NO_WRITER;
     words[COUNT] = 0;

@@ -2,10 +2,11 @@
 use Prim.Native.Nat.{ℕ, ◌-◌, ◌<◌, ◌≤◌, min}
 use mathlib.Core.Bool.{true, false, not}
 use mathlib.Core.List.{List}
-use mathlib.Core.Path.{◌≡◌, sym, ap, ap₂, ◌∙◌}
+use mathlib.Core.Path.{◌≡◌, refl, sym, ap, ap₂, ◌∙◌}
 use native.Mathlib.Omega.{arith}
 use lib.Dec.{eqb}
 use lib.ListN.{length, replicate}
+use Rattle.std.specs.Prelude.{Ok, Err}
 use borrow.Author.Tests.{ne_eqb, le-ltb}
 use Rattle.bounded.specs.Rows.{Row, refusal}
 use Rattle.bounded.proofs.Rows.{row-none}
@@ -27,10 +28,10 @@ use Rattle.refinement.specs.Calls.{with_pending, world_of, asked, step_rows, ste
 use Rattle.refinement.proofs.Going.{ranges-of, entries-of}
 use Rattle.refinement.proofs.LinesAsked.{needs-lines, lines-valid}
 use Rattle.refinement.proofs.Steps.{run-image, run-after}
-use Rattle.answers.specs.declared.Answer.{Answer}
-use Rattle.answers.specs.declared.Answer.TheVariants.{Taken}
-use Rattle.answers.specs.Answers.{as_answer, is_answer}
-use Rattle.answers.proofs.Answered.{refused-known}
+use Rattle.rows.specs.declared.Refusal.{Refusal}
+use Rattle.rows.specs.Numbers.{number}
+use Rattle.rows.proofs.Numbers.{number-some}
+use Rattle.answers.specs.Answers.{Answer}
 use Rattle.state_pending.specs.Put.{with_pending as put}
 use Rattle.op_rows.specs.Seen.{seen}
 use Rattle.op_writer.specs.Served.{Served}
@@ -118,46 +119,45 @@ module _ (z : Sizes) (at : Places) (st : State) (img : List ℕ) (p : Pending) (
       rw (run-taken, m) (run-image n (world_of (put st p) img) l)
 
   -- ---- what a call came to that started it: a is its answer, bs and after are the bytes and the state after it, as `start` says
-  module _ (u : Until) (a : Answer) (bs : List ℕ) (after : State) (ha : a ≡ Taken (needs st p.op)) (hb : bs ≡ stores_made (put st p) (budget u (put st p)) img) (hs : after ≡ state_after (put st p) (budget u (put st p))) where
+  module _ (u : Until) (a : Answer) (bs : List ℕ) (after : State) (ha : a ≡ Ok (needs st p.op)) (hb : bs ≡ stores_made (put st p) (budget u (put st p)) img) (hs : after ≡ state_after (put st p) (budget u (put st p))) where
     pub started : (o : Outcome) → o ≡ record { number = 0; stores = needs st p.op; state = put st p } → Started a after bs o img u
     started o e =
         let some : eqb (needs st p.op) 0 ≡ false = ne_eqb (needs st p.op) 0 (λ q. omega (arith, q, h.some)) in
         let few = budget-few u (put st p) in
         rw (e, some, ha) (rw (run-state (budget u (put st p)) few) (ap (λ (s : State). record { number = 0; stores = needs st p.op; state = s }) hs), hb ∙ sym (run-bytes (budget u (put st p)) few))
 
-    -- of a call that no row turns back, row being what the code found
-    module _ (rs : List Row) (row : ℕ) (e : row ≡ refusal rs) (none : row ≡ 0) where
+    -- of a call that no row turns back
+    module _ (rs : List Row) (none : 0 ≡ refusal rs) where
       -- its outcome is that of asking for the operation, which keeps one finished line at most
       pub started-asked : p.second ≡ replicate 8 0 → Started a after bs (asked (refusal rs) st p.op p.line) img u
       started-asked q =
           let some : eqb (needs st p.op) 0 ≡ false = ne_eqb (needs st p.op) 0 (λ x. omega (arith, x, h.some)) in
-          let zero : refusal rs ≡ 0 = sym e ∙ none in
+          let zero : refusal rs ≡ 0 = sym none in
           let same : put st p ≡ with_pending st p.op p.line = as-lines ∙ ap (λ (l : List ℕ). with_lines st p.op p.line l) q in
           started (asked (refusal rs) st p.op p.line) (rw (zero, some) (ap (λ (s : State). record { number = 0; stores = needs st p.op; state = s }) (sym same)))
 
       -- its outcome is the operation pending, with so many stores
       pub started-pending : (n : ℕ) (after-asking : State) → n ≡ needs st p.op → after-asking ≡ put st p → Started a after bs (answered (refusal rs) st n after-asking) img u
       started-pending n s en es =
-          let zero : refusal rs ≡ 0 = sym e ∙ none in
+          let zero : refusal rs ≡ 0 = sym none in
           started (answered (refusal rs) st n s) (rw (zero, en, es))
 
 -- ---- the other ways that a call comes to its end: turned back by a row, or complete with no store
 
-module _ (st : State) (img : List ℕ) (u : Until) (rs : List Row) (row : ℕ) (e : row ≡ refusal rs) where
-  pub started-refused : (row ≡ 0 → ⊥) → is_answer row ≡ true → (a : Answer) → a ≡ as_answer row 0 → (n : ℕ) (after : State) → Started a st img (answered (refusal rs) st n after) img u
-  started-refused z l a ha n after =
-      let f : eqb (refusal rs) 0 ≡ false = ne_eqb (refusal rs) 0 (λ q. z (e ∙ q)) in
-      let k = refused-known a row st l ha in
-      (rw f (rw (e, f) at k), rw f)
+module _ (st : State) (img : List ℕ) (u : Until) (rs : List Row) where
+  pub started-refused : (r : Refusal) → number r ≡ refusal rs → (n : ℕ) (after : State) → Started (Err r) st img (answered (refusal rs) st n after) img u
+  started-refused r e n after =
+      let some : eqb (number r) 0 ≡ false = ne_eqb (number r) 0 (number-some r) in
+      rw (sym e) (rw some refl, rw some refl)
 
-  module _ (none : row ≡ 0) where
-    pub started_none : (a : Answer) (after : State) → a ≡ Taken 0 → Started a after img (answered (refusal rs) st 0 after) img u
+  module _ (none : 0 ≡ refusal rs) where
+    pub started_none : (a : Answer) (after : State) → a ≡ Ok 0 → Started a after img (answered (refusal rs) st 0 after) img u
     started_none a after ha =
-        let zero : refusal rs ≡ 0 = sym e ∙ none in
+        let zero : refusal rs ≡ 0 = sym none in
         (rw (zero, ha), rw zero)
 
-    pub started-done : (op : Op) (line : List ℕ) → needs st op ≡ 0 → (a : Answer) (after : State) → a ≡ Taken 0 → after ≡ completed st op
+    pub started-done : (op : Op) (line : List ℕ) → needs st op ≡ 0 → (a : Answer) (after : State) → a ≡ Ok 0 → after ≡ completed st op
         → Started a after img (asked (refusal rs) st op line) img u
     started-done op line n a after ha hs =
-        let zero : refusal rs ≡ 0 = sym e ∙ none in
+        let zero : refusal rs ≡ 0 = sym none in
         (rw (zero, n, ha, hs), rw (zero, n))

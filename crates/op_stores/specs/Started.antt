@@ -7,8 +7,7 @@ use Rattle.refinement.specs.Stores.{left}
 use Rattle.refinement.specs.Outcome.{Outcome}
 use Rattle.refinement.specs.Calls.{world_of, run_of, run_bytes}
 use Rattle.refinement.specs.Run.{run, exec}
-use Rattle.answers.specs.declared.Answer.{Answer}
-use Rattle.answers.specs.Answers.{number_of, stores_of}
+use Rattle.answers.specs.Answers.{Answer, number_of, stores_of}
 use Rattle.op_stores.specs.declared.Until.{Until}
 use Rattle.op_stores.specs.declared.Until.TheVariants.{Asked, Fence, End}
 

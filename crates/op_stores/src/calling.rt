@@ -1,10 +1,9 @@
 // An operation that keeps no lines, asked for: complete at once where it needs no store, else started.
-ghost use Rattle.std.specs.Prelude.{◌≡◌, ◌≤◌, length, replicate};
+ghost use Rattle.std.specs.Prelude.{◌≡◌, ◌≤◌, length, replicate, Ok};
 ghost use Rattle.layout.specs.Layout.{image_length};
 ghost use Rattle.operations.specs.Operations.{needs};
 ghost use Rattle.refinement.specs.Calls.{asked};
 ghost use Rattle.refinement.specs.Stores.{completed};
-ghost use Rattle.answers.specs.declared.Answer.TheVariants.{Taken};
 ghost use Rattle.state_words.specs.Decoded.{decoded};
 ghost use Rattle.op_stores.specs.Asks.{Allowed};
 ghost use Rattle.op_stores.specs.Started.{Started};
@@ -12,6 +11,7 @@ ghost use Rattle.op_stores.specs.Started.{Started};
 use crate::Until;
 use answers::Answer;
 use layout::Sizes;
+use op_commit::complete_commit;
 use state::{Op, Pending, Places};
 use state_words::Words;
 
@@ -21,32 +21,16 @@ fn complete_now(z: Sizes, at: Places, words: &mut Words, op: Op)
     ensures { decoded words.new ≡ completed (decoded words.old) op }
 {
     match op {
-        Op::Idle => {}
-        Op::Write {
-            writer: _,
-            page: _,
-            line: _,
-            offset: _,
-            length: _,
-        } => {}
-        Op::Commit { writer } => op_commit::complete_commit(z, words, writer),
-        Op::Consolidate { page: _ } => {}
-        Op::Checkpoint => op_checkpoint::complete_checkpoint(z, at, words),
-        Op::Event {
-            kind: _,
-            meter: _,
-            amount: _,
-        } => {}
+        Op::Commit { writer } | Op::Confirm { writer } => complete_commit(z, words, writer),
         Op::Prepare { writer } => op_commit::complete_prepare(words, writer),
-        Op::Confirm { writer } => op_commit::complete_commit(z, words, writer),
-        Op::Log {
-            page: _,
-            line: _,
-            offset: _,
-            length: _,
-        } => {}
+        Op::Checkpoint => op_checkpoint::complete_checkpoint(z, at, words),
         Op::Copy => op_copy::complete_copy(z, words, at.wide),
-        Op::Format => {}
+        Op::Idle
+        | Op::Write { .. }
+        | Op::Log { .. }
+        | Op::Consolidate { .. }
+        | Op::Event { .. }
+        | Op::Format => {}
     }
 }
 
@@ -60,13 +44,13 @@ pub fn ask(
     until: Until,
 ) -> Answer
     requires { Allowed z at (decoded words.old) op × (image_length z ≤ length image.old) }
-    ensures answer { result ≡ Taken (needs (decoded words.old) op) }
+    ensures answer { result ≡ Ok (needs (decoded words.old) op) }
     ensures started { Started result (decoded words.new) image.new
         (asked 0 (decoded words.old) op (replicate 8 0)) image.old until }
 {
     if op_rows::op_needs(z, at, words, op) == 0 {
         complete_now(z, at, words, op);
-        return Answer::Taken(0);
+        return Ok(0);
     }
     let none = [0u64; 8];
     let p = Pending {

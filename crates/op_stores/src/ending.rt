@@ -5,6 +5,7 @@ ghost use Rattle.state_words.specs.Decoded.{decoded};
 ghost use Rattle.op_writer.specs.Served.{Served};
 
 use layout::Sizes;
+use op_commit::complete_commit;
 use state::{Op, Places};
 use state_words::Words;
 
@@ -17,27 +18,16 @@ pub(crate) fn complete(z: Sizes, at: Places, words: &mut Words, op: Op)
         Op::Idle => {}
         Op::Write {
             writer,
-            page: p,
-            line: l,
-            offset: _,
-            length: _,
-        } => op_write::complete_write(z, words, writer, p, l),
-        Op::Commit { writer } => op_commit::complete_commit(z, words, writer),
-        Op::Consolidate { page: p } => op_consolidate::complete_consolidate(z, at, words, p),
+            page,
+            line,
+            ..
+        } => op_write::complete_write(z, words, writer, page, line),
+        Op::Log { page, line, .. } => op_log::complete_log(words, at.wide, at.count, page, line),
+        Op::Commit { writer } | Op::Confirm { writer } => complete_commit(z, words, writer),
+        Op::Consolidate { page } => op_consolidate::complete_consolidate(z, at, words, page),
         Op::Checkpoint => op_checkpoint::complete_checkpoint(z, at, words),
-        Op::Event {
-            kind,
-            meter,
-            amount: _,
-        } => op_event::complete_event(z, words, kind, meter),
+        Op::Event { kind, meter, .. } => op_event::complete_event(z, words, kind, meter),
         Op::Prepare { writer } => op_commit::complete_prepare(words, writer),
-        Op::Confirm { writer } => op_commit::complete_commit(z, words, writer),
-        Op::Log {
-            page: p,
-            line: l,
-            offset: _,
-            length: _,
-        } => op_log::complete_log(words, at.wide, at.count, p, l),
         Op::Copy => op_copy::complete_copy(z, words, at.wide),
         Op::Format => op_format::complete_format(words),
     }

@@ -6,11 +6,10 @@ mod ending;
 mod making;
 mod telling;
 
-ghost use Rattle.std.specs.Prelude.{◌≡◌, ◌<◌, ◌≤◌, length};
+ghost use Rattle.std.specs.Prelude.{◌≡◌, ◌<◌, ◌≤◌, length, Ok};
 ghost use Rattle.layout.specs.Layout.{image_length};
 ghost use Rattle.operations.specs.Operations.{needs};
 ghost use Rattle.refinement.specs.Stores.{stores_made, state_after, left};
-ghost use Rattle.answers.specs.declared.Answer.TheVariants.{Taken};
 ghost use Rattle.state_words.specs.Decoded.{decoded};
 ghost use Rattle.state_pending.specs.Put.{with_pending};
 ghost use Rattle.op_writer.specs.Served.{Served};
@@ -25,7 +24,7 @@ use state_words::Words;
 pub use telling::{Ahead, left_in, look_ahead};
 
 // How far a call goes with the operation that it asks for: not at all, to before the first store that decides, or to its end.
-#[derive(Clone, Copy)]
+#[derive(Clone, Copy, Debug, PartialEq, Eq)]
 pub enum Until {
     Asked,
     Fence,
@@ -55,32 +54,13 @@ fn before_fence(op: Op, m: usize, n: usize) -> usize
     ensures { result ≡ fence_in op m n }
 {
     match op {
-        Op::Idle => n,
-        Op::Write {
-            writer: _,
-            page: _,
-            line: _,
-            offset: _,
-            length: _,
-        } => n,
-        Op::Commit { writer: _ } => n - 1,
-        Op::Consolidate { page: _ } => n - 1,
-        Op::Checkpoint => n - 1,
-        Op::Event {
-            kind: _,
-            meter: _,
-            amount: _,
-        } => n - 1,
-        Op::Prepare { writer: _ } => n,
-        Op::Confirm { writer: _ } => n - 1,
-        Op::Log {
-            page: _,
-            line: _,
-            offset: _,
-            length: _,
-        } => n,
-        Op::Copy => if m == 0 { 0 } else { n - 1 },
-        Op::Format => if m == 0 { 0 } else { n - 1 },
+        Op::Idle | Op::Write { .. } | Op::Log { .. } | Op::Prepare { .. } => n,
+        Op::Commit { .. }
+        | Op::Confirm { .. }
+        | Op::Consolidate { .. }
+        | Op::Checkpoint
+        | Op::Event { .. } => n - 1,
+        Op::Copy | Op::Format => if m == 0 { 0 } else { n - 1 },
     }
 }
 
@@ -106,7 +86,7 @@ pub fn start(
     until: Until,
 ) -> Answer
     requires { Asks z at (decoded words.old) image.old p }
-    ensures answer { result ≡ Taken (needs (decoded words.old) p.op) }
+    ensures answer { result ≡ Ok (needs (decoded words.old) p.op) }
     ensures image { image.new ≡ stores_made (with_pending (decoded words.old) p)
         (budget until (with_pending (decoded words.old) p)) image.old }
     ensures words { decoded words.new ≡ state_after (with_pending (decoded words.old) p)
@@ -117,5 +97,5 @@ pub fn start(
     state_pending::put_pending(words, p);
     let k = budget(until, op, 0, n);
     go(image, z, at, words, k);
-    Answer::Taken(n)
+    Ok(n)
 }

@@ -52,29 +52,13 @@ pub(crate) fn next_piece(
 {
     match op {
         Op::Idle => op_pieces::one(0, 0),
-        Op::Write {
-            writer: _,
-            page: p,
-            line: l,
-            offset: _,
-            length: _,
-        } => op_write::write_piece(z, at.next, words, p, l, i),
-        Op::Commit { writer } => commit_piece(z, at, words, writer, i),
-        Op::Consolidate { page: p } => op_consolidate::consolidate_piece(image, z, at, words, p, i),
+        Op::Write { page, line, .. } => op_write::write_piece(z, at.next, words, page, line, i),
+        Op::Log { page, line, .. } => op_log::log_piece(z, words, at.count, page, line, i),
+        Op::Commit { writer } | Op::Prepare { writer } => commit_piece(z, at, words, writer, i),
+        Op::Consolidate { page } => op_consolidate::consolidate_piece(image, z, at, words, page, i),
         Op::Checkpoint => op_checkpoint::checkpoint_piece(image, z, at, words, i),
-        Op::Event {
-            kind,
-            meter,
-            amount: _,
-        } => op_event::event_piece(z, at, words, kind, meter, i),
-        Op::Prepare { writer } => commit_piece(z, at, words, writer, i),
+        Op::Event { kind, meter, .. } => op_event::event_piece(z, at, words, kind, meter, i),
         Op::Confirm { writer } => confirm_piece(z, at, words, writer),
-        Op::Log {
-            page: p,
-            line: l,
-            offset: _,
-            length: _,
-        } => op_log::log_piece(z, words, at.count, p, l, i),
         Op::Copy => op_copy::copy_piece(image, z, words, at.count, i),
         Op::Format => op_format::format_piece(z, i),
     }
@@ -95,6 +79,7 @@ pub(crate) fn make_stores(
     ensures { image.new ≡ stores_made (decoded words.now) n image.old }
 {
     let mut i = 0;
+    // A turn makes as many stores as its piece has left, so no range steps as i does.
     while i < n {
         let p = next_piece(image, z, at, words, op, made + i);
         let m = bounded::smaller(p.count - p.from, n - i);

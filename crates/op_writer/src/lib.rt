@@ -20,10 +20,8 @@ fn put_words(part: &mut [u8], words: &[u64; 8], k: usize, n: usize)
         words::put_word(part, 8 * k, words[k]);
         return;
     }
-    let mut i = 0;
-    while i < n {
+    for i in 0..n {
         words::put_word(part, 8 * (k + i), words[k + i]);
-        i += 1;
     }
 }
 

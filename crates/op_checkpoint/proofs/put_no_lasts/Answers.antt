@@ -1,4 +1,3 @@
-use borrow.Author.Rules.{rules}
 use mathlib.Core.Path.{refl, ap, ◌∙◌}
 use Rattle.bounded.proofs.Tab.{filled_none, filled-turn, filled-ends}
 use Rattle.replay.specs.Table.{no_position, with_last}
@@ -8,15 +7,13 @@ use Rattle.op_checkpoint.proofs.put_no_lasts.Invariants.{lasts}
 use Rattle.op_checkpoint.proofs.put_no_lasts.Goals as goal
 
 pub loop-s-init : goal.loop-s-init
-loop-s-init c = (search rules, ap (lasts (decoded c.args.words.now)) (filled_none _ _))
+loop-s-init c = ap (lasts (decoded c.args.words.now)) (filled_none _ _)
 
 pub loop-s-preserved : goal.loop-s-preserved
 loop-s-preserved c =
-    let st = decoded c.args.words.now in (
-      search rules,
-      c.put_last.ensures ∙ ap (λ (u : State). with_table u (with_last u.table c.loop-s.s no_position)) c.loop-s.invariant.1 ∙ ap (lasts st) (filled-turn (λ k. no_position) st.table.last _ c.loop-s.s no_position refl refl),
-    )
+    let st = decoded c.args.words.now in
+    c.put_last.ensures ∙ ap (λ (u : State). with_table u (with_last u.table c.loop-s.s no_position)) c.loop-s.invariant ∙ ap (lasts st) (filled-turn (λ k. no_position) st.table.last _ c.loop-s.s no_position refl refl)
 
 pub returns : goal.returns
 returns c =
-    c.loop-s.invariant.1 ∙ ap (lasts (decoded c.args.words.now)) (filled-ends (λ k. no_position) _ _ _ c.loop-s.s c.loop-s.invariant.0 c.loop-s-test.false refl)
+    c.loop-s.invariant ∙ ap (lasts (decoded c.args.words.now)) (filled-ends (λ k. no_position) _ _ _ c.loop-s.s c.loop-s.auto.s-end c.loop-s-test.false refl)

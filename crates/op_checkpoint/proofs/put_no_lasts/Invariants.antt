@@ -12,7 +12,4 @@ abbrev pub lasts : State → List ℕ → State
 lasts st l = with_table st (record { page = st.table.page; original = st.table.original; spare = st.table.spare; bitmap = st.table.bitmap; last = l })
 
 abbrev pub invariant-loop-s : goal.invariant-loop-s
-invariant-loop-s l = (l.s ≤ l.z.slots) × (decoded l.words ≡ lasts (decoded l.initial.words) (filled l.s (λ k. no_position) (decoded l.initial.words).table.last))
-
-abbrev pub decreases-loop-s : goal.decreases-loop-s
-decreases-loop-s l = l.z.slots - l.s
+invariant-loop-s l = decoded l.words ≡ lasts (decoded l.initial.words) (filled l.s (λ k. no_position) (decoded l.initial.words).table.last)

@@ -14,7 +14,4 @@ abbrev pub recorded : List ℕ → ℕ → Bool
 recorded words s = not (eqb (get_or (decoded words).table.last s 0) no_position)
 
 abbrev pub invariant-loop-s : goal.invariant-loop-s
-invariant-loop-s l = (l.s ≤ l.z.slots) × (count_below l.s (recorded l.words) + l.left ≡ l.j)
-
-abbrev pub decreases-loop-s : goal.decreases-loop-s
-decreases-loop-s l = l.z.slots - l.s
+invariant-loop-s l = (count_below l.s (recorded l.words) + l.left ≡ l.j)

@@ -17,20 +17,18 @@ loop-s-init c = search rules
 pub returns-then-left-eq0 : goal.returns-then-left-eq0
 unfolding held_slots
 returns-then-left-eq0 c =
-    nth-found _ _ _ _ c.loop-s.left c.loop-s.invariant.1 c.loop-s-test.true (ap not (ne_eqb _ _ (λ q. c.if-m-ne0.true (c.held_at-m.ensures ∙ q)))) c.if-left-eq0.true
+    nth-found _ _ _ _ c.loop-s.left c.loop-s.invariant c.loop-s-test.true (ap not (ne_eqb _ _ (λ q. c.if-m-ne0.true (c.held_at-m.ensures ∙ q)))) c.if-left-eq0.true
 
 pub loop-s-preserved : goal.loop-s-preserved
 unfolding one
 loop-s-preserved c =
-    let test = holds c.args.words.now c.args.w c.loop-s.s in (
-      search rules,
-      nth-turn (holds c.args.words.now c.args.w) c.args.z.slots _ c.loop-s.s c.loop-s.left c.loop-s.invariant.1 c.if-m-ne0.left
-          (elim c.if-m-ne0.branch [
-            | then-m-ne0+else-left-eq0 w ↦ let e : one test ≡ 1 = ap (λ (b : Bool). one (not b)) (ne_eqb _ _ (λ k. w.if-m-ne0.true (c.held_at-m.ensures ∙ k))) in omega arith
-            | else-m-ne0 w ↦ let e : one test ≡ 0 = ap (λ (b : Bool). one (not b)) (eq-eqb _ _ (sym c.held_at-m.ensures ∙ w.if-m-ne0.false)) in omega arith
-          ]),
-    )
+    let test = holds c.args.words.now c.args.w c.loop-s.s in
+    nth-turn (holds c.args.words.now c.args.w) c.args.z.slots _ c.loop-s.s c.loop-s.left c.loop-s.invariant c.if-m-ne0.left
+    (elim c.if-m-ne0.branch [
+      | then-m-ne0+else-left-eq0 w ↦ let e : one test ≡ 1 = ap (λ (b : Bool). one (not b)) (ne_eqb _ _ (λ k. w.if-m-ne0.true (c.held_at-m.ensures ∙ k))) in omega arith
+      | else-m-ne0 w ↦ let e : one test ≡ 0 = ap (λ (b : Bool). one (not b)) (eq-eqb _ _ (sym c.held_at-m.ensures ∙ w.if-m-ne0.false)) in omega arith
+    ])
 
 pub returns : goal.returns
 unfolding held_slots
-returns c = nth-ended _ _ _ _ c.loop-s.left c.loop-s.invariant.1 c.loop-s.invariant.0 c.loop-s-test.false
+returns c = nth-ended _ _ _ _ c.loop-s.left c.loop-s.invariant c.loop-s.auto.s-end c.loop-s-test.false

@@ -12,7 +12,4 @@ abbrev pub holds : List ℕ → ℕ → ℕ → Bool
 holds words w s = not (eqb (held_at (decoded words).writers.held w s) 0)
 
 abbrev pub invariant-loop-s : goal.invariant-loop-s
-invariant-loop-s l = (l.s ≤ l.z.slots) × (count_below l.s (holds l.words l.w) + l.left ≡ l.j)
-
-abbrev pub decreases-loop-s : goal.decreases-loop-s
-decreases-loop-s l = l.z.slots - l.s
+invariant-loop-s l = (count_below l.s (holds l.words l.w) + l.left ≡ l.j)

@@ -11,7 +11,4 @@ abbrev pub gone : State → ℕ → List ℕ → State
 gone st w h = with_writers st (with_held st.writers h)
 
 abbrev pub invariant-loop-s : goal.invariant-loop-s
-invariant-loop-s l = (l.s ≤ l.z.slots) × (decoded l.words ≡ gone (decoded l.initial.words) l.w (up_to l.s (λ k h. set h (16 * l.w + k) 0) (decoded l.initial.words).writers.held))
-
-abbrev pub decreases-loop-s : goal.decreases-loop-s
-decreases-loop-s l = l.z.slots - l.s
+invariant-loop-s l = decoded l.words ≡ gone (decoded l.initial.words) l.w (up_to l.s (λ k h. set h (16 * l.w + k) 0) (decoded l.initial.words).writers.held)

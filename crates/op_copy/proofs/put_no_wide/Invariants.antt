@@ -13,7 +13,4 @@ abbrev pub emptied : State → List ℕ → State
 emptied st keys = with_wide st (wide_of st.wide.writer st.wide.count keys)
 
 abbrev pub invariant-loop-e : goal.invariant-loop-e
-invariant-loop-e l = (l.e ≤ 64) × (length l.words ≡ 1280) × (decoded l.words ≡ emptied (decoded l.initial.words) (filled l.e (λ i. 0) (decoded l.initial.words).wide.keys))
-
-abbrev pub decreases-loop-e : goal.decreases-loop-e
-decreases-loop-e l = 64 - l.e
+invariant-loop-e l = (length l.words ≡ 1280) × (decoded l.words ≡ emptied (decoded l.initial.words) (filled l.e (λ i. 0) (decoded l.initial.words).wide.keys))

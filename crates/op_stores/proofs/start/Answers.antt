@@ -4,7 +4,7 @@ use native.Mathlib.Omega.{arith}
 use Rattle.state.specs.State.{State}
 use Rattle.operations.specs.Operations.{needs as needs_of}
 use Rattle.refinement.specs.Stores.{stores_made, state_after}
-use Rattle.answers.specs.declared.Answer.TheVariants.{Taken}
+use Rattle.std.specs.Prelude.{Ok}
 use Rattle.state_words.specs.Decoded.{decoded}
 use Rattle.state_pending.specs.Put.{with_pending}
 use Rattle.op_stores.specs.Started.{budget}
@@ -64,7 +64,7 @@ returns c =
     let g = c.go.ensures in
     let e = c.put_pending.ensures in
     record {
-      answer = ap Taken (all c.before.before.before.before.before.before.before.before.before);
+      answer = ap Ok (all c.before.before.before.before.before.before.before.before.before);
       image = g.image ∙ ap₂ (λ (u : State) (n : ℕ). stores_made u n c.args.image.now) e (how-many c.before.before.before.before.before.before);
       words = g.words ∙ ap₂ state_after e (how-many c.before.before.before.before.before.before);
     }

@@ -9,10 +9,10 @@ returns-then-n-eq1 c =
     puts_one c.args.words.now c.args.k c.args.n c.args.part.now _ c.if-n-eq1.true c.put_word.ensures
 
 pub loop-i-init : goal.loop-i-init
-loop-i-init c = (search rules, refl, up_none _ _)
+loop-i-init c = (refl, up_none _ _)
 
 pub loop-i-preserved : goal.loop-i-preserved
-loop-i-preserved c = (search rules, search rules, c.put_word-in-loop-i.ensures ∙ up_turn _ _ _ _ c.loop-i.invariant.2)
+loop-i-preserved c = (search rules, c.put_word-in-loop-i.ensures ∙ up_turn _ _ _ _ c.loop-i.invariant.1)
 
 pub returns : goal.returns
-returns c = up_ends _ _ _ _ _ c.loop-i.invariant.0 c.loop-i-test.false c.loop-i.invariant.2
+returns c = up_ends _ _ _ _ _ c.loop-i.auto.i-end c.loop-i-test.false c.loop-i.invariant.1

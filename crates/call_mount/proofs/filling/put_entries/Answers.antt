@@ -10,12 +10,12 @@ use Rattle.call_mount.proofs.Columns.{column, keys_to, keys_none, keys-turn, key
 use Rattle.call_mount.proofs.filling.put_entries.Goals as goal
 
 pub loop-e-init : goal.loop-e-init
-loop-e-init c = let a = c.args in (search rules, keys_none (decoded a.words.now) a.keys)
+loop-e-init c = let a = c.args in keys_none (decoded a.words.now) a.keys
 
 pub loop-e-preserved : goal.loop-e-preserved
 loop-e-preserved c =
     let a = c.args in
-    (search rules, keys-turn (decoded a.words.now) (decoded c.loop-e.words) _ a.keys c.loop-e.e c.loop-e.invariant.1 c.put_key.ensures)
+    keys-turn (decoded a.words.now) (decoded c.loop-e.words) _ a.keys c.loop-e.e c.loop-e.invariant c.put_key.ensures
 
 pub returns : goal.returns
 returns c =
@@ -23,5 +23,5 @@ returns c =
     let long : length c.args.keys ≡ 64 = search rules in
     c.put_wide.ensures
     ∙ ap (λ (u : State). with_wide u (wide_of 4 c.args.n u.wide.keys))
-    (c.loop-e.invariant.1
-    ∙ ap (keys_to st) (ends (λ k. column c.args.keys k st.wide.keys) 64 c.loop-e.e c.loop-e.invariant.0 c.loop-e-test.false ∙ keys-all c.args.words.now c.args.keys c.all_words.ensures long))
+    (c.loop-e.invariant
+    ∙ ap (keys_to st) (ends (λ k. column c.args.keys k st.wide.keys) 64 c.loop-e.e c.loop-e.auto.e-end c.loop-e-test.false ∙ keys-all c.args.words.now c.args.keys c.all_words.ensures long))

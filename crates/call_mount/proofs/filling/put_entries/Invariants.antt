@@ -5,7 +5,4 @@ use Rattle.call_mount.proofs.Columns.{column, keys_to}
 use Rattle.call_mount.proofs.filling.put_entries.Given as goal
 
 abbrev pub invariant-loop-e : goal.invariant-loop-e
-invariant-loop-e l = (l.e ≤ 64) × (decoded l.words ≡ keys_to (decoded l.initial.words) (column l.keys l.e (decoded l.initial.words).wide.keys))
-
-abbrev pub decreases-loop-e : goal.decreases-loop-e
-decreases-loop-e l = 64 - l.e
+invariant-loop-e l = decoded l.words ≡ keys_to (decoded l.initial.words) (column l.fn.keys l.e (decoded l.initial.words).wide.keys)

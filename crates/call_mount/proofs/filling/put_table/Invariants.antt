@@ -5,7 +5,4 @@ use Rattle.call_mount.proofs.Columns.{table_to}
 use Rattle.call_mount.proofs.filling.put_table.Given as goal
 
 abbrev pub invariant-loop-s : goal.invariant-loop-s
-invariant-loop-s l = (l.s ≤ 16) × (decoded l.words ≡ with_table (decoded l.initial.words) (table_to l.t l.s (decoded l.initial.words).table))
-
-abbrev pub decreases-loop-s : goal.decreases-loop-s
-decreases-loop-s l = 16 - l.s
+invariant-loop-s l = decoded l.words ≡ with_table (decoded l.initial.words) (table_to l.t l.s (decoded l.initial.words).table)

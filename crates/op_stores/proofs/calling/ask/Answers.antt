@@ -3,7 +3,7 @@ use mathlib.Core.List.{[]}
 use lib.ListN.{replicate}
 use Rattle.state.specs.State.{State}
 use Rattle.operations.specs.Operations.{needs as needs_of}
-use Rattle.answers.specs.declared.Answer.TheVariants.{Taken}
+use Rattle.std.specs.Prelude.{Ok}
 use Rattle.state_words.specs.Decoded.{decoded}
 use Rattle.op_stores.proofs.Allowing.{allowed-leans, allowed-needs, without_lines, allowed-asks}
 use Rattle.op_stores.proofs.Starting.{started-done, started-asked}
@@ -36,8 +36,8 @@ pub returns-then-op_needs-eq0 : goal.returns-then-op_needs-eq0
 returns-then-op_needs-eq0 c =
     let none : needs_of (st c.before.before.before.before.before.before) c.args.op ≡ 0 = sym (all c.before.before.before.before) ∙ c.if-op_needs-eq0.true in
     record {
-      answer = ap Taken (sym none);
-      started = started-done (st c.before.before.before.before.before.before) c.args.image.now c.args.until [] 0 refl refl c.args.op (replicate 8 0) none (Taken 0) _ refl c.complete_now.ensures;
+      answer = ap Ok (sym none);
+      started = started-done (st c.before.before.before.before.before.before) c.args.image.now c.args.until [] refl c.args.op (replicate 8 0) none (Ok 0) _ refl c.complete_now.ensures;
     }
 
 pub start-requires : goal.start-requires
@@ -50,5 +50,5 @@ returns c =
     let e = c.start.ensures in
     record {
       answer = e.answer;
-      started = started-asked c.args.z c.args.at (st c.before.before.before.before.before.before.before.before.before) c.args.image.now (without_lines c.args.z c.args.at (st c.before.before.before.before.before.before.before.before.before) c.args.op c.requires.0) h c.args.until _ _ _ e.answer e.image e.words [] 0 refl refl refl;
+      started = started-asked c.args.z c.args.at (st c.before.before.before.before.before.before.before.before.before) c.args.image.now (without_lines c.args.z c.args.at (st c.before.before.before.before.before.before.before.before.before) c.args.op c.requires.0) h c.args.until _ _ _ e.answer e.image e.words [] refl refl;
     }

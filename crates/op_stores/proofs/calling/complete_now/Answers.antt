@@ -1,3 +1,4 @@
+use mathlib.Core.Logic.{⊎_elim}
 use mathlib.Core.Path.{sym, ap, ◌∙◌}
 use Rattle.bounded.proofs.Tests.{contradicts}
 use Rattle.state.specs.State.{State}
@@ -23,7 +24,7 @@ pub complete_commit-requires : goal.complete_commit-requires
 complete_commit-requires c =
     let h = c.requires.0 in
     let r = ranges-of (st c.before.before) h.ok in
-    (h.sizes, rw h.sizes r.legal, rw h.sizes r.head-low, now-commit (st c.before.before) h.rows c.in-Commit.is)
+    (h.sizes, rw h.sizes r.legal, rw h.sizes r.head-low, ⊎_elim (now-commit (st c.before.before) h.rows) (now-confirm (st c.before.before) h.rows) c.in-Commit.is)
 
 pub complete_checkpoint-requires : goal.complete_checkpoint-requires
 complete_checkpoint-requires c =
@@ -31,58 +32,37 @@ complete_checkpoint-requires c =
     let r = ranges-of (st c.before.before) h.ok in
     (h.sizes, h.places, rw h.sizes r.legal)
 
-pub complete_commit-requires-in-Confirm : goal.complete_commit-requires-in-Confirm
-complete_commit-requires-in-Confirm c =
-    let h = c.requires.0 in
-    let r = ranges-of (st c.before.before) h.ok in
-    (h.sizes, rw h.sizes r.legal, rw h.sizes r.head-low, now-confirm (st c.before.before) h.rows c.in-Confirm.is)
-
 pub complete_copy-requires : goal.complete_copy-requires
 complete_copy-requires c =
     let h = c.requires.0 in
     let r = ranges-of (st c.before.before) h.ok in
     (h.sizes, rw h.sizes r.legal, ap (λ (p : Places). p.wide) h.places)
 
-pub returns-in-Idle : goal.returns-in-Idle
-returns-in-Idle c =
-    contradicts (ap is_idle c.in-Idle.is) c.requires.0.busy
-
-pub returns-in-Write : goal.returns-in-Write
-returns-in-Write c =
-    absurd (write-needs (st c.before) _ _ _ _ _ (sym (ap (needs_of (st c.before)) c.in-Write.is) ∙ c.requires.1))
-
-pub returns-in-Commit : goal.returns-in-Commit
-returns-in-Commit c =
-    c.complete_commit.ensures ∙ ap (completed (st c.before.before.before)) (sym c.in-Commit.is)
-
-pub returns-in-Consolidate : goal.returns-in-Consolidate
-returns-in-Consolidate c =
-    absurd (consolidate-needs (st c.before) _ (sym (ap (needs_of (st c.before)) c.in-Consolidate.is) ∙ c.requires.1))
-
 pub returns-in-Checkpoint : goal.returns-in-Checkpoint
 returns-in-Checkpoint c =
     c.complete_checkpoint.ensures ∙ ap (completed (st c.before.before.before)) (sym c.in-Checkpoint.is)
-
-pub returns-in-Event : goal.returns-in-Event
-returns-in-Event c =
-    absurd (event-needs (st c.before) _ _ _ (sym (ap (needs_of (st c.before)) c.in-Event.is) ∙ c.requires.1))
 
 pub returns-in-Prepare : goal.returns-in-Prepare
 returns-in-Prepare c =
     c.complete_prepare.ensures ∙ ap (completed (st c.before.before.before)) (sym c.in-Prepare.is)
 
-pub returns-in-Confirm : goal.returns-in-Confirm
-returns-in-Confirm c =
-    c.complete_commit-in-Confirm.ensures ∙ ap (completed (st c.before.before.before)) (sym c.in-Confirm.is)
-
-pub returns-in-Log : goal.returns-in-Log
-returns-in-Log c =
-    absurd (log-needs (st c.before) _ _ _ _ (sym (ap (needs_of (st c.before)) c.in-Log.is) ∙ c.requires.1))
-
 pub returns-in-Copy : goal.returns-in-Copy
 returns-in-Copy c =
     c.complete_copy.ensures ∙ ap (completed (st c.before.before.before)) (sym c.in-Copy.is)
 
-pub returns-in-Format : goal.returns-in-Format
-returns-in-Format c =
-    absurd (format-needs (st c.before) (sym (ap (needs_of (st c.before)) c.in-Format.is) ∙ c.requires.1))
+pub returns-in-Commit : goal.returns-in-Commit
+returns-in-Commit c =
+    let e = c.complete_commit.ensures in
+    ⊎_elim (λ q. e ∙ ap (completed (st c.before.before.before)) (sym q)) (λ q. e ∙ ap (completed (st c.before.before.before)) (sym q)) c.in-Commit.is
+
+-- the other operations need stores
+pub returns-in-Idle : goal.returns-in-Idle
+returns-in-Idle c =
+    let now = st c.before in
+    let none = c.requires.1 in
+    absurd (⊎_elim (λ q. contradicts (ap is_idle q) c.requires.0.busy)
+    (⊎_elim (λ q. write-needs now q.0 q.1 q.2 q.3 q.4 (sym (ap (needs_of now) q.5) ∙ none))
+    (⊎_elim (λ q. log-needs now q.0 q.1 q.2 q.3 (sym (ap (needs_of now) q.4) ∙ none))
+    (⊎_elim (λ q. consolidate-needs now q.0 (sym (ap (needs_of now) q.1) ∙ none))
+    (⊎_elim (λ q. event-needs now q.0 q.1 q.2 (sym (ap (needs_of now) q.3) ∙ none))
+    (λ q. format-needs now (sym (ap (needs_of now) q) ∙ none)))))) c.in-Idle.is)

@@ -1,3 +1,4 @@
+use mathlib.Core.Logic.{⊎_elim}
 use mathlib.Core.Path.{sym, ap, ◌∙◌}
 use native.Mathlib.Omega.{arith}
 use Rattle.bounded.proofs.Tests.{contradicts}
@@ -30,7 +31,7 @@ pub complete_commit-requires : goal.complete_commit-requires
 complete_commit-requires c =
     let e = c.in-Commit.is in
     let n = head-low c.args.z c.args.at (st c.before.before) c.requires.0 in
-    (c.requires.0.sizes, legal c.args.z c.args.at (st c.before.before) c.requires.0, rw c.requires.0.places at n, commit-low c.args.z c.args.at (st c.before.before) c.requires.0 c.requires.1 e)
+    (c.requires.0.sizes, legal c.args.z c.args.at (st c.before.before) c.requires.0, rw c.requires.0.places at n, ⊎_elim (commit-low c.args.z c.args.at (st c.before.before) c.requires.0 c.requires.1) (confirm-low c.args.z c.args.at (st c.before.before) c.requires.0 c.requires.1) e)
 
 pub complete_consolidate-requires : goal.complete_consolidate-requires
 complete_consolidate-requires c =
@@ -48,12 +49,6 @@ complete_event-requires c =
     let n = head-low c.args.z c.args.at (st c.before.before) c.requires.0 in
     let m = next_low c.args.z c.args.at (st c.before.before) c.requires.0 in
     (c.requires.0.sizes, legal c.args.z c.args.at (st c.before.before) c.requires.0, rw c.requires.0.places at n, rw c.requires.0.places at m, (event-leans c.args.z c.args.at (st c.before.before) c.requires.0 c.requires.1 e).1)
-
-pub complete_commit-requires-in-Confirm : goal.complete_commit-requires-in-Confirm
-complete_commit-requires-in-Confirm c =
-    let e = c.in-Confirm.is in
-    let n = head-low c.args.z c.args.at (st c.before.before) c.requires.0 in
-    (c.requires.0.sizes, legal c.args.z c.args.at (st c.before.before) c.requires.0, rw c.requires.0.places at n, confirm-low c.args.z c.args.at (st c.before.before) c.requires.0 c.requires.1 e)
 
 pub complete_log-requires : goal.complete_log-requires
 complete_log-requires c =
@@ -76,7 +71,8 @@ returns-in-Write c =
 
 pub returns-in-Commit : goal.returns-in-Commit
 returns-in-Commit c =
-    c.complete_commit.ensures ∙ ap (completed (st c.before.before.before)) (sym c.in-Commit.is)
+    let e = c.complete_commit.ensures in
+    ⊎_elim (λ q. e ∙ ap (completed (st c.before.before.before)) (sym q)) (λ q. e ∙ ap (completed (st c.before.before.before)) (sym q)) c.in-Commit.is
 
 pub returns-in-Consolidate : goal.returns-in-Consolidate
 returns-in-Consolidate c =
@@ -93,10 +89,6 @@ returns-in-Event c =
 pub returns-in-Prepare : goal.returns-in-Prepare
 returns-in-Prepare c =
     c.complete_prepare.ensures ∙ ap (completed (st c.before.before.before)) (sym c.in-Prepare.is)
-
-pub returns-in-Confirm : goal.returns-in-Confirm
-returns-in-Confirm c =
-    c.complete_commit-in-Confirm.ensures ∙ ap (completed (st c.before.before.before)) (sym c.in-Confirm.is)
 
 pub returns-in-Log : goal.returns-in-Log
 returns-in-Log c =

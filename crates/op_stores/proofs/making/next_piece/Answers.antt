@@ -1,3 +1,4 @@
+use mathlib.Core.Logic.{⊎_elim}
 use mathlib.Core.Path.{sym, ap, ◌∙◌}
 use Rattle.bounded.proofs.Tests.{contradicts}
 use Rattle.state.specs.State.{State}
@@ -25,7 +26,7 @@ write_piece-requires c =
 pub commit_piece-requires : goal.commit_piece-requires
 commit_piece-requires c =
     let e = c.in-Commit.is in
-    (legal c.args.z c.args.at (st c.before.before.before) c.requires.0, head-low c.args.z c.args.at (st c.before.before.before) c.requires.0, shapes c.args.z c.args.at (st c.before.before.before) c.requires.0, commit-low c.args.z c.args.at (st c.before.before.before) c.requires.0 c.requires.1 e)
+    (legal c.args.z c.args.at (st c.before.before.before) c.requires.0, head-low c.args.z c.args.at (st c.before.before.before) c.requires.0, shapes c.args.z c.args.at (st c.before.before.before) c.requires.0, ⊎_elim (commit-low c.args.z c.args.at (st c.before.before.before) c.requires.0 c.requires.1) (prepare-low c.args.z c.args.at (st c.before.before.before) c.requires.0 c.requires.1) e)
 
 pub consolidate_piece-requires : goal.consolidate_piece-requires
 consolidate_piece-requires c =
@@ -40,11 +41,6 @@ pub event_piece-requires : goal.event_piece-requires
 event_piece-requires c =
     let e = c.in-Event.is in
     (c.requires.0.sizes, c.requires.0.places, c.requires.0.ok, c.requires.0.busy, (event-leans c.args.z c.args.at (st c.before.before.before) c.requires.0 c.requires.1 e).0)
-
-pub commit_piece-requires-in-Prepare : goal.commit_piece-requires-in-Prepare
-commit_piece-requires-in-Prepare c =
-    let e = c.in-Prepare.is in
-    (legal c.args.z c.args.at (st c.before.before.before) c.requires.0, head-low c.args.z c.args.at (st c.before.before.before) c.requires.0, shapes c.args.z c.args.at (st c.before.before.before) c.requires.0, prepare-low c.args.z c.args.at (st c.before.before.before) c.requires.0 c.requires.1 e)
 
 pub confirm_piece-requires : goal.confirm_piece-requires
 confirm_piece-requires c =
@@ -75,7 +71,10 @@ returns-in-Write c =
 
 pub returns-in-Commit : goal.returns-in-Commit
 returns-in-Commit c =
-    next_of c.args.z c.args.at (st c.before.before.before.before) c.requires.0 c.args.i c.args.image.now _ c.in-Commit.is (commit-next c.args.z c.args.at (st c.before.before.before.before) c.requires.0 c.args.i c.args.image.now _ _ (c.commit_piece.ensures c.args.image.now))
+    let n = c.commit_piece.ensures c.args.image.now in
+    let now = st c.before.before.before.before in
+    ⊎_elim (λ q. next_of c.args.z c.args.at now c.requires.0 c.args.i c.args.image.now _ q (commit-next c.args.z c.args.at now c.requires.0 c.args.i c.args.image.now _ _ n))
+    (λ q. next_of c.args.z c.args.at now c.requires.0 c.args.i c.args.image.now _ q (prepare-next c.args.z c.args.at now c.requires.0 c.args.i c.args.image.now _ _ n)) c.in-Commit.is
 
 pub returns-in-Consolidate : goal.returns-in-Consolidate
 returns-in-Consolidate c =
@@ -88,10 +87,6 @@ returns-in-Checkpoint c =
 pub returns-in-Event : goal.returns-in-Event
 returns-in-Event c =
     next_of c.args.z c.args.at (st c.before.before.before.before) c.requires.0 c.args.i c.args.image.now _ c.in-Event.is (c.event_piece.ensures c.args.image.now)
-
-pub returns-in-Prepare : goal.returns-in-Prepare
-returns-in-Prepare c =
-    next_of c.args.z c.args.at (st c.before.before.before.before) c.requires.0 c.args.i c.args.image.now _ c.in-Prepare.is (prepare-next c.args.z c.args.at (st c.before.before.before.before) c.requires.0 c.args.i c.args.image.now _ _ (c.commit_piece-in-Prepare.ensures c.args.image.now))
 
 pub returns-in-Confirm : goal.returns-in-Confirm
 returns-in-Confirm c =
