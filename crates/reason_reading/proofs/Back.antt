@@ -13,11 +13,11 @@ use Rattle.words.specs.Words.{over}
 use Rattle.words.proofs.Parts.{length_over}
 use Rattle.wording.specs.Calls.{can_return}
 use Rattle.reasons.specs.declared.Reason.{Reason}
-use Rattle.reasons.specs.declared.Composed.{Composed}
-use Rattle.reasons.specs.Sentence.{sentence, compose_row, composed, composed_in}
-use Rattle.reasons.proofs.Composing.{row-taken, row-cannot, composed-taken}
+use Rattle.rows.specs.declared.Refusal.{Refusal}
+use Rattle.reasons.specs.Sentence.{sentence, composed, composed_in}
+use Rattle.reasons.proofs.Composing.{composed-by, composed-taken, refused-by, row-taken}
 use Rattle.reasons.proofs.Printable.{shown}
-use Rattle.reason_reading.specs.declared.ReadBack.TheVariants.{These, Nothing}
+use Rattle.std.specs.Prelude.{Result, Ok, Err, Some, None}
 use Rattle.reason_reading.specs.Reading.{guess, same_text, read_back}
 
 -- ---- texts compared
@@ -47,43 +47,37 @@ module _ (text : List ℕ) where
   abbrev same : Bool
   same = same_text text (sentence (guess text))
 
-  pub back-these : can ≡ true → text ≡ sentence (guess text) → read_back text ≡ These (guess text)
+  pub back-these : can ≡ true → text ≡ sentence (guess text) → read_back text ≡ Some (guess text)
   unfolding read_back
   back-these e f = rw (e, eq-same f)
 
-  pub back-cannot : can ≡ false → read_back text ≡ Nothing
+  pub back-cannot : can ≡ false → read_back text ≡ None
   unfolding read_back
   back-cannot e = rw e
 
-  pub back-other : can ≡ true → (text ≡ sentence (guess text) → ⊥) → read_back text ≡ Nothing
+  pub back-other : can ≡ true → (text ≡ sentence (guess text) → ⊥) → read_back text ≡ None
   unfolding read_back
   back-other e f = case_on same (λ t. absurd (f (same-eq text (sentence (guess text)) t))) (λ t. rw (e, t))
 
 -- ---- the guess r composed again in a target of 200 bytes: d is what comes of it, and out the target after it
 
-module _ (text : List ℕ) (r : Reason) (d : Composed) (target out : List ℕ) (g : r ≡ guess text) (sized : length target ≡ 200)
+module _ (text : List ℕ) (r : Reason) (d : Result ℕ Refusal) (target out : List ℕ) (g : r ≡ guess text) (sized : length target ≡ 200)
     (n : d ≡ composed r (length target)) (o : out ≡ composed_in r target) where
-  number_is : d.number ≡ compose_row r (length target)
-  unfolding composed
-  number_is = ap (λ (c : Composed). c.number) n
-
   guessed : (b : Bool) → can_return r.call r.number ≡ b → can_return (guess text).call (guess text).number ≡ b
   guessed b e = subst (λ (q : Reason). can_return q.call q.number ≡ b) g e
 
-  pub again-cannot : (d.number ≡ 0 → ⊥) → Nothing ≡ read_back text
+  pub again-cannot : {e : Refusal} → d ≡ Err e → None ≡ read_back text
   again-cannot f =
       case_on (can_return r.call r.number)
-      (λ t. absurd (f (number_is ∙ row-taken r target (omega arith) t)))
+      (λ t. absurd (let q = (refused-by r target (sym n ∙ f)).0 in let z = row-taken r target (omega arith) t in omega (arith, q, z)))
       (λ t. sym (back-cannot text (guessed false t)))
 
-  module _ (z : d.number ≡ 0) where
+  module _ (k : ℕ) (z : d ≡ Ok k) where
     can-be : can_return r.call r.number ≡ true
-    can-be =
-        case_on (can_return r.call r.number) (λ t. t)
-        (λ t. let e = row-cannot r target (omega arith) t in let q = number_is in absurd (omega (arith, z, e, q)))
+    can-be = (composed-by r target (sym n ∙ z)).can
 
-    length-is : d.length ≡ length (sentence r)
-    length-is = ap (λ (c : Composed). c.length) (n ∙ (composed-taken r target (omega arith) can-be).0)
+    length-is : k ≡ length (sentence r)
+    length-is = (composed-by r target (sym n ∙ z)).count
 
     fits : 0 + length (sentence r) ≤ length target
     fits = omega (arith, (shown r can-be).short)
@@ -91,18 +85,18 @@ module _ (text : List ℕ) (r : Reason) (d : Composed) (target out : List ℕ) (
     laid : out ≡ over target 0 (sentence r)
     laid = o ∙ (composed-taken r target (omega arith) can-be).1
 
-    pub again-low : d.length ≤ length out
+    pub again-low : k ≤ length out
     again-low = omega (arith, length-is, fits, ap length laid, length_over target 0 (sentence r) fits)
 
-    text-is : take d.length out ≡ sentence r
+    text-is : take k out ≡ sentence r
     unfolding over
     text-is =
         ap₂ (λ (n : ℕ) (l : List ℕ). take n l) length-is laid
         ∙ take_at (sentence r) (drop (length (sentence r)) target) (length (sentence r)) refl
 
-    pub again-other : (text ≡ take d.length out → ⊥) → Nothing ≡ read_back text
+    pub again-other : (text ≡ take k out → ⊥) → None ≡ read_back text
     again-other f =
         sym (back-other text (guessed true can-be) (λ e. f (e ∙ ap sentence (sym g) ∙ sym text-is)))
 
-    pub again-these : text ≡ take d.length out → These r ≡ read_back text
-    again-these e = ap These g ∙ sym (back-these text (guessed true can-be) (e ∙ text-is ∙ ap sentence g))
+    pub again-these : text ≡ take k out → Some r ≡ read_back text
+    again-these e = ap Some g ∙ sym (back-these text (guessed true can-be) (e ∙ text-is ∙ ap sentence g))

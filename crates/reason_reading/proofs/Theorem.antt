@@ -13,7 +13,7 @@ use Rattle.wording.proofs.Returns.{known}
 use Rattle.wording.proofs.Wording.{named}
 use Rattle.reasons.specs.declared.Reason.{Reason}
 use Rattle.reasons.specs.Sentence.{opening, closing, sentence}
-use Rattle.reason_reading.specs.declared.ReadBack.TheVariants.{These, Nothing}
+use Rattle.std.specs.Prelude.{Option, Some, None}
 use Rattle.reason_reading.specs.Numbers.{goes_on, numbers_from, numbers_in}
 use Rattle.reason_reading.specs.Reading.{pick, after, guess, guess_for, same_text, read_back, Composable, ReadsBack}
 use Rattle.reason_reading.proofs.Scanning.{digit}
@@ -68,10 +68,10 @@ module _ (r : Reason) (k : Composable r) where
   unfolding guess
   guess-sentence = rw (named-first, numbers-sentence r small) guess-for
 
-  back : (text : List ℕ) → text ≡ sentence r → read_back text ≡ These r
+  back : (text : List ℕ) → text ≡ sentence r → read_back text ≡ Some r
   back text e =
       let g : guess text ≡ r = ap guess e ∙ guess-sentence in
-      back-these text (subst (λ (q : Reason). can_return q.call q.number ≡ true) (sym g) k.returns) (e ∙ ap sentence (sym g)) ∙ ap These g
+      back-these text (subst (λ (q : Reason). can_return q.call q.number ≡ true) (sym g) k.returns) (e ∙ ap sentence (sym g)) ∙ ap Some g
 
 -- ---- what is read back can be composed
 
@@ -126,20 +126,20 @@ guess-composable text e = for-composable (call_named (get_or text 0 0) (get_or t
 abbrev held : List ℕ → Bool
 held text = can_return (guess text).call (guess text).number && same_text text (sentence (guess text))
 
-forth : (text : List ℕ) (r : Reason) → read_back text ≡ These r → (text ≡ sentence r) × Composable r
+forth : (text : List ℕ) (r : Reason) → read_back text ≡ Some r → (text ≡ sentence r) × Composable r
 unfolding read_back
 forth text r e =
     let can = can_return (guess text).call (guess text).number in
     let same = same_text text (sentence (guess text)) in
     case_on (held text)
     (λ t.
-    let q : These (guess text) ≡ These r = rw t at e in
+    let q : ◌≡◌ {A = Option Reason} (Some (guess text)) (Some r) = rw t at e in
     let g : guess text ≡ r = cc in (
       same-eq text (sentence (guess text)) (and_right can same t) ∙ ap sentence g,
       subst (λ (s : Reason). Composable s) g (guess-composable text (and_left can same t)),
     ))
     (λ t.
-    let q : Nothing ≡ These r = rw t at e in
+    let q : ◌≡◌ {A = Option Reason} None (Some r) = rw t at e in
     let z : ◌≡◌ {A = ℕ} 0 1 = cc in
     absurd (omega arith))
 
@@ -147,7 +147,7 @@ pub reads-back : ReadsBack
 reads-back text r = (forth text r, λ h. back r h.1 text h.0)
 
 -- the second half, said of what is read: a text that is the sentence of no reason gives none
-pub reads_none : (text : List ℕ) → ((r : Reason) → Composable r → text ≡ sentence r → ⊥) → read_back text ≡ Nothing
+pub reads_none : (text : List ℕ) → ((r : Reason) → Composable r → text ≡ sentence r → ⊥) → read_back text ≡ None
 unfolding read_back
 reads_none text f =
     let can = can_return (guess text).call (guess text).number in

@@ -1,11 +1,9 @@
 -- Reading a sentence back (document 02, L1): what is guessed from a text, and whether its sentence is the text.
-use Rattle.std.specs.Prelude.{ℕ, ◌+◌, ◌^◌, ◌<◌, Bool, true, false, cond, ◌&&◌, List, [], ◌∷◌, ◌↔◌, ◌≡◌, eqb, get_or}
+use Rattle.std.specs.Prelude.{ℕ, ◌+◌, ◌^◌, ◌<◌, Bool, true, false, cond, ◌&&◌, List, [], ◌∷◌, ◌↔◌, ◌≡◌, eqb, get_or, Option, Some, None}
 use Rattle.wording.specs.Calls.{can_return, takes_writer, takes_page, takes_line, meets_writer}
 use Rattle.wording.specs.Words.{call_named}
 use Rattle.reasons.specs.declared.Reason.{Reason}
 use Rattle.reasons.specs.Sentence.{sentence}
-use Rattle.reason_reading.specs.declared.ReadBack.{ReadBack}
-use Rattle.reason_reading.specs.declared.ReadBack.TheVariants.{These, Nothing}
 use Rattle.reason_reading.specs.Numbers.{numbers_in}
 
 -- ---- a reason guessed from a text
@@ -45,10 +43,10 @@ same_text (x ∷ xs) [] = false
 same_text (x ∷ xs) (y ∷ ys) = eqb x y && same_text xs ys
 
 -- the guess, if its sentence is the text
-unfoldable pub read_back : List ℕ → ReadBack
+unfoldable pub read_back : List ℕ → Option Reason
 read_back text =
     let r = guess text in
-    cond (can_return r.call r.number && same_text text (sentence r)) (These r) Nothing
+    cond (can_return r.call r.number && same_text text (sentence r)) (Some r) None
 
 -- ---- the statement
 
@@ -67,4 +65,4 @@ pub record Composable (r : Reason) : Type 0 where
 
 -- each sentence gives its reason, and any other text none
 abbrev pub ReadsBack : Type 0
-ReadsBack = (text : List ℕ) (r : Reason) → (read_back text ≡ These r) ↔ ((text ≡ sentence r) × Composable r)
+ReadsBack = (text : List ℕ) (r : Reason) → (read_back text ≡ Some r) ↔ ((text ≡ sentence r) × Composable r)

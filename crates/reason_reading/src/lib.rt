@@ -2,23 +2,19 @@
 #![tactic(auto)]
 
 ghost use Rattle.std.specs.Prelude.{◌≡◌, ◌<◌, get_or};
-ghost use Rattle.reason_reading.specs.Numbers.{goes_on, numbers_in};
+ghost use Rattle.reason_reading.specs.Numbers.{with_digit, numbers_in};
 ghost use Rattle.reason_reading.specs.Reading.{pick, after, guess, read_back};
 
 use reasons::Reason;
 
-// The reason that a text tells, or nothing.
-#[derive(Clone, Copy)]
-pub enum ReadBack {
-    These(Reason),
-    Nothing,
-}
-
-// Whether byte b goes on with a number of value v. The bound is the tenth part of 2^64.
-fn goes_on(v: usize, b: u8) -> bool
-    ensures { result ≡ goes_on v b }
+// A number of value v that goes on with byte b, if that is a digit and the value stays below 2^64.
+fn with_digit(v: usize, b: u8) -> Option<usize>
+    ensures { result ≡ with_digit v b }
 {
-    (48 <= b) & (b <= 57) & ((v < 1844674407370955161) | (v == 1844674407370955161) & (b <= 53))
+    if !b.is_ascii_digit() {
+        return None;
+    }
+    v.checked_mul(10)?.checked_add(usize::from(b - b'0'))
 }
 
 // The number at place k of those that stand in the text, 0 where there are fewer.
@@ -26,26 +22,25 @@ fn number_at(text: &[u8], k: usize) -> usize
     ensures { result ≡ get_or (numbers_in text.now) k 0 }
 {
     let mut left = k;
-    let mut on = false;
-    let mut v: usize = 0;
-    let mut i = 0;
-    while i < text.len() {
-        let b = text[i];
-        i += 1;
-        if goes_on(v, b) {
-            v = 10 * v + (b - 48) as usize;
-            on = true;
-        } else if !on {
-            v = 0;
-        } else if left == 0 {
-            return v;
-        } else {
-            left -= 1;
-            on = false;
-            v = 0;
+    let mut number = None;
+    for &b in text {
+        if let Some(v) = with_digit(number.unwrap_or(0), b) {
+            number = Some(v);
+            continue;
         }
+        let Some(v) = number else {
+            continue;
+        };
+        if left == 0 {
+            return v;
+        }
+        left -= 1;
+        number = None;
     }
-    if on & (left == 0) { v } else { 0 }
+    let Some(v) = number else {
+        return 0;
+    };
+    if left == 0 { v } else { 0 }
 }
 
 // The same where the sentence has the number.
@@ -66,7 +61,7 @@ fn place_after(has: bool, k: usize) -> usize
 fn byte_at(text: &[u8], i: usize) -> u8
     ensures { result ≡ get_or text.now i 0 }
 {
-    if i < text.len() { text[i] } else { 0 }
+    text.get(i).copied().unwrap_or(0)
 }
 
 // The reason that a text tells, if it tells one.
@@ -91,19 +86,18 @@ fn guess_of(text: &[u8]) -> Reason
     }
 }
 
-// The reason whose sentence the text is, or nothing.
-pub fn read_back(text: &[u8]) -> ReadBack
+// The reason whose sentence the text is, if there is one.
+pub fn read_back(text: &[u8]) -> Option<Reason>
     ensures { result ≡ read_back text.now }
 {
     let reason = guess_of(text);
     let mut target = [0; 200];
-    let composed = reasons::compose(reason, &mut target);
-    if composed.number != 0 {
-        return ReadBack::Nothing;
+    let Ok(length) = reasons::compose(reason, &mut target) else {
+        return None;
+    };
+    if text == &target[..length] {
+        Some(reason)
+    } else {
+        None
     }
-    let n = composed.length;
-    if !check::same(text, &target[..n]) {
-        return ReadBack::Nothing;
-    }
-    ReadBack::These(reason)
 }

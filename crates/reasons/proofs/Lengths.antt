@@ -1,5 +1,5 @@
 -- How long the parts of a sentence are, and what decimals promises of a text, as a text put.
-use mathlib.Core.Path.{◌≡◌, refl}
+use mathlib.Core.Path.{◌≡◌, refl, ap}
 use mathlib.Core.Bool.{Bool, true, false, cond}
 use mathlib.Core.List.{List, ◌++◌}
 use Prim.Native.Nat.{ℕ, ◌+◌, ◌<◌, ◌≤◌}
@@ -66,8 +66,13 @@ holder-le has later v = joined-le has later (codes ", held by writer ") (codes "
 pub field_end : {l m : List ℕ} {a b : ℕ} (has : Bool) (label : List ℕ) (v : ℕ) → Put l a (field has label v) m b → b ≤ a + (length label + 20)
 field_end has label v p = omega (arith, p.place, field-le has label v)
 
-pub page-end : {l m : List ℕ} {a b : ℕ} (has later : Bool) (v : ℕ) → Put l a (field has (page_label later) v) m b → b ≤ a + 27
-page-end has later v p = omega (arith, p.place, page-le has later v)
+-- how long the labels are of which there are two
+pub page-label : {label : List ℕ} (later : Bool) → label ≡ page_label later → length label ≡ 7
+unfolding codes
+page-label true e = ap length e
+page-label false e = ap length e
 
-pub holder-end : {l m : List ℕ} {a b : ℕ} (has later : Bool) (v : ℕ) → Put l a (field has (holder_label later) v) m b → b ≤ a + 37
-holder-end has later v p = omega (arith, p.place, holder-le has later v)
+pub holder-label : {label : List ℕ} (later : Bool) → label ≡ holder_label later → length label ≡ 17
+unfolding codes
+holder-label true e = ap length e
+holder-label false e = ap length e

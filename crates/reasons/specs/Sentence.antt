@@ -1,12 +1,13 @@
 -- Reasons in words (document 02, L1): the sentence of a refusal, and what composing one does.
-use Rattle.std.specs.Prelude.{ℕ, Bool, true, false, not, cond, List, [], ◌∷◌, ◌++◌, ltb, eqb, length}
+use Rattle.std.specs.Prelude.{ℕ, Bool, true, false, not, cond, List, [], ◌∷◌, ◌++◌, ltb, eqb, length, Result, Ok, Err}
 use Rattle.bounded.specs.Rows.{refusal}
 use Rattle.words.specs.Words.{over}
 use Rattle.decimals.specs.Decimal.{decimal_of}
 use Rattle.wording.specs.Calls.{can_return, takes_writer, takes_page, takes_line, meets_writer}
 use Rattle.wording.specs.Words.{codes, name_of, text_of}
 use Rattle.reasons.specs.declared.Reason.{Reason}
-use Rattle.reasons.specs.declared.Composed.{Composed}
+use Rattle.rows.specs.declared.Refusal.{Refusal}
+use Rattle.rows.specs.declared.Refusal.TheVariants.{BadArgument}
 
 -- the call, the number and the number's text
 unfoldable pub opening : ℕ → ℕ → List ℕ
@@ -36,13 +37,13 @@ closing r =
 unfoldable pub sentence : Reason → List ℕ
 sentence r = opening r.call r.number ++ closing r
 
--- ---- composing: the number, the length and the target of n bytes after it
+-- ---- composing: the number, the length or the refusal, and the target of n bytes after it
 
 unfoldable pub compose_row : Reason → ℕ → ℕ
 compose_row r n = refusal ((ltb n 200, 11) ∷ (not (can_return r.call r.number), 11) ∷ [])
 
-unfoldable pub composed : Reason → ℕ → Composed
-composed r n = record { number = compose_row r n; length = cond (eqb (compose_row r n) 0) (length (sentence r)) 0 }
+unfoldable pub composed : Reason → ℕ → Result ℕ Refusal
+composed r n = cond (eqb (compose_row r n) 0) (Ok (length (sentence r))) (Err BadArgument)
 
 unfoldable pub composed_in : Reason → List ℕ → List ℕ
 composed_in r target = cond (eqb (compose_row r (length target)) 0) (over target 0 (sentence r)) target

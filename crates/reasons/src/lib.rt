@@ -1,14 +1,16 @@
 // Reasons in words: a refusal as a sentence for the service screen.
 #![tactic(auto)]
 
-ghost use Rattle.std.specs.Prelude.{◌≡◌, cond, ◌+◌, ◌<◌, ◌≤◌, length};
+ghost use Rattle.std.specs.Prelude.{◌≡◌, ◌+◌, ◌<◌, ◌≤◌, length};
 ghost use Rattle.number_text.specs.Text.{Put};
 ghost use Rattle.wording.specs.Calls.{call_count, number_count};
-ghost use Rattle.reasons.specs.Sentence.{opening, field, closing, composed, composed_in};
+ghost use Rattle.reasons.specs.Sentence.{opening, field, page_label, holder_label, closing, composed, composed_in};
+
+use rows::Refusal;
 
 // A refused call, the number of the row that turned it back, and what it met: the writer, page and line that it was given
 // and the lowest writer in its way. Where the call is given none, or none is in its way, the field says nothing.
-#[derive(Clone, Copy)]
+#[derive(Clone, Copy, Debug, PartialEq, Eq)]
 pub struct Reason {
     pub call: usize,
     pub number: usize,
@@ -16,13 +18,6 @@ pub struct Reason {
     pub page: usize,
     pub line: usize,
     pub holder: usize,
-}
-
-// What comes of composing: 0 and the sentence's length, or 11.
-#[derive(Clone, Copy)]
-pub struct Composed {
-    pub number: usize,
-    pub length: usize,
 }
 
 // The call, the number and the number's text, at the start of the buffer.
@@ -49,24 +44,22 @@ fn put_field(out: &mut [u8], at: usize, has: bool, label: &[u8], v: usize) -> us
     decimals::put_decimal(out, next, v as u64)
 }
 
-// A number after its label, of which there are two: for a later field, and for the first.
-fn put_joined(
-    out: &mut [u8],
-    at: usize,
-    has: bool,
-    later: bool,
-    label: &[u8],
-    first: &[u8],
-    v: usize,
-) -> usize
-    requires label_in_bounds { at + length label.now + 20 ≤ length out.old }
-    requires first_in_bounds { at + length first.now + 20 ≤ length out.old }
-    ensures { Put out.old at (field has (cond later label.now first.now) v) out.new result }
+// A page comes after a writer, or is the first field.
+fn page_label(later: bool) -> &'static [u8]
+    ensures { result.now ≡ page_label later }
+{
+    if later { b", page " } else { b". Page " }
+}
+
+// A writer in the way comes after a page, or is the first field.
+fn holder_label(later: bool) -> &'static [u8]
+    ensures { result.now ≡ holder_label later }
 {
     if later {
-        return put_field(out, at, has, label, v);
+        b", held by writer "
+    } else {
+        b". Held by writer "
     }
-    put_field(out, at, has, first, v)
 }
 
 // What the call was given, and the writer in its way.
@@ -79,49 +72,20 @@ fn put_closing(out: &mut [u8], at: usize, reason: Reason) -> usize
     let has_line = wording::takes_line(reason.call);
     let met = wording::meets_writer(reason.number);
     let next = put_field(out, at, has_writer, b". Writer ", reason.writer);
-    let next = put_joined(
-        out,
-        next,
-        has_page,
-        has_writer,
-        b", page ",
-        b". Page ",
-        reason.page,
-    );
+    let next = put_field(out, next, has_page, page_label(has_writer), reason.page);
     let next = put_field(out, next, has_line, b", line ", reason.line);
-    let next = put_joined(
-        out,
-        next,
-        met,
-        has_page,
-        b", held by writer ",
-        b". Held by writer ",
-        reason.holder,
-    );
+    let next = put_field(out, next, met, holder_label(has_page), reason.holder);
     decimals::put_byte(out, next, b'.')
 }
 
-// Composes the sentence at the start of target. A target under 200 bytes, or a number that the call cannot return, is 11.
-pub fn compose(reason: Reason, target: &mut [u8]) -> Composed
+// Composes the sentence at the start of target, and gives its length. A target under 200 bytes, or a number that the call cannot return, is 11.
+pub fn compose(reason: Reason, target: &mut [u8]) -> Result<usize, Refusal>
     ensures value { result ≡ composed reason (length target.old) }
     ensures target_after { target.new ≡ composed_in reason target.old }
 {
-    if target.len() < 200 {
-        return Composed {
-            number: 11,
-            length: 0,
-        };
-    }
-    if !wording::can_return(reason.call, reason.number) {
-        return Composed {
-            number: 11,
-            length: 0,
-        };
+    if target.len() < 200 || !wording::can_return(reason.call, reason.number) {
+        return Err(Refusal::BadArgument);
     }
     let next = put_opening(target, reason.call, reason.number);
-    let end = put_closing(target, next, reason);
-    Composed {
-        number: 0,
-        length: end,
-    }
+    Ok(put_closing(target, next, reason))
 }

@@ -6,12 +6,11 @@ use Prim.Native.Nat.{ℕ, ◌+◌, ◌<◌, min}
 use native.Mathlib.Omega.{arith}
 use lib.Dec.{ltb, leb, eqb}
 use borrow.Author.Tests.{ltb-true, ltb-false, not-false, eqb-true, eqb-false}
-use Rattle.bounded.specs.Rows.{Row, refusal}
+use Rattle.bounded.specs.Rows.{refusal}
 use Rattle.bounded.specs.Below.{some_below, first_below}
 use Rattle.bounded.proofs.Tests.{case_on, contradicts, and_left, and_right, or_left, or_right}
 use Rattle.bounded.proofs.Below.{first-le, first_holds, first-before, none_made}
-use Rattle.layout.specs.declared.Sizes.{Sizes}
-use Rattle.layout.specs.Layout.{sizes_ok, Legal}
+use Rattle.layout.specs.Layout.{sizes_ok}
 use Rattle.layout.proofs.LayoutLaws.{legal}
 use Rattle.meters.specs.Meters.{event_known, first_meter, own_meter}
 use Rattle.meters.proofs.MeterLaws.{first-low, own_range}
@@ -24,7 +23,7 @@ use Rattle.validity.proofs.Ranged.{slots-good}
 use Rattle.refinement.specs.Calls.{write_call_rows, consolidate_call_rows, event_call_rows}
 use Rattle.refusals.specs.Met.{holds_line, holds_slot, slot_met, line_holder, page_holder, event_holder, Lowest}
 use Rattle.refusals.proofs.Slots.{has-slot, line_first, page-first}
-use Rattle.refusals.proofs.OnlyRow.{Stopped, stopped, never}
+use Rattle.refusals.proofs.OnlyRow.{stopped, never}
 use Rattle.refusals.proofs.Returned.{write_table}
 
 -- some of the four stand in the way, so the first is one of them

@@ -38,6 +38,7 @@ told r h target l =
     let s = sentence r in
     let put : take (length s) (s ++ drop (length s) target) ≡ s = take-append_seam s (drop (length s) target) in
     record {
+      count = length s;
       taken = rw (long, h.returns);
       back = rw (long, h.returns, put) ((reads-back s r).1 (refl, h));
     }

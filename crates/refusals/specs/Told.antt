@@ -1,6 +1,6 @@
 -- From a refusal to the service screen and back (document 02, L1): on any state and any bytes the reason of a refused call is composed, and what stands
 -- in the target reads back as that reason.
-use Rattle.std.specs.Prelude.{ℕ, ◌^◌, ◌<◌, ◌≤◌, Bool, true, false, ◌||◌, List, ◌≡◌, length, take}
+use Rattle.std.specs.Prelude.{ℕ, ◌^◌, ◌<◌, ◌≤◌, Bool, true, false, ◌||◌, List, ◌≡◌, length, take, Ok, Some}
 use Rattle.layout.specs.declared.Sizes.{Sizes}
 use Rattle.meters.specs.Meters.{first_meter, own_meter}
 use Rattle.state.specs.State.{State}
@@ -12,7 +12,6 @@ use Rattle.refinement.specs.Run.{read, recall, event, load, exec}
 use Rattle.wording.specs.Calls as named
 use Rattle.reasons.specs.declared.Reason.{Reason}
 use Rattle.reasons.specs.Sentence.{composed, composed_in}
-use Rattle.reason_reading.specs.declared.ReadBack.TheVariants.{These}
 use Rattle.reason_reading.specs.Reading.{read_back}
 use Rattle.refusals.specs.Met.{holds_line, holds_slot, reason_met, Lowest}
 
@@ -99,8 +98,9 @@ in_the_way st (load text) u = false
 
 -- a reason is composed into a target, and what is put there reads back as the reason
 pub record Told (r : Reason) (target : List ℕ) : Type 0 where
-  pub taken : (composed r (length target)).number ≡ 0
-  pub back : read_back (take (composed r (length target)).length (composed_in r target)) ≡ These r
+  pub count : ℕ
+  pub taken : composed r (length target) ≡ Ok count
+  pub back : read_back (take count (composed_in r target)) ≡ Some r
 
 -- whatever call is refused, on any state and any bytes: its reason is told in any target of 200 bytes, and where it says a writer, that is the lowest
 -- that stands in the way

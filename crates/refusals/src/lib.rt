@@ -25,17 +25,23 @@ fn slot_met(z: Sizes, words: &Words, p: usize) -> usize
     s
 }
 
+// Whether writer v, other than w, holds line l of slot s.
+fn holds_line(words: &Words, w: usize, s: usize, l: usize, v: usize) -> bool
+    requires { (v < 4) × (s < 16) × (l < 64) }
+    ensures { result ≡ holds_line (decoded words.now).writers.held w s l v }
+{
+    v != w && masks::has(state_words::held_at(words, v, s), l)
+}
+
 // The lowest writer other than w that holds line l of slot s, 4 where none does.
 fn first_of_line(words: &Words, w: usize, s: usize, l: usize) -> usize
     requires { (s < 16) × (l < 64) }
     ensures { result ≡ first_below 4 (holds_line (decoded words.now).writers.held w s l) }
 {
-    let mut v = 0;
-    while v < 4 {
-        if (v != w) & masks::has(state_words::held_at(words, v, s), l) {
+    for v in 0..4 {
+        if holds_line(words, w, s, l, v) {
             return v;
         }
-        v += 1;
     }
     4
 }
@@ -45,12 +51,10 @@ fn first_of_slot(words: &Words, s: usize) -> usize
     requires { s < 16 }
     ensures { result ≡ first_below 4 (holds_slot (decoded words.now).writers.held s) }
 {
-    let mut v = 0;
-    while v < 4 {
+    for v in 0..4 {
         if state_words::held_at(words, v, s) != 0 {
             return v;
         }
-        v += 1;
     }
     4
 }
@@ -88,10 +92,11 @@ pub fn event_holder(words: &Words, kind: usize, meter: usize) -> usize
 {
     let first = line_holder(words, 1, 0, meters::first_meter(kind, meter));
     let own = line_holder(words, 1, 0, meters::own_meter(kind, meter));
-    bounded::smaller(first, own)
+    first.min(own)
 }
 
 // The writer in the way of a call that a number turns back.
+#[tactic(auto, unfolding(crate::specs::Met::holder_met))]
 fn holder_met(
     words: &Words,
     call: usize,
@@ -104,16 +109,12 @@ fn holder_met(
 ) -> usize
     ensures { result ≡ holder_met (decoded words.now) call number writer page line kind meter }
 {
-    if number == 14 {
-        if call == wording::EVENT {
-            return event_holder(words, kind, meter);
-        }
-        return line_holder(words, writer, page, line);
+    match number {
+        14 if call == wording::EVENT => event_holder(words, kind, meter),
+        14 => line_holder(words, writer, page, line),
+        18 => page_holder(words, page),
+        _ => 0,
     }
-    if number == 18 {
-        return page_holder(words, page);
-    }
-    0
 }
 
 fn where_taken(has: bool, v: usize) -> usize

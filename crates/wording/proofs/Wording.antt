@@ -60,7 +60,7 @@ unfolding names codes call_named first_below all_below
 own_name c h =
     eqb-true _ c (all-at (λ k. eqb (call_named (get_or (name_of k) 0 0) (get_or (name_of k) 1 0) (get_or (name_of k) 2 0)) k) call_count c h refl)
 
-three-bytes : (c : ℕ) → c < call_count → 3 ≤ length (name_of c)
+pub three-bytes : (c : ℕ) → c < call_count → 3 ≤ length (name_of c)
 unfolding names codes all_below
 three-bytes c h = leb-true 3 (length (name_of c)) (all-at (λ k. leb 3 (length (name_of k))) call_count c h refl)
 

@@ -1,9 +1,8 @@
 -- The words: a name for each call and a text for each number. Neither has a digit in it.
-use Rattle.std.specs.Prelude.{ℕ, Bool, true, ◌&&◌, not, List, [], ◌∷◌, leb, eqb, get_or, take}
+use Rattle.std.specs.Prelude.{ℕ, Bool, true, ◌&&◌, not, List, [], ◌∷◌, leb, eqb, get_or}
 use Prim.Native.Char.{code}
 use Prim.Native.String.{String, [] as end_text, ◌∷◌ as ◌then◌}
 use Rattle.bounded.specs.Below.{first_below}
-use Rattle.cutting.specs.Finding.{index_of}
 use Rattle.wording.specs.Calls.{call_count}
 
 -- the bytes of a text
@@ -83,10 +82,6 @@ starts_with a b d c = eqb (get_or (name_of c) 0 0) a && eqb (get_or (name_of c) 
 
 unfoldable pub call_named : ℕ → ℕ → ℕ → ℕ
 call_named a b d = first_below call_count (starts_with a b d)
-
--- what stands before the first dot
-unfoldable pub up_to_dot : List ℕ → List ℕ
-up_to_dot l = take (index_of 46 l) l
 
 -- whether a byte is a digit, and whether each byte of a text is printable, or printable and no digit
 abbrev pub is_digit : ℕ → Bool

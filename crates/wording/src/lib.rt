@@ -4,9 +4,9 @@
 ghost use Rattle.std.specs.Prelude.{◌≡◌, ◌+◌, ◌<◌, ◌≤◌, length};
 ghost use Rattle.number_text.specs.Text.{Put};
 ghost use Rattle.wording.specs.Calls.{call_count, number_count, can_return, takes_writer, takes_page, takes_line, meets_writer};
-ghost use Rattle.wording.specs.Words.{name_of, text_of, starts_with, call_named, up_to_dot};
+ghost use Rattle.wording.specs.Words.{name_of, text_of, starts_with, call_named};
 
-// The calls, as the service screen numbers them.
+// The calls, as the service screen numbers them. They are no enum: a host in C passes any number, and `can_return` turns back what is no call.
 pub const FORMAT: usize = 0;
 
 pub const MOUNT: usize = 1;
@@ -85,111 +85,107 @@ const RETURNS: [[u8; CALLS]; NUMBERS] = [
     *b"     x             ",
 ];
 
-// The calls' names, each up to its dot.
-const NAMES: [[u8; 12]; CALLS] = [
-    *b"Format.     ",
-    *b"Mount.      ",
-    *b"Recall.     ",
-    *b"Begin.      ",
-    *b"Abort.      ",
-    *b"Write.      ",
-    *b"Commit.     ",
-    *b"Consolidate.",
-    *b"Checkpoint. ",
-    *b"Read.       ",
-    *b"Step.       ",
-    *b"Run.        ",
-    *b"Free slot.  ",
-    *b"Event.      ",
-    *b"Prepare.    ",
-    *b"A confirm.  ",
-    *b"Withdraw.   ",
-    *b"Load.       ",
-    *b"Wide begin. ",
+// The calls' names.
+const NAMES: [&[u8]; CALLS] = [
+    b"Format",
+    b"Mount",
+    b"Recall",
+    b"Begin",
+    b"Abort",
+    b"Write",
+    b"Commit",
+    b"Consolidate",
+    b"Checkpoint",
+    b"Read",
+    b"Step",
+    b"Run",
+    b"Free slot",
+    b"Event",
+    b"Prepare",
+    b"A confirm",
+    b"Withdraw",
+    b"Load",
+    b"Wide begin",
 ];
 
-// The numbers' texts, each up to its dot.
-const TEXTS: [[u8; 49]; NUMBERS] = [
-    *b".                                                ",
-    *b"the image is shorter than its header.            ",
-    *b"the layout of the image is unknown.              ",
-    *b"pages, slots, places or entries are out of range.",
-    *b"the buffer is shorter than the sizes need.       ",
-    *b"head or tail of the journal is out of range.     ",
-    *b"a live record or entry is damaged.               ",
-    *b"slots and page table do not name each frame once.",
-    *b"the state breaks its rules.                      ",
-    *b"an operation is pending.                         ",
-    *b"no operation is pending.                         ",
-    *b"an argument is out of range.                     ",
-    *b"the writer is already open.                      ",
-    *b"the writer is not open.                          ",
-    *b"another writer holds the line.                   ",
-    *b"the page has no slot and none is free.           ",
-    *b".                                                ",
-    *b"the page has no slot.                            ",
-    *b"a writer holds a line of the page.               ",
-    *b"the journal has no room for the records.         ",
-    *b"the event or its meter is unknown.               ",
-    *b"the amount or the new credit is out of range.    ",
-    *b"there is no taken slot without a held line.      ",
-    *b"a transaction is prepared.                       ",
-    *b"the writer is not prepared.                      ",
-    *b"a line of the table is wrong.                    ",
-    *b"a modulus is out of range.                       ",
-    *b"a stored meter is not below its modulus.         ",
-    *b"the image has no entries for wide rounds.        ",
-    *b"a wide transaction must be the only open one.    ",
-    *b"all entries for wide rounds are used.            ",
+// The numbers' texts.
+const TEXTS: [&[u8]; NUMBERS] = [
+    b"",
+    b"the image is shorter than its header",
+    b"the layout of the image is unknown",
+    b"pages, slots, places or entries are out of range",
+    b"the buffer is shorter than the sizes need",
+    b"head or tail of the journal is out of range",
+    b"a live record or entry is damaged",
+    b"slots and page table do not name each frame once",
+    b"the state breaks its rules",
+    b"an operation is pending",
+    b"no operation is pending",
+    b"an argument is out of range",
+    b"the writer is already open",
+    b"the writer is not open",
+    b"another writer holds the line",
+    b"the page has no slot and none is free",
+    b"",
+    b"the page has no slot",
+    b"a writer holds a line of the page",
+    b"the journal has no room for the records",
+    b"the event or its meter is unknown",
+    b"the amount or the new credit is out of range",
+    b"there is no taken slot without a held line",
+    b"a transaction is prepared",
+    b"the writer is not prepared",
+    b"a line of the table is wrong",
+    b"a modulus is out of range",
+    b"a stored meter is not below its modulus",
+    b"the image has no entries for wide rounds",
+    b"a wide transaction must be the only open one",
+    b"all entries for wide rounds are used",
 ];
 
 // Whether a call can return a number.
 pub fn can_return(call: usize, number: usize) -> bool
     ensures { result ≡ can_return call number }
 {
-    if call >= CALLS {
-        return false;
-    }
-    if number >= NUMBERS {
+    if call >= CALLS || number >= NUMBERS {
         return false;
     }
     RETURNS[number][call] == b'x'
 }
 
 // Whether a call is given a writer.
+#[tactic(auto, unfolding(crate::specs::Calls::takes_writer, crate::specs::Calls::one_of, crate::specs::Calls::one_more))]
 pub fn takes_writer(call: usize) -> bool
     ensures { result ≡ takes_writer call }
 {
-    (call == BEGIN)
-        | (call == BEGIN_WIDE)
-        | (call == ABORT)
-        | (call == WRITE)
-        | (call == COMMIT)
-        | (call == READ)
-        | (call == PREPARE)
-        | (call == CONFIRM)
-        | (call == WITHDRAW)
+    matches!(
+        call,
+        BEGIN | BEGIN_WIDE | ABORT | WRITE | COMMIT | READ | PREPARE | CONFIRM | WITHDRAW
+    )
 }
 
 // Whether a call is given a page.
+#[tactic(auto, unfolding(crate::specs::Calls::takes_page, crate::specs::Calls::one_of, crate::specs::Calls::one_more))]
 pub fn takes_page(call: usize) -> bool
     ensures { result ≡ takes_page call }
 {
-    (call == RECALL) | (call == WRITE) | (call == CONSOLIDATE) | (call == READ)
+    matches!(call, RECALL | WRITE | CONSOLIDATE | READ)
 }
 
 // Whether a call is given a line.
+#[tactic(auto, unfolding(crate::specs::Calls::takes_line, crate::specs::Calls::one_of, crate::specs::Calls::one_more))]
 pub fn takes_line(call: usize) -> bool
     ensures { result ≡ takes_line call }
 {
-    (call == RECALL) | (call == WRITE) | (call == READ)
+    matches!(call, RECALL | WRITE | READ)
 }
 
 // Whether a number says that a writer stands in the way.
+#[tactic(auto, unfolding(crate::specs::Calls::meets_writer, crate::specs::Calls::one_of, crate::specs::Calls::one_more))]
 pub fn meets_writer(number: usize) -> bool
     ensures { result ≡ meets_writer number }
 {
-    (number == 14) | (number == 18)
+    matches!(number, 14 | 18)
 }
 
 // Puts text at byte at.
@@ -202,13 +198,20 @@ pub fn put_text(out: &mut [u8], at: usize, text: &[u8]) -> usize
     at + n
 }
 
-// Puts the bytes of a table's row before its dot.
-fn put_row(out: &mut [u8], at: usize, row: &[u8]) -> usize
-    requires { at + length row.now ≤ length out.old }
-    ensures { Put out.old at (up_to_dot row.now) out.new result }
+// The name of a call.
+fn name_of(call: usize) -> &'static [u8]
+    requires { call < call_count }
+    ensures { result.now ≡ name_of call }
 {
-    let n = cutting::find(row, 0, row.len(), b'.');
-    put_text(out, at, &row[..n])
+    NAMES[call]
+}
+
+// The text of a number.
+fn text_of(number: usize) -> &'static [u8]
+    requires { number < number_count }
+    ensures { result.now ≡ text_of number }
+{
+    TEXTS[number]
 }
 
 // Puts the name of a call.
@@ -216,8 +219,7 @@ pub fn put_name(out: &mut [u8], at: usize, call: usize) -> usize
     requires { (call < call_count) × (at + 12 ≤ length out.old) }
     ensures { Put out.old at (name_of call) out.new result }
 {
-    let row = NAMES[call];
-    put_row(out, at, &row)
+    put_text(out, at, name_of(call))
 }
 
 // Puts the text of a number.
@@ -225,28 +227,25 @@ pub fn put_reason(out: &mut [u8], at: usize, number: usize) -> usize
     requires { (number < number_count) × (at + 49 ≤ length out.old) }
     ensures { Put out.old at (text_of number) out.new result }
 {
-    let row = TEXTS[number];
-    put_row(out, at, &row)
+    put_text(out, at, text_of(number))
 }
 
-// Whether the name of call c starts with three bytes.
-fn starts_with(a: u8, b: u8, d: u8, c: usize) -> bool
-    requires { c < call_count }
-    ensures { result ≡ starts_with a b d c }
+// Whether the name of a call starts with three bytes.
+fn starts_with(a: u8, b: u8, d: u8, call: usize) -> bool
+    requires { call < call_count }
+    ensures { result ≡ starts_with a b d call }
 {
-    (NAMES[c][0] == a) & (NAMES[c][1] == b) & (NAMES[c][2] == d)
+    name_of(call).starts_with(&[a, b, d])
 }
 
 // The call whose name starts with three bytes, CALLS where none does.
 pub fn call_named(a: u8, b: u8, d: u8) -> usize
     ensures { result ≡ call_named a b d }
 {
-    let mut c = 0;
-    while c < CALLS {
-        if starts_with(a, b, d, c) {
-            return c;
+    for call in 0..CALLS {
+        if starts_with(a, b, d, call) {
+            return call;
         }
-        c += 1;
     }
     CALLS
 }

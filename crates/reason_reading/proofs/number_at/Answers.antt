@@ -1,59 +1,47 @@
-use mathlib.Core.Path.{refl, sym, ◌∙◌}
+use mathlib.Core.Path.{sym, ap, ◌∙◌}
 use native.Mathlib.Omega.{arith}
+use Prim.Native.Nat.{ℕ}
 use lib.ListN.{get_or}
-use borrow.Author.Rules.{rules}
-use Rattle.reason_reading.proofs.Scanning.{digit, turn-digit, turn_gap, turn-found, turn-past, going_end}
+use Rattle.reason_reading.specs.Numbers.{with_digit}
+use Rattle.reason_reading.proofs.Scanning.{turn-digit, turn_gap, turn-found, turn-past, end-found, end-past, end-none}
 use Rattle.reason_reading.proofs.number_at.Goals as goal
 
-pub loop-i-init : goal.loop-i-init
-loop-i-init c = (search rules, omega arith, refl)
+pub loop-b-preserved-in-Some : goal.loop-b-preserved-in-Some
+loop-b-preserved-in-Some c =
+    turn-digit c.args.text.now c.args.k c.loop-b.left c.loop-b.b-index c.loop-b-test.true c.loop-b.number c.in-Some.v
+    (ap (λ (v : ℕ). with_digit v (get_or c.args.text.now c.loop-b.b-index 0)) (sym c.unwrap_or.ensures) ∙ sym c.with_digit.ensures ∙ c.in-Some.is)
+    c.loop-b.invariant
 
-pub overflow_mul-v : goal.overflow_mul-v
-overflow_mul-v c = omega (arith, (digit c.loop-i.v (get_or c.args.text.now c.loop-i.i 0) (sym c.goes_on.ensures ∙ c.if-goes_on.true)).small)
-
-pub overflow_sub-v : goal.overflow_sub-v
-overflow_sub-v c = omega (arith, (digit c.loop-i.v (get_or c.args.text.now c.loop-i.i 0) (sym c.goes_on.ensures ∙ c.if-goes_on.true)).low)
-
-pub overflow_cast-v : goal.overflow_cast-v
-overflow_cast-v c = omega (arith, (digit c.loop-i.v (get_or c.args.text.now c.loop-i.i 0) (sym c.goes_on.ensures ∙ c.if-goes_on.true)).high)
-
-pub overflow_add-v : goal.overflow_add-v
-overflow_add-v c = omega (arith, (digit c.loop-i.v (get_or c.args.text.now c.loop-i.i 0) (sym c.goes_on.ensures ∙ c.if-goes_on.true)).small)
-
-pub loop-i-preserved-then-goes_on : goal.loop-i-preserved-then-goes_on
-loop-i-preserved-then-goes_on c =
-    let x = c.args in (
-      omega arith,
-      (digit c.loop-i.v (get_or c.args.text.now c.loop-i.i 0) (sym c.goes_on.ensures ∙ c.if-goes_on.true)).small,
-      turn-digit x.text.now x.k c.loop-i.left c.loop-i.v c.loop-i.i c.loop-i-test.true c.loop-i.on (sym c.goes_on.ensures ∙ c.if-goes_on.true) c.loop-i.invariant.2,
-    )
-
-pub loop-i-preserved-then-not-on : goal.loop-i-preserved-then-not-on
-loop-i-preserved-then-not-on c =
-    let x = c.args in
-    let off = c.if-not-on.true in (
-      omega arith,
-      omega arith,
-      rw off (turn_gap x.text.now x.k c.loop-i.left c.loop-i.v c.loop-i.i c.loop-i-test.true (sym c.goes_on.ensures ∙ c.if-goes_on.false) (rw off at c.loop-i.invariant.2)),
-    )
+pub loop-b-preserved-in_default-number : goal.loop-b-preserved-in_default-number
+loop-b-preserved-in_default-number c =
+    let none = c.in_default-number.is in
+    rw none
+    (turn_gap c.args.text.now c.args.k c.loop-b.left c.loop-b.b-index c.loop-b-test.true
+    (ap (λ (v : ℕ). with_digit v (get_or c.args.text.now c.loop-b.b-index 0)) (sym (rw none at c.unwrap_or.ensures)) ∙ sym c.with_digit.ensures ∙ c.in_default.is)
+    (rw none at c.loop-b.invariant))
 
 pub returns-then-left-eq0 : goal.returns-then-left-eq0
 returns-then-left-eq0 c =
-    let x = c.args in
-    let on = c.if-not-on.false in
-    turn-found x.text.now x.k c.loop-i.left c.loop-i.v c.loop-i.i c.loop-i-test.true (sym c.goes_on.ensures ∙ c.if-goes_on.false) (rw on at c.loop-i.invariant.2) c.if-left-eq0.true
+    let some = c.in-Some-number.is in
+    turn-found c.args.text.now c.args.k c.loop-b.left c.loop-b.b-index c.loop-b-test.true c.in-Some-number.v
+    (ap (λ (v : ℕ). with_digit v (get_or c.args.text.now c.loop-b.b-index 0)) (sym (rw some at c.unwrap_or.ensures)) ∙ sym c.with_digit.ensures ∙ c.in_default.is)
+    (rw some at c.loop-b.invariant) c.if-left-eq0.true
 
-pub loop-i-preserved : goal.loop-i-preserved
-loop-i-preserved c =
-    let x = c.args in
-    let on = c.if-not-on.false in (
-      omega arith,
-      omega arith,
-      turn-past x.text.now x.k c.loop-i.left c.loop-i.v c.loop-i.i c.loop-i-test.true (sym c.goes_on.ensures ∙ c.if-goes_on.false) (rw on at c.loop-i.invariant.2) (omega arith),
-    )
+pub loop-b-preserved : goal.loop-b-preserved
+loop-b-preserved c =
+    let some = c.in-Some-number.is in
+    turn-past c.args.text.now c.args.k c.loop-b.left c.loop-b.b-index c.loop-b-test.true c.in-Some-number.v
+    (ap (λ (v : ℕ). with_digit v (get_or c.args.text.now c.loop-b.b-index 0)) (sym (rw some at c.unwrap_or.ensures)) ∙ sym c.with_digit.ensures ∙ c.in_default.is)
+    (rw some at c.loop-b.invariant) (omega arith)
 
-pub returns-then-on-left : goal.returns-then-on-left
-returns-then-on-left c = sym (going_end c.args.text.now c.args.k c.loop-i.left c.loop-i.on c.loop-i.v c.loop-i.i c.loop-i-test.false c.loop-i.invariant.2 ∙ rw c.if-on-left.true refl)
+pub returns-in_default-number-2 : goal.returns-in_default-number-2
+returns-in_default-number-2 c =
+    end-none c.args.text.now c.args.k c.loop-b.left c.loop-b.b-index (omega (arith, c.loop-b-test.false)) (rw c.in_default-number-2.is at c.loop-b.invariant)
 
-pub returns-else-on-left : goal.returns-else-on-left
-returns-else-on-left c = sym (going_end c.args.text.now c.args.k c.loop-i.left c.loop-i.on c.loop-i.v c.loop-i.i c.loop-i-test.false c.loop-i.invariant.2 ∙ rw c.if-on-left.false refl)
+pub returns-then-left-eq0-2 : goal.returns-then-left-eq0-2
+returns-then-left-eq0-2 c =
+    end-found c.args.text.now c.args.k c.loop-b.left c.in-Some-number-2.v c.loop-b.b-index (omega (arith, c.loop-b-test.false)) (rw c.in-Some-number-2.is at c.loop-b.invariant) c.if-left-eq0-2.true
+
+pub returns-else-left-eq0-2 : goal.returns-else-left-eq0-2
+returns-else-left-eq0-2 c =
+    end-past c.args.text.now c.args.k c.loop-b.left c.in-Some-number-2.v c.loop-b.b-index (omega (arith, c.loop-b-test.false)) (rw c.in-Some-number-2.is at c.loop-b.invariant) (omega arith)

@@ -9,7 +9,7 @@ pub returns : goal.returns
 unfolding event_holder
 returns c =
     let st = decoded c.args.words.now in
-    c.smaller.ensures
+    c.min.ensures
     ∙ ap₂ min
     (c.line_holder-first.ensures ∙ ap (line_holder st 1 0) c.first_meter.ensures)
     (c.line_holder-own.ensures ∙ ap (line_holder st 1 0) c.own_meter.ensures)

@@ -1,4 +1,4 @@
-use Prim.Native.Nat.{ℕ, ◌-◌}
+use Prim.Native.Nat.{ℕ}
 use mathlib.Core.Bool.{true, false, not}
 use mathlib.Core.Path.{◌≡◌, refl, sym, ap, ◌∙◌}
 use lib.Dec.{eqb}
@@ -19,11 +19,7 @@ loop-v-init c = (search rules, first-none _)
 
 pub returns-then-held_at-ne0 : goal.returns-then-held_at-ne0
 returns-then-held_at-ne0 c =
-    let at-held-at = c.before in
-    let at-loop-test = at-held-at.before in
-    let at-loop = at-loop-test.before in
-    let m = at-held-at.held_at in
-    first_stops _ _ _ true at-loop-test.loop-v-test.true at-loop.loop-v.invariant.1 (some m.result c.if-held_at-ne0.true m.ensures) refl
+    first_stops _ _ _ true c.loop-v-test.true c.loop-v.invariant.1 (some c.held_at.result c.if-held_at-ne0.true c.held_at.ensures) refl
 
 pub loop-v-preserved : goal.loop-v-preserved
 loop-v-preserved c =

@@ -4,22 +4,22 @@ use Rattle.wording.specs.Calls.{call_count}
 use Rattle.wording.specs.Words.{starts_with, call_named}
 use Rattle.wording.proofs.call_named.Goals as goal
 
-pub loop-c-init : goal.loop-c-init
-loop-c-init c = let x = c.args in (search rules, first-none (starts_with x.a x.b x.d))
+pub loop-call-init : goal.loop-call-init
+loop-call-init c = let x = c.args in (search rules, first-none (starts_with x.a x.b x.d))
 
 pub returns-then-starts_with : goal.returns-then-starts_with
 unfolding call_named
 returns-then-starts_with c =
     let x = c.args in
-    first_stops (starts_with x.a x.b x.d) call_count _ _ c.loop-c-test.true c.loop-c.invariant.1 c.starts_with.ensures c.if-starts_with.true
+    first_stops (starts_with x.a x.b x.d) call_count _ _ c.loop-call-test.true c.loop-call.invariant.1 c.starts_with.ensures c.if-starts_with.true
 
-pub loop-c-preserved : goal.loop-c-preserved
-loop-c-preserved c =
+pub loop-call-preserved : goal.loop-call-preserved
+loop-call-preserved c =
     let x = c.args in
-    (search rules, first-turn (starts_with x.a x.b x.d) _ _ c.loop-c.invariant.1 c.starts_with.ensures c.if-starts_with.false)
+    (search rules, first-turn (starts_with x.a x.b x.d) _ _ c.loop-call.invariant.1 c.starts_with.ensures c.if-starts_with.false)
 
 pub returns : goal.returns
 unfolding call_named
 returns c =
     let x = c.args in
-    first_ends (starts_with x.a x.b x.d) call_count _ c.loop-c.invariant.0 c.loop-c-test.false c.loop-c.invariant.1
+    first_ends (starts_with x.a x.b x.d) call_count _ c.loop-call.invariant.0 c.loop-call-test.false c.loop-call.invariant.1

@@ -1,3 +1,4 @@
+use mathlib.Core.Logic.{inl, inr}
 use mathlib.Core.Path.{◌≡◌, refl, sym, ap, ◌∙◌}
 use Prim.Native.Nat.{ℕ, ◌<◌}
 use mathlib.Core.List.{List, []}
@@ -12,12 +13,6 @@ use Rattle.wording.proofs.Returns.{unknown-call, unknown-number}
 use Rattle.wording.proofs.can_return.Goals as goal
 
 -- The code's table is document 01's and 02's: one test over its places.
-pub returns-then-call-ge-CALLS : goal.returns-then-call-ge-CALLS
-returns-then-call-ge-CALLS c = sym (unknown-call _ _ c.if-call-ge-CALLS.true)
-
-pub returns-then-number-ge-NUMBERS : goal.returns-then-number-ge-NUMBERS
-returns-then-number-ge-NUMBERS c = sym (unknown-number _ _ c.if-number-ge-NUMBERS.true)
-
 -- a row for each number, with an x for each call that can return it
 abbrev table : List (List ℕ)
 table = tab number_count (λ n. tab call_count (λ c. cond (can_return c n) 120 32))
@@ -35,3 +30,6 @@ entry c n h l =
 pub returns : goal.returns
 unfolding tab can_return stands_in places one_of one_more
 returns c = let x = c.args in entry x.call x.number (omega arith) (omega arith)
+
+pub returns-then-call-ge-CALLS : goal.returns-then-call-ge-CALLS
+returns-then-call-ge-CALLS c = elim c.then-call-ge-CALLS.either [ inl q ↦ sym (unknown-call _ _ q) | inr q ↦ sym (unknown-number _ _ q.1) ]
