@@ -1,11 +1,8 @@
--- The laws of a table of forms: a form that applies after others that do not, and none.
-use Prim.Native.Nat.{ℕ, zero, suc, ◌<◌}
+-- A form that only one test of the table gives.
 use mathlib.Core.Bool.{Bool, true, false, ◌&&◌}
 use mathlib.Core.List.{List, [], ◌∷◌}
 use mathlib.Core.Path.{◌≡◌, refl, sym, ap, ◌∙◌}
-use lib.ListN.{length, get_or}
-use native.Mathlib.Nat.{not-suc-le-zero, le_of_suc-le-suc}
-use Rattle.bounded.proofs.Tests.{case_on, contradicts, and_right, row-yes, row-no}
+use Rattle.bounded.proofs.Tests.{case_on, contradicts, and_right}
 use Rattle.text.specs.declared.Line.{Line}
 use Rattle.calling.specs.WriteLine.{has_data}
 use Rattle.forms.specs.declared.Ask.{Ask}
@@ -16,38 +13,6 @@ use Rattle.forms.specs.Forms.{is, first_form, forms, form_of}
 
 abbrev pub Table : Type 0
 Table = List (Bool × Form)
-
--- none of the first k forms applies
-abbrev pub Past : Table → ℕ → Type 0
-Past [] k = Unit {0}
-Past (f ∷ fs) zero = Unit {0}
-Past (f ∷ fs) (suc k) = (f.0 ≡ false) × Past fs k
-
-abbrev pub test : Table → ℕ → Bool
-test fs k = (get_or fs k (true, Other)).0
-
-abbrev pub form : Table → ℕ → Form
-form fs k = (get_or fs k (true, Other)).1
-
--- nor does the next
-pub past_more : (fs : Table) (k : ℕ) → Past fs k → test fs k ≡ false → Past fs (suc k)
-past_more [] k p e = tt
-past_more (f ∷ []) zero p e = (e, tt)
-past_more (f ∷ (g ∷ fs)) zero p e = (e, tt)
-past_more (f ∷ fs) (suc k) p e = (p.0, past_more fs k p.1 e)
-
--- form k applies
-pub form-at : (fs : Table) (k : ℕ) → k < length fs → Past fs k → test fs k ≡ true → form fs k ≡ first_form fs
-form-at [] k l p e = absurd (not-suc-le-zero l)
-form-at (f ∷ fs) zero l p e = row-yes f.0 f.1 (first_form fs) e
-form-at (f ∷ fs) (suc k) l p e = row-no f.0 f.1 (first_form fs) (form fs k) p.0 (form-at fs k (le_of_suc-le-suc l) p.1 e)
-
--- none does
-pub form-none : (fs : Table) → Past fs (length fs) → Other ≡ first_form fs
-form-none [] p = refl
-form-none (f ∷ fs) p = row-no f.0 f.1 (first_form fs) Other p.0 (form-none fs p.1)
-
--- ---- a form that only one test gives
 
 -- whether a form is a write
 abbrev pub writes : Form → Bool

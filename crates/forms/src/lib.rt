@@ -5,7 +5,7 @@ ghost use Rattle.std.specs.Prelude.{◌≡◌};
 ghost use Rattle.forms.specs.Forms.{as_line, form_of};
 
 // The calls that a line asks for, beside format and read.
-#[derive(Clone, Copy)]
+#[derive(Clone, Copy, Debug, PartialEq, Eq)]
 pub enum Ask {
     Begin,
     Commit,
@@ -17,7 +17,7 @@ pub enum Ask {
 }
 
 // What a line is.
-#[derive(Clone, Copy)]
+#[derive(Clone, Copy, Debug, PartialEq, Eq)]
 pub enum Form {
     Formats,
     Asks(Ask),
@@ -27,41 +27,22 @@ pub enum Form {
 }
 
 // A line's form.
+#[tactic(auto, unfolding(crate::specs::Forms::form_of))]
 pub fn form_of(formatted: bool, letter: u8, count: usize, numbers: &[u64; 69]) -> Form
     ensures { result ≡ form_of formatted (as_line letter count numbers.now) }
 {
-    if (letter == b'F') & (count == 3) {
-        return Form::Formats;
+    match (letter, count) {
+        (b'F', 3) => Form::Formats,
+        _ if !formatted => Form::Other,
+        (b'B', 1) => Form::Asks(Ask::Begin),
+        (b'C', 1) => Form::Asks(Ask::Commit),
+        (b'A', 1) => Form::Asks(Ask::Abort),
+        (b'W', _) if calling::has_data(count, numbers) => Form::Asks(Ask::Write),
+        (b'R', 4) => Form::Reads,
+        (b'D', 1) => Form::Asks(Ask::Consolidate),
+        (b'P', 0) => Form::Asks(Ask::Checkpoint),
+        (b'X', 0) => Form::Asks(Ask::Mount),
+        (b'K', 1) => Form::Cuts,
+        _ => Form::Other,
     }
-    if !formatted {
-        return Form::Other;
-    }
-    if (letter == b'B') & (count == 1) {
-        return Form::Asks(Ask::Begin);
-    }
-    if (letter == b'C') & (count == 1) {
-        return Form::Asks(Ask::Commit);
-    }
-    if (letter == b'A') & (count == 1) {
-        return Form::Asks(Ask::Abort);
-    }
-    if (letter == b'W') & calling::has_data(count, numbers) {
-        return Form::Asks(Ask::Write);
-    }
-    if (letter == b'R') & (count == 4) {
-        return Form::Reads;
-    }
-    if (letter == b'D') & (count == 1) {
-        return Form::Asks(Ask::Consolidate);
-    }
-    if (letter == b'P') & (count == 0) {
-        return Form::Asks(Ask::Checkpoint);
-    }
-    if (letter == b'X') & (count == 0) {
-        return Form::Asks(Ask::Mount);
-    }
-    if (letter == b'K') & (count == 1) {
-        return Form::Cuts;
-    }
-    Form::Other
 }

@@ -31,10 +31,8 @@ fn put_followed(out: &mut [u8], at: usize, numbers: &[u64]) -> usize
     ensures { Put out.old at (followed numbers.now) out.new result }
 {
     let mut next = at;
-    let mut i = 0;
-    while i < numbers.len() {
-        next = put_marked(out, next, numbers[i], b',');
-        i += 1;
+    for &v in numbers {
+        next = put_marked(out, next, v, b',');
     }
     next
 }

@@ -45,12 +45,10 @@ pub fn perform(
     ensures answers { answers.new ≡ (ran k numbers.now (begun words.old image.old)).answers }
 {
     let mut needed = 0;
-    let mut i = 0;
-    while i < numbers.len() {
-        let t = turn(image, words, numbers[i], i + 1 == numbers.len(), k);
+    for (i, &c) in numbers.iter().enumerate() {
+        let t = turn(image, words, c, i + 1 == numbers.len(), k);
         answers[i] = t.number as u64;
         needed = t.needed;
-        i += 1;
     }
     needed
 }

@@ -8,11 +8,9 @@ ghost use Rattle.sequences.specs.Sequences.{sequence};
 pub fn fill(numbers: &mut [u64], i: u64)
     ensures { numbers.new ≡ sequence (length numbers.old) i }
 {
-    let mut k = numbers.len();
     let mut rest = i;
-    while k > 0 {
-        k -= 1;
+    for k in (0..numbers.len()).rev() {
         numbers[k] = rest % 12 + 1;
-        rest = rest / 12;
+        rest /= 12;
     }
 }

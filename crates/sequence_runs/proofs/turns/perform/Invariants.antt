@@ -1,4 +1,4 @@
-use Prim.Native.Nat.{◌-◌, ◌≤◌}
+use Prim.Native.Nat.{◌≤◌}
 use mathlib.Core.Path.{◌≡◌}
 use lib.ListN.{length}
 use Rattle.sequence_runs.specs.Runs.{ran}
@@ -10,6 +10,3 @@ use Rattle.sequence_runs.proofs.turns.perform.Given as goal
 abbrev pub invariant-loop-i : goal.invariant-loop-i
 invariant-loop-i l = (l.i ≤ length l.numbers) × (length l.image ≡ length l.initial.image) × (length l.answers ≡ length l.initial.answers)
     × Reached l.k l.numbers l.i l.answers l.needed l.words l.image (ran l.k l.numbers (begun l.initial.words l.initial.image))
-
-abbrev pub decreases-loop-i : goal.decreases-loop-i
-decreases-loop-i l = length l.numbers - l.i
