@@ -117,9 +117,9 @@ if "--names" in sys.argv:
 declared = dict(prototypes())
 compare("function", declared, library | dict(exports("recalling_c")))
 
-answers = open("crates/answers/src/lib.rt", encoding="utf-8").read()
-rows = {snake(name): int(n) for name, n in re.findall(r"Answer::(\w+)(?:\(_\))? => (\d+),", answers)}
-compare("answer", constants("badgerdross_answer"), rows)
+rows = open("crates/rows/src/lib.rt", encoding="utf-8").read()
+answers = {"TAKEN": 0} | {snake(name): int(n) for name, n in re.findall(r"Refusal::(\w+) => (\d+),", rows)}
+compare("answer", constants("badgerdross_answer"), answers)
 
 wording = open("crates/wording/specs/Calls.antt", encoding="utf-8").read()
 numbers = {name: int(n) for name, n in re.findall(r"^(\w+) = (\d+)$", wording, re.M) if not name.endswith("_count")}
@@ -145,5 +145,5 @@ for comment, code in re.findall(r"/\*((?:(?!\*/).)*?)\*/\s*((?:size_t badgerdros
 compare("answers of", told, returned)
 
 print(*problems, sep="\n", end="\n" if problems else "")
-print(f"header: {len(declared)} functions, {len(rows)} answers, {len(told)} calls with theirs, {len(problems)} differ")
+print(f"header: {len(declared)} functions, {len(answers)} answers, {len(told)} calls with theirs, {len(problems)} differ")
 sys.exit(len(problems) > 0 or len(library) < 20)

@@ -171,7 +171,7 @@ class Function:
     def refuses(self):
         """Whether its contract tells a row's number, an answer or what turns a call back."""
         contract = "\n".join(self.lines).split("\n{\n")[0].partition("ensures")[2]
-        return bool(re.search(r"refusal|Row|_row|turned_back|answered_at|Found|Leaves|Started|Keeps|mount_of|read_of|load_of", contract))
+        return bool(re.search(r"refusal|Row|row_of|_row|answered_at|Decides|Judges|Found|Leaves|Started|Keeps|mount_of|read_of|load_of", contract))
 
 
 def functions():
@@ -190,12 +190,12 @@ for f in CODE:
 
 
 def answers():
-    return {int(n): name for name, n in re.findall(r"Answer::(\w+)(?:\(_\))? => (\d+),", read("crates/answers/src/lib.rt"))}
+    return {int(n): name for name, n in re.findall(r"Refusal::(\w+) => (\d+),", read("crates/rows/src/lib.rt"))}
 
 
 def returning(number, answer):
     """The functions that return a number, with the lines of the row: from its `if` to the return."""
-    said = re.compile(rf"(?:return|\{{) (?:turned_back\(|refused\()?(?:{number}|Answer::{answer})\)?(?:;| \}})")
+    said = re.compile(rf"Err\(Refusal::{answer}\)")
     for f in CODE:
         hits = [k for k, line in enumerate(f.lines) if said.search(line)]
         for k in hits if f.refuses() else []:
@@ -289,7 +289,7 @@ def section(number, calls, told, answer):
         tried += of_lines(path, span(resolved(path, name)))
     for f in [BY_NAME[name][0] for name in sorted(named) if len(BY_NAME.get(name, [])) == 1]:
         tried += of_lines(f.path, range(f.start, f.start + len(f.lines)))
-    out = [f"## {number}: {told}", "", wrapped("Answer", [f"`Answer::{answer}`, `BADGERDROSS_" + re.sub(r"(?<!^)([A-Z])", r"_\1", answer).upper() + "`"])]
+    out = [f"## {number}: {told}", "", wrapped("Answer", [f"`Refusal::{answer}`, `BADGERDROSS_" + re.sub(r"(?<!^)([A-Z])", r"_\1", answer).upper() + "`"])]
     out.append(wrapped("Calls", [", ".join(calls)]))
     out.append(wrapped("Defined", (["by " + part for part in by_file(tests)[:1]] + by_file(tests)[1:]) + ["in " + ", ".join(by_file(tables))]))
     out.append(wrapped("Code", by_file([(f.path, f.name) for f, _, _ in code])))
