@@ -13,14 +13,12 @@ pub fn find(input: &[u8], from: usize, to: usize, b: u8) -> usize
     ensures value { result ≡ from + index_of b (slice from to input.now) }
     ensures within { result ≤ to }
 {
-    let mut at = from;
-    while at < to {
+    for at in from..to {
         if input[at] == b {
             return at;
         }
-        at += 1;
     }
-    at
+    to
 }
 
 // Where the line that goes on at byte `from` ends: the next newline, or the input's end.
@@ -30,14 +28,7 @@ pub fn line_end(input: &[u8], from: usize) -> usize
     if from > input.len() {
         return input.len();
     }
-    find(input, from, input.len(), 10)
-}
-
-// What is left of a after b.
-fn left(a: usize, b: usize) -> usize
-    ensures { result ≡ a - b }
-{
-    if a < b { 0 } else { a - b }
+    find(input, from, input.len(), b'\n')
 }
 
 // Adds the input's bytes from `from` up to `to`, as many as fit, to a line that has its first `have` bytes, and gives
@@ -46,9 +37,8 @@ pub fn keep(line: &mut [u8], have: usize, input: &[u8], from: usize, to: usize) 
     ensures line_after { line.new ≡ over line.old have (fitting line.old have input.now from to) }
     ensures value { result ≡ have + length (fitting line.old have input.now from to) }
 {
-    let room = left(line.len(), have);
-    let piece = bounded::smaller(left(to, from), left(input.len(), from));
-    let n = bounded::smaller(room, piece);
+    let room = line.len().saturating_sub(have);
+    let n = to.min(input.len()).saturating_sub(from).min(room);
     if n == 0 {
         return have;
     }

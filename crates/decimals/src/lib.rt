@@ -10,6 +10,7 @@ fn width(v: u64) -> usize
     ensures { result ≡ length (decimal_of v) }
 {
     let mut n = 1;
+    // A loop until nothing is left, which counts the digits; no index to count.
     let mut rest = v / 10;
     while rest > 0 {
         n += 1;

@@ -9,10 +9,8 @@ pub fn hash(bytes: &[u8]) -> u64
     ensures { result ≡ hash_of bytes.now }
 {
     let mut h: u64 = 0;
-    let mut i = 0;
-    while i < bytes.len() {
-        h = (31 * h + bytes[i] as u64) % 4294967291;
-        i += 1;
+    for byte in bytes {
+        h = (31 * h + u64::from(*byte)) % 4294967291;
     }
     h
 }

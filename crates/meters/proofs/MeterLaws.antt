@@ -1,8 +1,8 @@
 -- Laws of the meters' numbers: what a known event and a taken amount tell.
-use Prim.Native.Nat.{ℕ, zero, suc, ◌+◌, ◌-◌, ◌%◌, ◌<◌, ◌≤◌}
-use mathlib.Core.Bool.{Bool, true, false, ◌&&◌, ◌||◌, not, cond}
+use Prim.Native.Nat.{ℕ, ◌+◌, ◌-◌, ◌%◌, ◌<◌, ◌≤◌}
+use mathlib.Core.Bool.{Bool, true, false, ◌&&◌, ◌||◌, not}
 use mathlib.Core.List.{List}
-use mathlib.Core.Path.{◌≡◌, refl, sym, ap, ◌∙◌}
+use mathlib.Core.Path.{◌≡◌, refl, sym, ◌∙◌}
 use native.Mathlib.Nat.{mod-add-mod, add-mod-mod, mod-lt}
 use native.Mathlib.Omega.{arith}
 use lib.Dec.{ltb, leb, eqb}
@@ -12,7 +12,7 @@ use Rattle.bounded.specs.Below.{all_below}
 use Rattle.bounded.specs.Tab.{tab}
 use Rattle.bounded.proofs.Below.{all-at}
 use Rattle.bounded.proofs.Tab.{get_or-tab}
-use Rattle.bounded.proofs.Tests.{case_on, contradicts, and_left, and_right, or_left, or_right}
+use Rattle.bounded.proofs.Tests.{case_on, and_left, and_right, or_left, or_right}
 use Rattle.meters.specs.Meters.{modulus_bad, moduli_ok, modulus_of, fixed_modulus, fixed_moduli, event_known, moves_credit, own_meter, first_meter, adds, rolled, credit_after, first_number, credit_bad, amount_bad}
 
 -- ---- moduli

@@ -1,7 +1,7 @@
 -- The meters and their events (document 02, L2 and L10). Meter m is the first word of line m of page 0. Meter 0 is credit, 1 cash in, 2 cash out,
 -- 3 bet, 4 won. The events 1 to 4 move credit and the meter of their own number; event 5 is a count, which moves one of meters 5 to 23. An event is lent
 -- the moduli, ms.
-use Rattle.std.specs.Prelude.{ℕ, ◌+◌, ◌-◌, ◌*◌, ◌%◌, Bool, ◌&&◌, ◌||◌, not, cond, List, ltb, leb, eqb, length, get_or}
+use Rattle.std.specs.Prelude.{ℕ, ◌+◌, ◌-◌, ◌%◌, Bool, ◌&&◌, ◌||◌, not, cond, List, ltb, leb, eqb, length, get_or}
 use Rattle.bounded.specs.Below.{all_below}
 use Rattle.bounded.specs.Tab.{tab}
 

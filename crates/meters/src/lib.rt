@@ -1,7 +1,8 @@
 // Meters and their events: the moduli, the events that there are, and a meter's new number.
 #![tactic(auto)]
 
-ghost use Rattle.std.specs.Prelude.{◌≡◌, true, false, ◌+◌, ◌^◌, ◌<◌, ◌≤◌};
+ghost use Rattle.std.specs.Prelude.{◌≡◌, true, false, not, ◌+◌, ◌^◌, ◌<◌, ◌≤◌};
+ghost use Rattle.std.specs.List.{list_all};
 ghost use Rattle.meters.specs.Meters.{modulus_bad, moduli_ok, fixed_moduli, adds, modulus_of, event_known, moves_credit, own_meter, first_meter, event_needs};
 ghost use Rattle.meters.specs.Meters.{rolled, credit_after, first_number, credit_bad, amount_bad};
 
@@ -26,21 +27,18 @@ pub fn modulus_bad(modulus: u64) -> bool
     (modulus < 100) | (1000000000000 < modulus)
 }
 
+// Whether each of these is in the range.
+fn are_in_range(moduli: &[u64]) -> bool
+    ensures { result ≡ list_all (λ modulus. not (modulus_bad modulus)) moduli.now }
+{
+    moduli.iter().all(|modulus| !modulus_bad(*modulus))
+}
+
 // Whether these are 24 moduli in the range.
 pub fn moduli_ok(moduli: &[u64]) -> bool
     ensures { result ≡ moduli_ok moduli.now }
 {
-    if moduli.len() != 24 {
-        return false;
-    }
-    let mut m = 0;
-    while m < 24 {
-        if modulus_bad(moduli[m]) {
-            return false;
-        }
-        m += 1;
-    }
-    true
+    moduli.len() == 24 && are_in_range(moduli)
 }
 
 // The modulus of meter m.

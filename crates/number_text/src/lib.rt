@@ -20,10 +20,8 @@ pub fn put_numbers(out: &mut [u8], at: usize, numbers: &[u64]) -> usize
     ensures { Put out.old at (blanked numbers.now) out.new result }
 {
     let mut next = at;
-    let mut i = 0;
-    while i < numbers.len() {
-        next = put_after(out, next, b' ', numbers[i]);
-        i += 1;
+    for number in numbers {
+        next = put_after(out, next, b' ', *number);
     }
     next
 }

@@ -45,10 +45,8 @@ fn numbers(letter: u8, text: &[u8], digits: usize) -> Line
     let mut count: usize = 0;
     let mut n: usize = 0;
     let mut v: u64 = 0;
-    let mut i = 0;
-    while i < text.len() {
-        let b = text[i];
-        if b == 44 {
+    for b in text {
+        if *b == b',' {
             if !closes_field(n, count) {
                 return other_form();
             }
@@ -56,15 +54,13 @@ fn numbers(letter: u8, text: &[u8], digits: usize) -> Line
             count += 1;
             n = 0;
             v = 0;
-            i += 1;
-        } else {
-            if !takes_digit(digits, n, v, b) {
-                return other_form();
-            }
-            v = 10 * v + (b - 48) as u64;
-            n += 1;
-            i += 1;
+            continue;
         }
+        if !takes_digit(digits, n, v, *b) {
+            return other_form();
+        }
+        v = 10 * v + (*b - b'0') as u64;
+        n += 1;
     }
     if !closes_field(n, count) {
         return other_form();

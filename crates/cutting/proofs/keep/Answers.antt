@@ -10,15 +10,15 @@ use Rattle.cutting.proofs.keep.Goals as goal
 pub returns-then-n-eq0 : goal.returns-then-n-eq0
 returns-then-n-eq0 c =
     let x = c.args in
-    let m : c.smaller-n.result ≡ length (fitting x.line.now x.have x.input.now x.from x.to) = cc (length-fitting x.line.now x.have x.input.now x.from x.to) in
+    let m : c.min-n.result ≡ length (fitting x.line.now x.have x.input.now x.from x.to) = omega (arith, length-fitting x.line.now x.have x.input.now x.from x.to) in
     let e : length (fitting x.line.now x.have x.input.now x.from x.to) ≡ 0 = sym m ∙ c.if-n-eq0.true in
     record { line_after = keeps-none x.line.now x.have x.input.now x.from x.to e; value = omega arith }
 
 pub returns : goal.returns
 returns c =
     let x = c.args in
-    let n = c.smaller-n.result in
-    let m : n ≡ length (fitting x.line.now x.have x.input.now x.from x.to) = cc (length-fitting x.line.now x.have x.input.now x.from x.to) in
+    let n = c.min-n.result in
+    let m : n ≡ length (fitting x.line.now x.have x.input.now x.from x.to) = omega (arith, length-fitting x.line.now x.have x.input.now x.from x.to) in
     let f : x.from + n ≤ length x.input.now = omega arith in
     let g : x.have + n ≤ length x.line.now = omega arith in
     record {
