@@ -1,26 +1,26 @@
 -- The homes of pages: the originals put over the pages' own frames, slot by slot, are each page's home, since no page is
 -- in two slots.
 use mathlib.Core.Path.{◌≡◌, refl, sym, ap, ap₂, ◌∙◌, subst}
-use mathlib.Core.Bool.{Bool, true, false, not, cond, ◌||◌}
-use mathlib.Core.List.{List, [], ◌∷◌, ◌++◌, append_assoc}
-use Prim.Native.Nat.{ℕ, zero, suc, ◌+◌, ◌-◌, ◌≤◌, ◌<◌}
+use mathlib.Core.Bool.{Bool, true, not}
+use mathlib.Core.List.{List, ◌++◌}
+use Prim.Native.Nat.{ℕ, zero, suc, ◌+◌, ◌≤◌, ◌<◌}
 use native.Mathlib.Nat.{not-suc-le-zero}
 use native.Mathlib.Omega.{arith}
 use lib.Dec.{ltb, eqb}
-use lib.ListN.{length, get_or, set, take, drop, length-set, length-append, length-take, length-drop}
-use lib.Seq.{ext_get_or, get_or-set_same, get_or-set_other, take_at, drop_at, drop-drop}
-use borrow.Author.Tests.{ltb-true, ltb-false, lt-ltb, eqb-true, eqb-false, eq-eqb, ne_eqb, not-true, not-false}
+use lib.ListN.{length, get_or, set, length-set, length-append}
+use lib.Seq.{ext_get_or, get_or-set_same, get_or-set_other}
+use borrow.Author.Tests.{ltb-true, ltb-false, lt-ltb, eqb-true, eqb-false, eq-eqb, ne_eqb, not-true}
 use Rattle.bounded.specs.Below.{up_to, all_below, first_below}
 use Rattle.bounded.specs.Count.{each_once}
 use Rattle.bounded.specs.Tab.{tab, filled}
 use Rattle.bounded.proofs.Tests.{case_on, contradicts}
-use Rattle.bounded.proofs.Below.{split_below, all-at, first-le, first_holds, first-before, up-keeps}
+use Rattle.bounded.proofs.Below.{split_below, all-at, first_holds, first-before, up-keeps}
 use Rattle.bounded.proofs.Tab.{length-tab, get_or-tab, length-filled, get_or-filled}
 use Rattle.layout.specs.declared.Sizes.{Sizes}
 use Rattle.layout.specs.Layout.{Legal, frames}
 use Rattle.replay.specs.declared.Table.{Table}
 use Rattle.journal.specs.Slots.{no_page}
-use Rattle.replay.specs.Table.{page_apart, pages_apart, slot_in, slot_of, home_of, frame_names}
+use Rattle.replay.specs.Table.{page_apart, pages_apart, slot_in, home_of, frame_names}
 use Rattle.names.specs.Homes.{original_put, originals_put}
 
 -- the first of two tests fails, so the whole is the second

@@ -18,10 +18,8 @@ fn put_spares(names: &mut [u64], z: Sizes, spare: &[usize; 16])
     requires { Legal z × (length names.old ≡ z.slots) }
     ensures { names.new ≡ tab z.slots (λ s. get_or spare.now s 0) }
 {
-    let mut s = 0;
-    while s < z.slots {
+    for s in 0..z.slots {
         names[s] = spare[s] as u64;
-        s += 1;
     }
 }
 
@@ -30,10 +28,8 @@ fn put_words(homes: &mut [u64], image: &[u8], z: Sizes)
     requires { Legal z × (image_length z ≤ length image.now) × (length homes.old ≡ z.pages) }
     ensures { homes.new ≡ tab z.pages (page_frames (word image.now)) }
 {
-    let mut p = 0;
-    while p < z.pages {
+    for p in 0..z.pages {
         homes[p] = image_words::read_word(image, layout::page_word(p));
-        p += 1;
     }
 }
 
@@ -42,13 +38,11 @@ fn put_originals<'a>(homes: &mut [u64], z: Sizes, page: &'a [usize; 16], origina
     requires { Legal z × (length homes.old ≡ z.pages) }
     ensures { homes.new ≡ originals_put z page.now original.now z.slots homes.old }
 {
-    let mut s = 0;
-    while s < z.slots {
+    for s in 0..z.slots {
         let p = page[s];
         if p < z.pages {
             homes[p] = original[s] as u64;
         }
-        s += 1;
     }
 }
 
@@ -77,11 +71,9 @@ fn names_once(image: &[u8], z: Sizes, t: Table) -> bool
     requires { Legal z × (image_length z ≤ length image.now) × (pages_apart z t.page ≡ true) }
     ensures { result ≡ each_once (frames z) (frame_names (page_frames (word image.now)) z t) }
 {
-    let s = z.slots;
-    let p = z.pages;
     let mut spares = [0u64; 16];
     let mut homes = [0u64; 1024];
-    put_both(&mut spares[0..s], &mut homes[0..p], image, z, t)
+    put_both(&mut spares[..z.slots], &mut homes[..z.pages], image, z, t)
 }
 
 // Whether the slots after replay and the page table keep row 7.
@@ -89,11 +81,5 @@ pub fn table_ok(image: &[u8], z: Sizes, t: Table) -> bool
     requires { Legal z × (image_length z ≤ length image.now) }
     ensures { result ≡ table_ok (page_frames (word image.now)) z t }
 {
-    if !replay::slots_shaped(z, &t) {
-        return false;
-    }
-    if !replay::pages_apart(z, &t.page) {
-        return false;
-    }
-    names_once(image, z, t)
+    replay::slots_shaped(z, &t) && replay::pages_apart(z, &t.page) && names_once(image, z, t)
 }

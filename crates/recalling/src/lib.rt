@@ -1,11 +1,10 @@
 // Recall, for a host screen written in C: it mounts, copies one committed line, which is that of its entry where there is one, and forgets.
 #![tactic(auto)]
 
-ghost use Rattle.std.specs.Prelude.{◌≡◌, ◌<◌, ◌≤◌, length};
+ghost use Rattle.std.specs.Prelude.{◌≡◌, ◌==◌, ◌<◌, ◌≤◌, length, position, take};
 ghost use Rattle.layout.specs.Layout.{Legal, image_length};
 ghost use Rattle.words.specs.Words.{word};
 ghost use Rattle.replay.specs.Map.{page_frames};
-ghost use Rattle.state.specs.Slots.{slot_of_page};
 ghost use Rattle.rows.specs.Numbers.{row_of};
 ghost use Rattle.refinement.specs.Recall.{frame_of, recall_row, recall_bytes};
 
@@ -13,31 +12,23 @@ use layout::Sizes;
 use replay::Table;
 use rows::Refusal;
 
-// The slot of page p, or S where it has none.
-fn slot_of(z: Sizes, page: &[usize; 16], p: usize) -> usize
+// The slot of page p.
+fn slot_of(z: Sizes, page: &[usize; 16], p: usize) -> Option<usize>
     requires { Legal z }
-    ensures { result ≡ slot_of_page z page.now p }
+    ensures { result ≡ position (λ q. q == p) (take z.slots page.now) }
 {
-    let mut s = 0;
-    while s < z.slots {
-        if page[s] == p {
-            return s;
-        }
-        s += 1;
-    }
-    z.slots
+    page[..z.slots].iter().position(|q| *q == p)
 }
 
 // The frame with the committed copy of a page's line.
-fn recall_frame(image: &[u8], z: Sizes, t: Table, page: usize, line: usize) -> usize
+fn recall_frame(image: &[u8], z: Sizes, t: &Table, page: usize, line: usize) -> usize
     requires { Legal z × (page < z.pages) × (line < 64) × (image_length z ≤ length image.now) }
-    ensures { result ≡ frame_of (page_frames (word image.now)) z t page line }
+    ensures { result ≡ frame_of (page_frames (word image.now)) z t.now page line }
 {
-    let s = slot_of(z, &t.page, page);
-    if s < z.slots {
-        return frames::committed_frame(replay::slot_in(t, s), line);
+    match slot_of(z, &t.page, page) {
+        Some(s) => frames::committed_frame(replay::slot_at(t, s), line),
+        None => image_words::read_word(image, layout::page_word(page)) as usize,
     }
-    image_words::read_word(image, layout::page_word(page)) as usize
 }
 
 // Copies the committed line of a page to the target's start, which a refusal leaves as it is.
@@ -54,7 +45,7 @@ fn copy_line(page: usize, line: usize, image: &[u8], target: &mut [u8]) -> Resul
         entry_lines::read_entry(image, m.sizes, e, target);
         return Ok(());
     }
-    let f = recall_frame(image, m.sizes, m.table, page, line);
+    let f = recall_frame(image, m.sizes, &m.table, page, line);
     lines::read_line(image, m.sizes, f, line, target);
     Ok(())
 }

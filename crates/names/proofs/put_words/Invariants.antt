@@ -1,5 +1,4 @@
 use mathlib.Core.Path.{◌≡◌}
-use Prim.Native.Nat.{◌≤◌, ◌-◌}
 use lib.ListN.{length}
 use Rattle.bounded.specs.Tab.{filled}
 use Rattle.words.specs.Words.{word}
@@ -8,7 +7,4 @@ use Rattle.names.proofs.put_words.Given as goal
 
 -- After p turns the first p homes are set; at the end that is all of them.
 abbrev pub invariant-loop-p : goal.invariant-loop-p
-invariant-loop-p l = (l.p ≤ l.z.pages) × (length l.homes ≡ l.z.pages) × (l.homes ≡ filled l.p (page_frames (word l.image)) l.initial.homes)
-
-abbrev pub decreases-loop-p : goal.decreases-loop-p
-decreases-loop-p l = l.z.pages - l.p
+invariant-loop-p l = (length l.homes ≡ l.fn.z.pages) × (l.homes ≡ filled l.p (page_frames (word l.image)) l.initial.homes)
