@@ -7,6 +7,7 @@ ghost use Rattle.refinement.specs.Calls.{read_row, read_bytes};
 ghost use Rattle.state_words.specs.Decoded.{decoded};
 
 use answers::Answer;
+use rows::Refusal;
 use state_words::Words;
 
 // Reads a line as a writer sees it, a wide one its own entry first.
@@ -24,20 +25,17 @@ pub fn read(
 {
     let z = state_words::sizes_in(words);
     let at = state_words::places_in(words);
-    let row = call_rows::quiet_row(z, at, words, image.len());
-    if row != 0 {
-        return answers::answer_of(row, 0);
-    }
+    call_rows::quiet_row(z, at, words, image.len())?;
     if (writer > 3) | (page >= z.pages) | (line > 63) | (target.len() < 64) {
-        return Answer::BadArgument;
+        return Err(Refusal::BadArgument);
     }
     let e = state_lines::own_entry(at, words, writer, page, line);
     if e < at.count {
         entry_lines::read_entry(image, z, e, target);
-        return Answer::Taken(0);
+        return Ok(0);
     }
     let s = state_held::slots::slot_of(z, words, page);
     let seen = state_lines::seen_frame(z, words, writer, page, s, line);
     lines::read_line(image, z, seen, line, target);
-    Answer::Taken(0)
+    Ok(0)
 }
