@@ -23,9 +23,6 @@ pub fn ask_for(image: &mut [u8], words: &mut Words, op: Op, until: Until) -> Ans
 {
     let z = state_words::sizes_in(words);
     let at = state_words::places_in(words);
-    let row = call_rows::asking::ask_row(z, at, words, op, image.len());
-    if row != 0 {
-        return answers::answer_of(row, 0);
-    }
+    call_rows::asking::ask_row(z, at, words, op, image.len())?;
     op_stores::ask(image, z, at, words, op, until)
 }

@@ -1,4 +1,4 @@
--- What the first rows leave, the words after a call that changes one where it is taken, and the states that the calls leave.
+-- The states that the calls leave.
 use Prim.Native.Nat.{ℕ, ◌<◌}
 use mathlib.Core.Bool.{true, false, cond}
 use mathlib.Core.List.{List}
@@ -7,34 +7,20 @@ use native.Mathlib.Omega.{arith}
 use borrow.Author.Tests.{eq-eqb, ne_eqb, ltb-false}
 use lib.Dec.{eqb}
 use lib.ListN.{set}
-use Rattle.bounded.specs.Rows.{Row, refusal, Past}
+use Rattle.bounded.specs.Rows.{refusal, Past}
 use Rattle.bounded.proofs.Rows.{none-apply}
 use Rattle.layout.specs.declared.Sizes.{Sizes}
 use Rattle.state.specs.State.{State}
 use Rattle.state.specs.Held.{let_go}
 use Rattle.state.specs.Wide.{wide_of, no_wide}
 use Rattle.refinement.specs.Commit.{closed_writer}
-use Rattle.refinement.specs.Outcome.{Outcome, answered}
 use Rattle.refinement.specs.Settled.{with_writers, with_wide}
 use Rattle.refinement.proofs.Begun.{beginning_wide, aborting}
-use Rattle.answers.specs.declared.Answer.{Answer}
-use Rattle.answers.specs.Answers.{number_of, answered_at}
+use Rattle.rows.specs.declared.Refusal.{Refusal}
+use Rattle.rows.specs.Numbers.{number}
+use Rattle.rows.proofs.Numbers.{number-some}
 use Rattle.state_words.specs.Decoded.{with_opened, with_held}
 use Rattle.call_begin.specs.First.{first_rows}
-
--- none of the first rows applies
-module _ (st : State) (w row : ℕ) (e : row ≡ refusal (first_rows st w)) (n : row ≡ 0) where
-  pub first_past : Past (first_rows st w) 3
-  first_past = none-apply (first_rows st w) (omega arith) (sym e ∙ n)
-
-  pub first-low : w < 4
-  first-low = omega (arith, ltb-false 3 w first_past.1.1.0)
-
-pub kept-words : (a : Answer) (st after : State) (rs : List Row) (row : ℕ) (c d : List ℕ) → row ≡ refusal rs → (row ≡ 0 → ⊥) → answered_at a st ≡ answered (refusal rs) st 0 after
-    → c ≡ cond (eqb (number_of a) 0) d c
-kept-words a st after rs row c d e n h =
-    let k : number_of a ≡ row = ap (λ (o : Outcome). o.number) h ∙ sym e in
-    rw (k, ne_eqb row 0 n)
 
 -- a wide begin's three changes one after the other
 pub wide-begun : (st s1 s2 s3 : State) (w : ℕ) → s1 ≡ with_writers st (with_opened st.writers (set st.writers.opened w true)) → s2 ≡ with_wide s1 no_wide

@@ -19,8 +19,8 @@ use Rattle.refinement.specs.Commit.{commit_at_of, commit_value_of, commit_done}
 use Rattle.refinement.specs.Stores.{store_at, store_value, stores_made, completed, with_made, state_after}
 use Rattle.refinement.specs.Calls.{asked}
 use Rattle.refinement.proofs.Going.{ranges-of}
-use Rattle.answers.specs.declared.Answer.{Answer}
-use Rattle.answers.specs.declared.Answer.TheVariants.{Taken}
+use Rattle.std.specs.Prelude.{Ok}
+use Rattle.answers.specs.Answers.{Answer}
 use Rattle.op_pieces.specs.declared.Piece.{Piece}
 use Rattle.op_pieces.specs.Pieces.{Next}
 use Rattle.op_writer.specs.Served.{Served}
@@ -91,8 +91,8 @@ module _ (z : Sizes) (at : Places) (st : State) (w : ℕ) (h : Allowed z at st (
         let cs : Commits z at pending w c = record { served = put-served z at st img (without_lines z at st (Commit w) h) asks; op = refl; none_made = refl; counted = ec } in
         (subst (λ (s : State). Commits z at s w c) (sym e) cs, all ∙ ap (λ (s : State). needs s (Commit w)) (sym e), few)
 
-    pub went : (now : State) (u : Until) (k : ℕ) (a : Answer) (bs : List ℕ) (after : State) → now ≡ put st (without_lines z at st (Commit w) h) → k ≡ budget_in u (Commit w) 0 n → a ≡ Taken n
+    pub went : (now : State) (u : Until) (k : ℕ) (a : Answer) (bs : List ℕ) (after : State) → now ≡ put st (without_lines z at st (Commit w) h) → k ≡ budget_in u (Commit w) 0 n → a ≡ Ok n
         → bs ≡ stores_made now k img → after ≡ state_after now k → Started a after bs (asked 0 st (Commit w) (replicate 8 0)) img u
     went now u k a bs after e ek ea eb es =
         let b : k ≡ budget u pending = put-budget z at st img (without_lines z at st (Commit w) h) asks u n k en ek in
-        started-asked z at st img (without_lines z at st (Commit w) h) asks u a bs after (ea ∙ ap Taken en) (eb ∙ ap₂ (λ (s : State) (m : ℕ). stores_made s m img) e b) (es ∙ ap₂ state_after e b) [] 0 refl refl refl
+        started-asked z at st img (without_lines z at st (Commit w) h) asks u a bs after (ea ∙ ap Ok en) (eb ∙ ap₂ (λ (s : State) (m : ℕ). stores_made s m img) e b) (es ∙ ap₂ state_after e b) [] refl refl

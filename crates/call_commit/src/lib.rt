@@ -1,14 +1,13 @@
 // Commits on a state in words. A narrow writer's has a loop of its own: the one that finds pieces by operation takes a third more instructions.
 #![tactic(auto)]
 
-ghost use Rattle.std.specs.Prelude.{true, ◌≡◌, ◌≤◌, length, replicate};
+ghost use Rattle.std.specs.Prelude.{true, ◌≡◌, ◌≤◌, length, replicate, Ok};
 ghost use Rattle.layout.specs.Layout.{image_length};
 ghost use Rattle.state.specs.declared.Op.TheVariants.{Commit};
 ghost use Rattle.operations.specs.Operations.{needs};
 ghost use Rattle.validity.specs.Validity.{state_ok};
 ghost use Rattle.refinement.specs.Stores.{stores_made, state_after};
 ghost use Rattle.refinement.specs.Calls.{asked, commit_of};
-ghost use Rattle.answers.specs.declared.Answer.TheVariants.{Taken};
 ghost use Rattle.answers.specs.Answers.{number_of};
 ghost use Rattle.op_stores.specs.Asks.{Allowed};
 ghost use Rattle.op_stores.specs.Started.{Started};
@@ -18,6 +17,7 @@ ghost use Rattle.call_commit.specs.Commits.{Commits};
 use answers::Answer;
 use layout::Sizes;
 use op_stores::Until;
+use rows::Refusal;
 use state::{Op, Pending, Places};
 use state_words::Words;
 
@@ -27,6 +27,7 @@ fn store_commit(image: &mut [u8], z: Sizes, at: Places, words: &Words, w: usize,
     ensures { image.new ≡ stores_made (decoded words.now) n image.old }
 {
     let mut i = 0;
+    // A turn makes as many stores as its piece has left, so no range steps as i does.
     while i < n {
         let p = op_commit::piece::commit_piece(z, at.head, words, w, c, i);
         let m = bounded::smaller(p.count - p.from, n - i);
@@ -68,7 +69,7 @@ fn commit_narrow(
     until: Until,
 ) -> Answer
     requires { Allowed z at (decoded words.old) (Commit w) × (image_length z ≤ length image.old) }
-    ensures answer { result ≡ Taken (needs (decoded words.old) (Commit w)) }
+    ensures answer { result ≡ Ok (needs (decoded words.old) (Commit w)) }
     ensures started { Started result (decoded words.new) image.new
         (asked 0 (decoded words.old) (Commit w) (replicate 8 0)) image.old until }
 {
@@ -76,7 +77,7 @@ fn commit_narrow(
     let n = needs::commit_needs(c);
     if n == 0 {
         op_commit::complete_commit(z, words, w);
-        return Answer::Taken(0);
+        return Ok(0);
     }
     let op = Op::Commit { writer: w };
     let none = [0u64; 8];
@@ -89,7 +90,7 @@ fn commit_narrow(
     state_pending::put_pending(words, p);
     let k = op_stores::budget(until, op, 0, n);
     go_on(image, z, at, words, w, c, n, k);
-    Answer::Taken(n)
+    Ok(n)
 }
 
 // Commit on a state that row 8 accepts.
@@ -106,10 +107,7 @@ pub fn commit_valid(
         (commit_of (decoded words.old) image.old writer) image.old until }
     ensures words { (number_of result ≡ 0 → ⊥) → words.new ≡ words.old }
 {
-    let row = call_rows::commit_row(z, at, words, writer, image.len());
-    if row != 0 {
-        return answers::answer_of(row, 0);
-    }
+    call_rows::commit_row(z, at, words, writer, image.len())?;
     if at.wide == writer {
         return op_stores::ask(image, z, at, words, Op::Copy, until);
     }
@@ -125,7 +123,7 @@ pub fn commit(image: &mut [u8], words: &mut Words, writer: usize, until: Until) 
     let z = state_words::sizes_in(words);
     let at = state_words::places_in(words);
     if !state_rules::state_ok(z, at, words) {
-        return Answer::BadState;
+        return Err(Refusal::BadState);
     }
     commit_valid(image, z, at, words, writer, until)
 }

@@ -5,6 +5,7 @@ use mathlib.Core.List.{List, [], ◌∷◌, ◌++◌}
 use mathlib.Core.Path.{◌≡◌, refl, sym, ap, ap₂, ◌∙◌}
 use native.Mathlib.Omega.{arith}
 use lib.ListN.{length, replicate}
+use Rattle.std.specs.Prelude.{Ok}
 use borrow.Author.Tests.{not-false, ne_eqb, ltb-false}
 use Rattle.bounded.specs.Rows.{Row, refusal, Past}
 use Rattle.bounded.proofs.Rows.{none-apply, row-none, rows-first, rows_then}
@@ -107,27 +108,26 @@ number-bytes v l d n e = e ∙ over-whole l (bytes_of 8 v) (length-bytes 8 v ∙
 
 -- ---- what comes of it
 
-module _ (st : State) (img ms : List ℕ) (k m a : ℕ) (found : Found) (f : EventFound st img ms k m a found) where
+module _ (st : State) (img ms : List ℕ) (k m a : ℕ) (found : Found) (f : EventFound st img ms k m a (Ok found)) where
   abbrev after : State
   after = with_lines st (Event k m a) (event_line st img ms k m a) (event_second st img ms k m a)
 
   -- the event pending, by what the code found: v is the first meter's new number, l that meter
-  module _ (z : found.row ≡ 0) (v l : ℕ) (line second : List ℕ) (q : Pending) (ev : v ≡ first_number ms k m found.stored a) (el : l ≡ first_meter k m)
+  module _ (v l : ℕ) (line second : List ℕ) (q : Pending) (ev : v ≡ first_number ms k m found.stored a) (el : l ≡ first_meter k m)
       (eline : line ≡ line_words (merged (line_bytes img st.sizes found.first l) 0 8 (bytes_of 8 v))) (esecond : second ≡ second_of img ms st.sizes found.own k m a)
       (eq : q ≡ record { op = Event k m a; made = 0; line = line; second = second }) where
     pub event-pending : q ≡ record { op = Event k m a; made = 0; line = event_line st img ms k m a; second = event_second st img ms k m a }
     event-pending =
-        let g = f.1 z in
-        let narrow : some_wide st.wide.writer ≡ false = (none-apply (event_call_rows st img ms k m a) (omega arith) (sym f.0 ∙ z)).1.1.1.0 in
+        let narrow : some_wide st.wide.writer ≡ false = (none-apply (event_call_rows st img ms k m a) (omega arith) (sym f.0)).1.1.1.0 in
         let v₀ : ℕ = first_number ms k m (meter_in st img (first_meter k m)) a in
         let one : line ≡ event_line st img ms k m a =
         eline
-        ∙ ap₂ (λ (x y : ℕ). line_words (merged (line_bytes img st.sizes found.first x) 0 8 (bytes_of 8 y))) el (ev ∙ ap (λ (s : ℕ). first_number ms k m s a) g.2)
-        ∙ ap (λ (x : ℕ). line_words (merged (line_bytes img st.sizes x (first_meter k m)) 0 8 (bytes_of 8 v₀))) g.0
+        ∙ ap₂ (λ (x y : ℕ). line_words (merged (line_bytes img st.sizes found.first x) 0 8 (bytes_of 8 y))) el (ev ∙ ap (λ (s : ℕ). first_number ms k m s a) f.3)
+        ∙ ap (λ (x : ℕ). line_words (merged (line_bytes img st.sizes x (first_meter k m)) 0 8 (bytes_of 8 v₀))) f.1
         ∙ ap (λ (x : List ℕ). line_words (merged x 0 8 (bytes_of 8 v₀))) (narrow-line st img (first_meter k m) narrow) in
         let two : second ≡ event_second st img ms k m a =
         esecond
-        ∙ ap (λ (x : ℕ). second_of img ms st.sizes x k m a) g.1
+        ∙ ap (λ (x : ℕ). second_of img ms st.sizes x k m a) f.2
         ∙ ap (λ (x : List ℕ). cond (moves_credit k) (line_words (merged x 0 8 (bytes_of 8 (rolled ms (own_meter k m) (word_at x 0) a)))) (replicate 8 0)) (narrow-line st img (own_meter k m) narrow) in
         eq ∙ rw (one, two)
 

@@ -17,10 +17,9 @@ use Rattle.refinement.specs.Stores.{stores_made, state_after}
 use Rattle.refinement.specs.Calls.{event_line, event_second, event_call_rows, event_of}
 use Rattle.refinement.proofs.EventRows.{event-some, event-needs, event-op-row}
 use Rattle.refinement.proofs.Going.{ranges-of}
-use Rattle.answers.specs.declared.Answer.{Answer}
-use Rattle.answers.specs.declared.Answer.TheVariants.{Taken}
-use Rattle.answers.specs.Answers.{as_answer}
-use Rattle.answers.proofs.Answered.{row-known}
+use Rattle.std.specs.Prelude.{Ok, Err}
+use Rattle.rows.specs.declared.Refusal.{Refusal}
+use Rattle.answers.specs.Answers.{Answer}
 use Rattle.call_event.specs.declared.found.Found.{Found}
 use Rattle.call_event.specs.Found.{EventFound}
 use Rattle.call_event.proofs.Asked.{asked-facts, line_frame}
@@ -31,44 +30,41 @@ use Rattle.op_stores.specs.Asks.{Asks}
 use Rattle.op_stores.specs.Started.{budget, Started}
 use Rattle.op_stores.proofs.Starting.{started-pending, started-refused}
 
-module _ (st : State) (img ms : List ℕ) (k m a : ℕ) (found : Found) (f : EventFound st img ms k m a found) where
-  pub event-refused : (u : Until) → (found.row ≡ 0 → ⊥) → (r : Answer) → r ≡ as_answer found.row 0 → Started r st img (event_of st img ms k m a) img u
-  unfolding event_of
-  event-refused u z r h =
-      started-refused st img u (event_call_rows st img ms k m a) found.row f.0 z (rw f.0 (row-known (event_call_rows st img ms k m a) refl)) r h _ _
+pub event-refused : (st : State) (img ms : List ℕ) (k m a : ℕ) (r : Refusal) → EventFound st img ms k m a (Err r) → (u : Until) → Started (Err r) st img (event_of st img ms k m a) img u
+unfolding event_of
+event-refused st img ms k m a r e u = started-refused st img u (event_call_rows st img ms k m a) r e _ _
 
-  module _ (z : found.row ≡ 0) where
-    -- each line is read from a frame
-    pub event-lines : Legal st.sizes × (found.first < frames st.sizes) × (found.own < frames st.sizes) × (image_length st.sizes ≤ length img)
-    event-lines =
-        let q = asked-facts st img ms k m a (sym f.0 ∙ z) in
-        let g = f.1 z in
-        ((ranges-of st q.0.ok).legal, rw g.0 (line_frame st (length img) (first_meter k m) q.0), rw g.1 (line_frame st (length img) (own_meter k m) q.0), q.0.long)
+module _ (st : State) (img ms : List ℕ) (k m a : ℕ) (found : Found) (f : EventFound st img ms k m a (Ok found)) where
+  -- each line is read from a frame
+  pub event-lines : Legal st.sizes × (found.first < frames st.sizes) × (found.own < frames st.sizes) × (image_length st.sizes ≤ length img)
+  event-lines =
+      let q = asked-facts st img ms k m a (sym f.0) in
+      ((ranges-of st q.0.ok).legal, rw f.1 (line_frame st (length img) (first_meter k m) q.0), rw f.2 (line_frame st (length img) (own_meter k m) q.0), q.0.long)
 
-    -- q is the event pending, with its finished lines
-    module _ (q : Pending) (e : q ≡ record { op = Event k m a; made = 0; line = event_line st img ms k m a; second = event_second st img ms k m a })
-        (y : Sizes) (at : Places) (ey : y ≡ st.sizes) (ea : at ≡ places_of st) where
-      pub event-asks : Asks y at st img q
-      event-asks =
-          let none = sym f.0 ∙ z in
-          let t = (asked-facts st img ms k m a none).0 in
-          rw e
-          (record {
-            sizes = ey;
-            places = ea;
-            ok = t.ok;
-            long = rw ey t.long;
-            idle = not-false (is_idle st.pending.op) t.past.1.1.0;
-            busy = refl;
-            none_made = refl;
-            rows = event-op-row st img ms k m a none;
-            fits = refl;
-            some = rw (event-needs st k m a) (event-some k);
-          })
+  -- q is the event pending, with its finished lines
+  module _ (q : Pending) (e : q ≡ record { op = Event k m a; made = 0; line = event_line st img ms k m a; second = event_second st img ms k m a })
+      (y : Sizes) (at : Places) (ey : y ≡ st.sizes) (ea : at ≡ places_of st) where
+    pub event-asks : Asks y at st img q
+    event-asks =
+        let none = sym f.0 in
+        let t = (asked-facts st img ms k m a none).0 in
+        rw e
+        (record {
+          sizes = ey;
+          places = ea;
+          ok = t.ok;
+          long = rw ey t.long;
+          idle = not-false (is_idle st.pending.op) t.past.1.1.0;
+          busy = refl;
+          none_made = refl;
+          rows = event-op-row st img ms k m a none;
+          fits = refl;
+          some = rw (event-needs st k m a) (event-some k);
+        })
 
-      pub event-started : (u : Until) (r : Answer) (bs : List ℕ) (after : State) → r ≡ Taken (needs st q.op) → bs ≡ stores_made (put st q) (budget u (put st q)) img
-          → after ≡ state_after (put st q) (budget u (put st q)) → Started r after bs (event_of st img ms k m a) img u
-      unfolding event_of
-      event-started u r bs after hr hb hs =
-          started-pending y at st img q event-asks u r bs after hr hb hs (event_call_rows st img ms k m a) found.row f.0 z _ _
-          (sym (event-needs st k m a) ∙ ap (λ (x : Pending). needs st x.op) (sym e)) (ap (put st) (sym e))
+    pub event-started : (u : Until) (r : Answer) (bs : List ℕ) (after : State) → r ≡ Ok (needs st q.op) → bs ≡ stores_made (put st q) (budget u (put st q)) img
+        → after ≡ state_after (put st q) (budget u (put st q)) → Started r after bs (event_of st img ms k m a) img u
+    unfolding event_of
+    event-started u r bs after hr hb hs =
+        started-pending y at st img q event-asks u r bs after hr hb hs (event_call_rows st img ms k m a) f.0 _ _
+        (sym (event-needs st k m a) ∙ ap (λ (x : Pending). needs st x.op) (sym e)) (ap (put st) (sym e))

@@ -1,7 +1,9 @@
 -- What an event finds before it is taken: the first row that turns it back; where none does, the frames of its lines, and the stored
 -- number of the meter whose line goes first.
-use Rattle.std.specs.Prelude.{ℕ, List, [], ◌∷◌, ◌++◌, not, cond, ◌≡◌, replicate}
+use Rattle.std.specs.Prelude.{ℕ, List, [], ◌∷◌, ◌++◌, not, cond, ◌≡◌, replicate, Result, MatchResult}
 use Rattle.bounded.specs.Rows.{Row, refusal}
+use Rattle.rows.specs.declared.Refusal.{Refusal}
+use Rattle.rows.specs.Numbers.{number}
 use Rattle.meters.specs.Meters.{moduli_ok, event_known, moves_credit, first_meter, own_meter, rolled}
 use Rattle.layout.specs.declared.Sizes.{Sizes}
 use Rattle.words.specs.Words.{bytes_of, word_at}
@@ -16,13 +18,15 @@ use Rattle.call_event.specs.declared.found.Found.{Found}
 abbrev pub start_rows : State → ℕ → List ℕ → ℕ → ℕ → List Row
 start_rows st n ms k m = quiet_rows st n ++ ((some_wide st.wide.writer, 29) ∷ (not (event_known k m), 20) ∷ (not (moduli_ok ms), 26) ∷ [])
 
-abbrev pub EventFound : State → List ℕ → List ℕ → ℕ → ℕ → ℕ → Found → Type 0
+abbrev pub EventFound : State → List ℕ → List ℕ → ℕ → ℕ → ℕ → Result Found Refusal → Type 0
 EventFound st img ms k m a r =
-    (r.row ≡ refusal (event_call_rows st img ms k m a))
-    × (r.row ≡ 0
-    → (r.first ≡ seen_frame st 1 0 (first_meter k m))
-    × (r.own ≡ seen_frame st 1 0 (own_meter k m))
-    × (r.stored ≡ meter_in st img (first_meter k m)))
+    MatchResult r
+    (λ f.
+    (0 ≡ refusal (event_call_rows st img ms k m a))
+    × (f.first ≡ seen_frame st 1 0 (first_meter k m))
+    × (f.own ≡ seen_frame st 1 0 (own_meter k m))
+    × (f.stored ≡ meter_in st img (first_meter k m)))
+    (λ row. number row ≡ refusal (event_call_rows st img ms k m a))
 
 -- the second finished line, line o of frame f being that of the event's own meter
 abbrev pub second_of : List ℕ → List ℕ → Sizes → ℕ → ℕ → ℕ → ℕ → List ℕ

@@ -14,11 +14,10 @@ use Rattle.call_event.specs.declared.found.Found.{Found}
 abbrev pub line_from : Sizes → State → ℕ → ℕ → ℕ
 line_from z st s l = seen_at z (slot_in st.table s) (held_at st.writers.held 1 s) s l (own_frame st 0)
 
--- no row, the frames, and the number that the first meter's line holds
+-- the frames, and the number that the first meter's line holds
 abbrev pub lines_seen : Sizes → State → List ℕ → ℕ → ℕ → ℕ → Found
 lines_seen z st img s k m =
     record {
-      row = 0;
       first = line_from z st s (first_meter k m);
       own = line_from z st s (own_meter k m);
       stored = word_at (line_bytes img z (line_from z st s (first_meter k m)) (first_meter k m)) 0;

@@ -1,6 +1,7 @@
 // What an event finds before it is taken: the row that turns it back, or the frames of page 0 and of its lines, and the stored number of its first meter.
 ghost use Rattle.std.specs.Prelude.{◌≡◌, true, ℕ, ◌<◌, ◌≤◌, length};
 ghost use Rattle.bounded.specs.Rows.{refusal};
+ghost use Rattle.rows.specs.Numbers.{row_of};
 ghost use Rattle.layout.specs.Layout.{Legal, frames as frames_of, image_length};
 ghost use Rattle.meters.specs.Meters.{event_known};
 ghost use Rattle.call_event.specs.Found.{start_rows, EventFound};
@@ -8,28 +9,16 @@ ghost use Rattle.state_words.specs.Decoded.{decoded, places_of};
 ghost use Rattle.call_event.specs.Seen.{line_from, lines_seen};
 
 use layout::Sizes;
+use rows::Refusal;
 use state::Places;
 use state_words::Words;
 
-// The row, 0 where none turns the event back; then the frames that its lines are read from, and the stored number of the meter whose line goes first.
+// Where no row turns the event back: the frames that its lines are read from, and the stored number of the meter whose line goes first.
 #[derive(Clone, Copy)]
 pub struct Found {
-    pub row: usize,
     pub first: usize,
     pub own: usize,
     pub stored: u64,
-}
-
-// A refusal.
-fn turned_back(row: usize) -> Found
-    ensures { result ≡ record { row = row; first = 0; own = 0; stored = 0 } }
-{
-    Found {
-        row,
-        first: 0,
-        own: 0,
-        stored: 0,
-    }
 }
 
 // Rows 8, 4, 9, 29, 20 and 26 of an event, the image being of the length n.
@@ -41,24 +30,21 @@ fn start_row(
     kind: usize,
     meter: usize,
     moduli: &[u64],
-) -> usize
+) -> Result<(), Refusal>
     requires { (z ≡ (decoded words.now).sizes) × (at ≡ places_of (decoded words.now)) }
-    ensures { result ≡ refusal (start_rows (decoded words.now) n moduli.now kind meter) }
+    ensures { row_of result ≡ refusal (start_rows (decoded words.now) n moduli.now kind meter) }
 {
-    let row = call_rows::quiet_row(z, at, words, n);
-    if row != 0 {
-        return row;
-    }
+    call_rows::quiet_row(z, at, words, n)?;
     if at.wide < 4 {
-        return 29;
+        return Err(Refusal::OtherOpen);
     }
     if !meters::is_known(kind, meter) {
-        return 20;
+        return Err(Refusal::UnknownEvent);
     }
     if !meters::moduli_ok(moduli) {
-        return 26;
+        return Err(Refusal::ModulusOutOfRange);
     }
-    0
+    Ok(())
 }
 
 // The lines of a known event as writer 1 sees them, s being the slot of page 0, S where it has none.
@@ -72,12 +58,7 @@ fn lines_seen(image: &[u8], z: Sizes, words: &Words, kind: usize, meter: usize, 
     let first = state_lines::seen_frame(z, words, 1, 0, s, l);
     let own = state_lines::seen_frame(z, words, 1, 0, s, o);
     let stored = image::read_line_word(image, z, first, l, 0);
-    Found {
-        row: 0,
-        first,
-        own,
-        stored,
-    }
+    Found { first, own, stored }
 }
 
 // All rows of an event, and what it then finds.
@@ -90,25 +71,19 @@ pub fn event_found(
     meter: usize,
     amount: u64,
     moduli: &[u64],
-) -> Found
+) -> Result<Found, Refusal>
     requires { (z ≡ (decoded words.now).sizes) × (at ≡ places_of (decoded words.now)) }
     ensures { EventFound (decoded words.now) image.now moduli.now kind meter amount result }
 {
-    let row = start_row(z, at, words, image.len(), kind, meter, moduli);
-    if row != 0 {
-        return turned_back(row);
-    }
+    start_row(z, at, words, image.len(), kind, meter, moduli)?;
     let s = state_held::slots::slot_of(z, words, 0);
-    let early = op_rows::event_next_row(z, at, words, kind, meter, s);
-    if early != 0 {
-        return turned_back(early);
-    }
+    op_rows::event_next_row(z, at, words, kind, meter, s)?;
     let found = lines_seen(image, z, words, kind, meter, s);
     if meters::amount_bad(moduli, kind, meter, found.stored, amount) {
-        return turned_back(21);
+        return Err(Refusal::AmountOutOfRange);
     }
     if op_rows::no_room(z, at.head, at.tail) {
-        return turned_back(19);
+        return Err(Refusal::JournalFull);
     }
-    found
+    Ok(found)
 }

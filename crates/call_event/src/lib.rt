@@ -16,8 +16,7 @@ use state::{Op, Pending};
 use state_words::Words;
 
 // Asks for event `kind`: 1 cash in, 2 cash out, 3 bet, 4 won, 5 a count of the meter; and goes on with it as far as is said. It is lent the moduli,
-// and does not
-// rely on its caller having checked anything. A call that is turned back changes no word.
+// and does not rely on its caller having checked anything. A call that is turned back changes no word.
 pub fn event(
     image: &mut [u8],
     words: &mut Words,
@@ -33,10 +32,7 @@ pub fn event(
 {
     let z = state_words::sizes_in(words);
     let at = state_words::places_in(words);
-    let found = found::event_found(image, z, at, words, kind, meter, amount, moduli);
-    if found.row != 0 {
-        return answers::answer_of(found.row, 0);
-    }
+    let found = found::event_found(image, z, at, words, kind, meter, amount, moduli)?;
     let v = meters::first_number(moduli, kind, meter, found.stored, amount);
     let l = meters::first_meter(kind, meter);
     let line = finished::numbered_line(image, z, found.first, l, v);

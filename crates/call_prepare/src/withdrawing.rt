@@ -15,10 +15,7 @@ pub fn withdraw(image: &[u8], words: &mut Words, writer: usize) -> Answer
 {
     let z = state_words::sizes_in(words);
     let at = state_words::places_in(words);
-    let row = call_rows::asking::ask_row(z, at, words, Op::Confirm { writer }, image.len());
-    if row != 0 {
-        return answers::answer_of(row, 0);
-    }
+    call_rows::asking::ask_row(z, at, words, Op::Confirm { writer }, image.len())?;
     state_words::put_prepared(words, state::NO_WRITER);
-    Answer::Taken(0)
+    Ok(0)
 }

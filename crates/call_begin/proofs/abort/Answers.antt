@@ -6,8 +6,8 @@ use Rattle.bounded.proofs.Tests.{held}
 use Rattle.state.specs.State.{State}
 use Rattle.refinement.specs.Calls.{abort_rows, abort_of}
 use Rattle.refinement.proofs.Begun.{aborting}
-use Rattle.answers.specs.declared.Answer.TheVariants.{BadState}
-use Rattle.answers.proofs.Answered.{row-known, row-refused}
+use Rattle.rows.specs.declared.Refusal.TheVariants.{BadState}
+use Rattle.answers.proofs.Answered.{row-refused}
 use Rattle.state_words.specs.Decoded.{decoded}
 use Rattle.call_begin.proofs.abort.Lts
 use Rattle.call_begin.proofs.abort.Tie
@@ -28,7 +28,7 @@ returns-then-not-state_ok c =
     let rs = abort_rows (st c.before.before.before.before) c.args.writer in
     let e = row_at rs 0 (omega arith) tt (sym (ap not c.state_ok.ensures) ∙ (ap not c.if-not-state_ok.true)) in
     record {
-      state = row-refused (st c.before.before.before.before) (aborting (st c.before.before.before.before) c.args.writer) rs 8 e BadState (λ q. omega arith) (row-known rs refl) refl;
+      state = row-refused rs (st c.before.before.before.before) (aborting (st c.before.before.before.before) c.args.writer) 0 BadState e;
       words = λ n. refl;
     }
 

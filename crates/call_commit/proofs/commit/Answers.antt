@@ -5,7 +5,7 @@ use Rattle.bounded.proofs.Rows.{row_at}
 use Rattle.bounded.proofs.Tests.{held}
 use Rattle.state.specs.State.{State}
 use Rattle.refinement.specs.Calls.{commit_call_rows}
-use Rattle.answers.specs.declared.Answer.TheVariants.{BadState}
+use Rattle.rows.specs.declared.Refusal.TheVariants.{BadState}
 use Rattle.state_words.specs.Decoded.{decoded}
 use Rattle.call_commit.proofs.Calls.{refused}
 use Rattle.call_commit.proofs.commit.Lts
@@ -25,7 +25,7 @@ pub returns-then-not-state_ok : goal.returns-then-not-state_ok
 returns-then-not-state_ok c =
     let e = row_at (commit_call_rows (st c.before.before.before.before.before.before) c.args.image.now c.args.writer) 0 (omega arith) tt (sym (ap not c.state_ok.ensures) ∙ (ap not c.if-not-state_ok.true)) in
     record {
-      started = refused (st c.before.before.before.before.before.before) c.args.image.now c.args.writer 8 e c.args.until (λ q. omega arith) BadState refl;
+      started = refused (st c.before.before.before.before.before.before) c.args.image.now c.args.writer c.args.until BadState e;
       words = λ n. refl;
     }
 

@@ -6,7 +6,7 @@ use Rattle.state.specs.State.{State}
 use Rattle.state.specs.declared.Op.TheVariants.{Commit}
 use Rattle.state.proofs.Numbers.{held-le}
 use Rattle.operations.specs.Operations.{needs as needs_of}
-use Rattle.answers.specs.declared.Answer.TheVariants.{Taken}
+use Rattle.std.specs.Prelude.{Ok}
 use Rattle.state_words.specs.Decoded.{decoded}
 use Rattle.op_stores.proofs.Allowing.{without_lines}
 use Rattle.op_stores.proofs.Starting.{put-valid, started-done}
@@ -44,8 +44,8 @@ pub returns-then-n-eq0 : goal.returns-then-n-eq0
 returns-then-n-eq0 c =
     let none : needs_of (st c.before.before.before.before.before.before.before) (Commit c.args.w) ≡ 0 = sym (all c.before.before.before.before) ∙ c.if-n-eq0.true in
     record {
-      answer = ap Taken (sym none);
-      started = started-done (st c.before.before.before.before.before.before.before) c.args.image.now c.args.until [] 0 refl refl (Commit c.args.w) (replicate 8 0) none (Taken 0) _ refl c.complete_commit.ensures;
+      answer = ap Ok (sym none);
+      started = started-done (st c.before.before.before.before.before.before.before) c.args.image.now c.args.until [] refl (Commit c.args.w) (replicate 8 0) none (Ok 0) _ refl c.complete_commit.ensures;
     }
 
 pub put_pending-requires : goal.put_pending-requires
@@ -61,6 +61,6 @@ go_on-requires c =
 pub returns : goal.returns
 returns c =
     record {
-      answer = ap Taken (all c.before.before.before.before.before.before.before.before.before.before);
+      answer = ap Ok (all c.before.before.before.before.before.before.before.before.before.before);
       started = went c.args.z c.args.at (st c.before.before.before.before.before.before.before.before.before.before.before.before.before) c.args.w c.requires.0 c.args.image.now c.requires.1 _ _ c.held_count-c.ensures (all c.before.before.before.before.before.before.before.before.before.before) c.if-n-eq0.false _ c.args.until _ _ _ _ c.put_pending.ensures c.budget-k.ensures refl c.go_on.ensures.image c.go_on.ensures.words;
     }

@@ -1,51 +1,43 @@
+use borrow.Author.Rules.{rules}
 use mathlib.Core.Path.{◌≡◌, refl, sym, ap, ◌∙◌}
-use Rattle.state.specs.State.{State}
+use Rattle.std.specs.Prelude.{Err}
 use Rattle.state.specs.declared.Places.{Places}
 use Rattle.answers.specs.Answers.{number_of}
 use Rattle.state_words.specs.Decoded.{decoded}
 use Rattle.call_commit.proofs.Calls.{refused, copy-allowed, commit-allowed, copy-came, commit-came}
-use Rattle.call_commit.proofs.commit_valid.Lts
-use Rattle.call_commit.proofs.commit_valid.Tie
-use Rattle.call_commit.proofs.commit_valid.Reads
 use Rattle.call_commit.proofs.commit_valid.Goals as goal
 
-abbrev At-Start : Type 0
-At-Start = Lts.Start Tie.the-claims Reads.Pre Reads.Post Tie.handed_clauses
-
-abbrev st : At-Start → State
-st s = decoded s.args.words.now
-
--- the wide writer as it was read
-wide : (s : At-Start) → s.args.at.wide ≡ (st s).wide.writer
-wide s = ap (λ (p : Places). p.wide) s.requires.1
-
-pub returns-then-row-ne0 : goal.returns-then-row-ne0
-returns-then-row-ne0 c =
+pub returns-in_err-commit_row : goal.returns-in_err-commit_row
+returns-in_err-commit_row c =
+    let same : c.from_residual.result ≡ Err c.in_err-commit_row.field-0.0 = search rules in
     record {
-      started = refused (st c.before.before.before.before.before) c.args.image.now c.args.writer _ c.commit_row-row.ensures c.args.until c.if-row-ne0.true _ c.answer_of.ensures;
+      started = rw same (refused (decoded c.args.words.now) c.args.image.now c.args.writer c.args.until _ c.in_err-commit_row.ensures);
       words = λ n. refl;
     }
 
 pub ask-requires : goal.ask-requires
 ask-requires c =
-    copy-allowed (st c.before.before.before.before.before.before.before) c.args.image.now c.args.writer _ c.commit_row-row.ensures c.if-row-ne0.false _ _ c.requires.0 c.requires.1
+    copy-allowed (decoded c.args.words.now) c.args.image.now c.args.writer c.in_ok-commit_row.ensures _ _ c.requires.0 c.requires.1
 
 pub returns-then-at-writer : goal.returns-then-at-writer
 returns-then-at-writer c =
     let h = c.ask.ensures in
+    let wide = ap (λ (p : Places). p.wide) c.requires.1 in
     record {
-      started = copy-came (st c.before.before.before.before.before.before.before.before.before.before.before) c.args.image.now c.args.writer _ c.commit_row-row.ensures c.if-row-ne0.false c.ask.result _ _ c.args.until (sym (wide c.before.before.before.before.before.before.before.before.before.before.before) ∙ c.if-at-writer.true) h.started;
+      started = copy-came (decoded c.args.words.now) c.args.image.now c.args.writer c.in_ok-commit_row.ensures c.ask.result _ _ c.args.until (sym wide ∙ c.if-at-writer.true) h.started;
       words = λ n. absurd (n (ap number_of h.answer));
     }
 
 pub commit_narrow-requires : goal.commit_narrow-requires
 commit_narrow-requires c =
-    commit-allowed (st c.before.before.before.before.before.before.before) c.args.image.now c.args.writer _ c.commit_row-row.ensures c.if-row-ne0.false _ _ c.requires.0 c.requires.1 (λ q. c.if-at-writer.false (wide c.before.before.before.before.before.before.before ∙ q))
+    let wide = ap (λ (p : Places). p.wide) c.requires.1 in
+    commit-allowed (decoded c.args.words.now) c.args.image.now c.args.writer c.in_ok-commit_row.ensures _ _ c.requires.0 c.requires.1 (λ q. c.if-at-writer.false (wide ∙ q))
 
 pub returns : goal.returns
 returns c =
     let h = c.commit_narrow.ensures in
+    let wide = ap (λ (p : Places). p.wide) c.requires.1 in
     record {
-      started = commit-came (st c.before.before.before.before.before.before.before.before.before.before.before) c.args.image.now c.args.writer _ c.commit_row-row.ensures c.if-row-ne0.false c.commit_narrow.result _ _ c.args.until (λ q. c.if-at-writer.false (wide c.before.before.before.before.before.before.before.before.before.before.before ∙ q)) h.started;
+      started = commit-came (decoded c.args.words.now) c.args.image.now c.args.writer c.in_ok-commit_row.ensures c.commit_narrow.result _ _ c.args.until (λ q. c.if-at-writer.false (wide ∙ q)) h.started;
       words = λ n. absurd (n (ap number_of h.answer));
     }

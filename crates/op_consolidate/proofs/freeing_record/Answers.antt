@@ -1,4 +1,0 @@
-use Rattle.op_consolidate.proofs.freeing_record.Goals as goal
-
-pub returns : goal.returns
-returns c = rw (c.free_slot-now.ensures, c.copy_from.ensures)

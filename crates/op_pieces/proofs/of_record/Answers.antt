@@ -1,4 +1,0 @@
-use Rattle.op_pieces.proofs.of_record.Goals as goal
-
-pub returns : goal.returns
-returns c = cc
