@@ -1,10 +1,8 @@
 -- What is told to C in numbers that lie side by side: the next store, and a refusal.
-use Rattle.std.specs.Prelude.{ℕ, List, [], ◌∷◌, ◌≡◌, get_or}
+use Rattle.std.specs.Prelude.{ℕ, List, [], ◌∷◌, ◌≡◌, get_or, Option, Some, None}
 use Rattle.bounded.specs.Below.{one}
 use Rattle.state.specs.State.{State}
 use Rattle.reasons.specs.declared.Reason.{Reason}
-use Rattle.reason_reading.specs.declared.ReadBack.{ReadBack}
-use Rattle.reason_reading.specs.declared.ReadBack.TheVariants.{These, Nothing}
 use Rattle.refusals.specs.Met.{reason_met}
 use Rattle.op_stores.specs.Beside.{Beside}
 use Rattle.call_step.specs.NextStore.{next_store_of, left_of}
@@ -24,10 +22,10 @@ abbrev pub reason_by : State → List ℕ → Reason
 reason_by st g = reason_met st (get_or g 0 0) (get_or g 1 0) (get_or g 2 0) (get_or g 3 0) (get_or g 4 0) (get_or g 5 0) (get_or g 6 0)
 
 -- and as it is read back: 0 and its numbers, or 11 and those that were lent
-abbrev pub read_number : ReadBack → ℕ
-read_number (These r) = 0
-read_number Nothing = 11
+abbrev pub read_number : Option Reason → ℕ
+read_number (Some r) = 0
+read_number None = 11
 
-abbrev pub read_refusal : ReadBack → List ℕ → List ℕ
-read_refusal (These r) lent = r.call ∷ r.number ∷ r.writer ∷ r.page ∷ r.line ∷ 0 ∷ 0 ∷ r.holder ∷ []
-read_refusal Nothing lent = lent
+abbrev pub read_refusal : Option Reason → List ℕ → List ℕ
+read_refusal (Some r) lent = r.call ∷ r.number ∷ r.writer ∷ r.page ∷ r.line ∷ 0 ∷ 0 ∷ r.holder ∷ []
+read_refusal None lent = lent

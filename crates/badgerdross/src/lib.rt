@@ -1,4 +1,5 @@
 // The store for a host in C: the calls on the words that the host keeps, with the names and forms of include/badgerdross.h. Each returns its number.
+// Exports that differ in a call alone stay apart: the C interface needs a function, with its contract, for each name.
 #![tactic(auto)]
 
 pub mod events;
@@ -24,13 +25,11 @@ use state_words::Words;
 fn until_of(n: usize) -> Until
     ensures { result ≡ until_by n }
 {
-    if n == 0 {
-        return Until::Asked;
+    match n {
+        0 => Until::Asked,
+        1 => Until::Fence,
+        _ => Until::End,
     }
-    if n == 1 {
-        return Until::Fence;
-    }
-    Until::End
 }
 
 // The version of the header that the library goes with.

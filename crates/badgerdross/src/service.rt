@@ -5,7 +5,7 @@ ghost use Rattle.reason_reading.specs.Reading.{read_back};
 ghost use Rattle.state_words.specs.Decoded.{decoded};
 ghost use Rattle.badgerdross.specs.Told.{reason_by, read_number, read_refusal};
 
-use reason_reading::ReadBack;
+use rows::Refusal;
 use state_words::Words;
 
 // Composes the sentence of a refusal (`struct badgerdross_refusal`) at the start of target, and gives its length.
@@ -23,13 +23,13 @@ pub extern "C" fn badgerdross_sentence(
 {
     let g = *refusal;
     let reason = refusals::reason_met(words, g[0], g[1], g[2], g[3], g[4], g[5], g[6]);
-    let composed = reasons::compose(reason, target);
-    let n = composed.number;
-    if n != 0 {
-        return n;
+    match reasons::compose(reason, target) {
+        Ok(length) => {
+            *count = length;
+            0
+        }
+        Err(refusal) => usize::from(refusal),
     }
-    *count = composed.length;
-    0
 }
 
 // Reads a sentence back. Any other text is 11, and leaves the numbers lent as they are.
@@ -38,12 +38,11 @@ pub extern "C" fn badgerdross_reading(text: &[u8], refusal: &mut [usize; 8]) -> 
     ensures number { result ≡ read_number (read_back text.now) }
     ensures refusal { refusal.new ≡ read_refusal (read_back text.now) refusal.old }
 {
-    let back = reason_reading::read_back(text);
-    match back {
-        ReadBack::These(r) => {
+    match reason_reading::read_back(text) {
+        Some(r) => {
             *refusal = [r.call, r.number, r.writer, r.page, r.line, 0, 0, r.holder];
             0
         }
-        ReadBack::Nothing => 11,
+        None => usize::from(Refusal::BadArgument),
     }
 }

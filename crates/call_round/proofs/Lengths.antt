@@ -1,5 +1,5 @@
 -- The types of the words give the lengths of the state's arrays and the ranges of its masks.
-use Rattle.std.proofs.Common.{◌≡◌, ℕ, ◌+◌, ◌^◌, ◌<◌, ◌≤◌, ltb, List, length, get_or, take, drop, refl, ap, ◌∙◌, arith, length-drop, length-take-le, ltb-false, ltb-true}
+use Rattle.std.proofs.Common.{◌≡◌, ℕ, ◌+◌, ◌≤◌, ltb, List, length, get_or, take, drop, arith, length-drop, length-take-le, ltb-false, ltb-true}
 use lib.ListN.{get_or-eq_default}
 use Rattle.bounded.proofs.Tests.{case_on}
 use Rattle.refinement.proofs.Sized.{Low, Sized}

@@ -3,11 +3,9 @@ use Rattle.std.proofs.Common.{◌≡◌, ℕ, suc, ◌+◌, ◌-◌, ◌%◌, �
 use mathlib.Core.Bool.{and-false}
 use Rattle.bounded.proofs.Tests.{case_on, row_keeps}
 use Rattle.refinement.specs.Stores.{World}
-use Rattle.refinement.specs.Calls.{world_of}
 use Rattle.refinement.specs.Run.{Call, checkpoint, free, begin, abort, commit, write, Result, exec}
 use Rattle.answers.specs.declared.Answer.{Answer}
 use Rattle.answers.specs.Answers.{number_of, stores_of}
-use Rattle.state_words.specs.Decoded.{decoded}
 use Rattle.call_round.specs.declared.Room.{Room}
 use Rattle.call_round.specs.declared.Round.{Round}
 use Rattle.call_round.specs.Round.{to_end, Finishes, Played, played_of, made, next, with_journal, put, put_all, committed, closed, unplayed, round_of}

@@ -16,14 +16,15 @@ use call_write::Span;
 use state_words::Words;
 
 // What a round does for want of room: where the journal is full (19) a checkpoint, where no slot is free (15) it frees one.
-#[derive(Clone, Copy)]
+#[derive(Clone, Copy, Debug, PartialEq, Eq)]
 pub struct Room {
     pub checkpoint: bool,
     pub free: bool,
 }
 
 // What comes of a round: the number of its last answer, which call gave it (0 is begin, then the writes, then the commit), and the stores made.
-#[derive(Clone, Copy)]
+// No Result: the C interface tells the number, the call and the stores side by side whether the round is refused or not, and so does the definition (`Played`).
+#[derive(Clone, Copy, Debug, PartialEq, Eq)]
 pub struct Round {
     pub number: usize,
     pub call: usize,
@@ -65,17 +66,15 @@ fn put_all(
     ensures few { 4 * result.call ≤ length writes.now }
 {
     let mut t = t;
-    let mut k = 0;
     let mut at = 0;
-    while writes.len() - k >= 4 {
-        let a = span_at(writes, k);
+    for k in 0..writes.len() / 4 {
+        let a = span_at(writes, 4 * k);
         t.call += 1;
         t = again::put(t, image, words, writer, a, &data[at..], room);
         if t.number != 0 {
             return t;
         }
         at += bounded::smaller(a.length, data.len() - at);
-        k += 4;
     }
     t
 }

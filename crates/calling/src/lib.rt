@@ -18,12 +18,10 @@ fn all_bytes(numbers: &[u64; 69], n: usize) -> bool
     requires { n ≤ 64 }
     ensures { result ≡ are_bytes n numbers.now }
 {
-    let mut i = 0;
-    while i < n {
+    for i in 0..n {
         if numbers[5 + i] > 255 {
             return false;
         }
-        i += 1;
     }
     true
 }
@@ -47,10 +45,8 @@ fn data_of(numbers: &[u64; 69], n: usize) -> [u8; 64]
     ensures { result ≡ filled n (datum numbers.now) (replicate 64 0) }
 {
     let mut bytes = [0u8; 64];
-    let mut i = 0;
-    while i < n {
+    for i in 0..n {
         bytes[i] = numbers[5 + i] as u8;
-        i += 1;
     }
     bytes
 }

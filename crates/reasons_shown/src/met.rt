@@ -1,6 +1,4 @@
 // Refusals that a store gives: what the call met, as a sentence.
-ghost use Rattle.std.specs.Prelude.{◌<◌};
-
 use answers::Answer;
 use call_write::Span;
 use layout::Sizes;
@@ -17,33 +15,69 @@ struct Row {
     line: usize,
 }
 
-// Rows as numbers: their decimal digits are, from the last, two for the line, one for the page, one for the writer, and then the call's number.
+// Calls with their writers, pages and lines.
 // Writers 3 and 1 hold lines 5 and 6 of page 1; then 0 and 3 want line 6, and 0 line 5 and another page, and pages 1 and 0 are to be consolidated and a
 // slot freed. Then come an unknown event and bets: writer 1 is open, there is no slot, writer 0 holds credit's line and 2 the bet's, 2 the bet's alone;
 // then there is no credit to cash out, and of two counts the second has no room. Then writer 0, who holds nothing, is prepared: what others and it may
 // not do then; and writer 2's records have no room. A wide begin finds no entries. Format gives one: beside an open writer, and with writer 4, a wide
 // begin is turned back; then writer 1's is taken, and another begin, an event, a prepare, a confirm, a second line and another's write are not.
-const CALLS: [usize; 55] = [
-    3_3_0_00, 3_1_0_00, 3_0_0_00, 5_3_1_05, 5_1_1_06, 5_0_1_06, 5_3_1_06, 5_0_1_05, 5_0_0_05,
-    5_2_1_07, 5_0_2_64, 7_0_1_00, 7_0_0_00, 12_0_0_00, 13_6_0_01, 13_3_0_01, 4_1_0_00, 4_3_0_00,
-    13_3_0_01, 7_0_1_00, 3_2_0_00, 5_2_0_03, 5_0_0_00, 13_3_0_01, 4_0_0_00, 13_3_0_01, 13_2_0_01,
-    13_5_5_01, 13_5_5_01, 3_0_0_00, 14_0_0_00, 14_2_0_00, 4_0_0_00, 5_0_0_09, 7_0_0_00, 12_0_0_00,
-    13_5_5_01, 15_2_0_00, 16_2_0_00, 16_0_0_00, 14_2_0_00, 18_0_0_00, 0_1_0_00, 3_0_0_00,
-    18_1_0_00, 4_0_0_00, 18_4_0_00, 18_1_0_00, 3_0_0_00, 13_3_0_01, 14_1_0_00, 15_1_0_00, 5_1_0_05,
-    5_1_1_05, 5_0_1_05,
+const CALLS: [(usize, usize, usize, usize); 55] = [
+    (wording::BEGIN, 3, 0, 0),
+    (wording::BEGIN, 1, 0, 0),
+    (wording::BEGIN, 0, 0, 0),
+    (wording::WRITE, 3, 1, 5),
+    (wording::WRITE, 1, 1, 6),
+    (wording::WRITE, 0, 1, 6),
+    (wording::WRITE, 3, 1, 6),
+    (wording::WRITE, 0, 1, 5),
+    (wording::WRITE, 0, 0, 5),
+    (wording::WRITE, 2, 1, 7),
+    (wording::WRITE, 0, 2, 64),
+    (wording::CONSOLIDATE, 0, 1, 0),
+    (wording::CONSOLIDATE, 0, 0, 0),
+    (wording::FREE_SLOT, 0, 0, 0),
+    (wording::EVENT, 6, 0, 1),
+    (wording::EVENT, 3, 0, 1),
+    (wording::ABORT, 1, 0, 0),
+    (wording::ABORT, 3, 0, 0),
+    (wording::EVENT, 3, 0, 1),
+    (wording::CONSOLIDATE, 0, 1, 0),
+    (wording::BEGIN, 2, 0, 0),
+    (wording::WRITE, 2, 0, 3),
+    (wording::WRITE, 0, 0, 0),
+    (wording::EVENT, 3, 0, 1),
+    (wording::ABORT, 0, 0, 0),
+    (wording::EVENT, 3, 0, 1),
+    (wording::EVENT, 2, 0, 1),
+    (wording::EVENT, 5, 5, 1),
+    (wording::EVENT, 5, 5, 1),
+    (wording::BEGIN, 0, 0, 0),
+    (wording::PREPARE, 0, 0, 0),
+    (wording::PREPARE, 2, 0, 0),
+    (wording::ABORT, 0, 0, 0),
+    (wording::WRITE, 0, 0, 9),
+    (wording::CONSOLIDATE, 0, 0, 0),
+    (wording::FREE_SLOT, 0, 0, 0),
+    (wording::EVENT, 5, 5, 1),
+    (wording::CONFIRM, 2, 0, 0),
+    (wording::WITHDRAW, 2, 0, 0),
+    (wording::WITHDRAW, 0, 0, 0),
+    (wording::PREPARE, 2, 0, 0),
+    (wording::BEGIN_WIDE, 0, 0, 0),
+    (wording::FORMAT, 1, 0, 0),
+    (wording::BEGIN, 0, 0, 0),
+    (wording::BEGIN_WIDE, 1, 0, 0),
+    (wording::ABORT, 0, 0, 0),
+    (wording::BEGIN_WIDE, 4, 0, 0),
+    (wording::BEGIN_WIDE, 1, 0, 0),
+    (wording::BEGIN, 0, 0, 0),
+    (wording::EVENT, 3, 0, 1),
+    (wording::PREPARE, 1, 0, 0),
+    (wording::CONFIRM, 1, 0, 0),
+    (wording::WRITE, 1, 0, 5),
+    (wording::WRITE, 1, 1, 5),
+    (wording::WRITE, 0, 1, 5),
 ];
-
-fn row_at(k: usize) -> Row
-    requires { k < 55 }
-{
-    let row = CALLS[k];
-    Row {
-        call: row / 10000,
-        writer: row / 1000 % 10,
-        page: row / 100 % 10,
-        line: row % 100,
-    }
-}
 
 // Writes a byte to the start of the row's line.
 fn write(image: &mut [u8], words: &mut Words, row: Row) -> Answer {
@@ -99,12 +133,10 @@ fn tell(words: &Words, answer: Answer, row: Row) {
     let mut target = [0; 200];
     let number = answers::number_of(answer);
     let reason = met(words, number, row);
-    let composed = reasons::compose(reason, &mut target);
-    if composed.number != 0 {
+    let Ok(length) = reasons::compose(reason, &mut target) else {
         return;
-    }
-    let n = composed.length;
-    crate::samples::write_both(&target[..n], b"\n");
+    };
+    crate::samples::write_both(&target[..length], b"\n");
 }
 
 fn fresh(image: &mut [u8], words: &mut Words, entries: usize) {
@@ -132,7 +164,13 @@ pub fn show_met() {
     let mut image = [0u8; 12552];
     let mut words = [0u64; WORD_COUNT];
     fresh(&mut image, &mut words, 0);
-    for k in 0..55 {
-        turn(&mut image, &mut words, row_at(k));
+    for &(call, writer, page, line) in &CALLS {
+        let row = Row {
+            call,
+            writer,
+            page,
+            line,
+        };
+        turn(&mut image, &mut words, row);
     }
 }

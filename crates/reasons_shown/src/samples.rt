@@ -1,10 +1,8 @@
 // Sentences for sample arguments, whole and damaged.
-ghost use Rattle.std.specs.Prelude.{◌≤◌};
-
-use reason_reading::ReadBack;
 use reasons::Reason;
+use rows::Refusal;
 
-const MOST: usize = 18446744073709551615;
+const MOST: usize = usize::MAX;
 
 // Writes a number after a mark.
 fn write_number(mark: &[u8], v: usize) {
@@ -15,9 +13,8 @@ fn write_number(mark: &[u8], v: usize) {
 // Writes a text, in the next line what it reads back as, and an end.
 pub fn write_both(text: &[u8], end: &[u8]) {
     io::write_all(1, text);
-    let back = reason_reading::read_back(text);
-    match back {
-        ReadBack::These(r) => {
+    match reason_reading::read_back(text) {
+        Some(r) => {
             write_number(b"\n  call ", r.call);
             write_number(b", number ", r.number);
             write_number(b", writer ", r.writer);
@@ -25,59 +22,41 @@ pub fn write_both(text: &[u8], end: &[u8]) {
             write_number(b", line ", r.line);
             write_number(b", holder ", r.holder);
         }
-        ReadBack::Nothing => {
+        None => {
             io::write_all(1, b"\n  nothing");
         }
     }
     io::write_all(1, end);
 }
 
-// 1 where a text reads back as nothing.
-fn one_if_nothing(text: &[u8]) -> usize
-    ensures { result ≤ 1 }
-{
-    let back = reason_reading::read_back(text);
-    match back {
-        ReadBack::These(_) => 0,
-        ReadBack::Nothing => 1,
-    }
-}
-
 // How many copies of a text, each with the lowest bit of one byte changed, read back as nothing.
 fn count_nothing(text: &mut [u8]) -> usize {
     let mut count: usize = 0;
-    let mut i = 0;
-    while i < text.len() {
-        let b = text[i];
-        text[i] = b ^ 1;
-        count += one_if_nothing(text);
-        text[i] = b;
-        i += 1;
+    for i in 0..text.len() {
+        text[i] ^= 1;
+        count += usize::from(reason_reading::read_back(text).is_none());
+        text[i] ^= 1;
     }
     count
 }
 
-// Shows a sentence, with the number of its damaged copies and of those that read back as nothing. Gives 1 where composing is turned back; a target
+// Shows a sentence, with the number of its damaged copies and of those that read back as nothing. Says whether composing is turned back; a target
 // that is a byte too short turns it back too, or nothing is shown.
-fn show(reason: Reason) -> usize
-    ensures { result ≤ 1 }
-{
+fn show(reason: Reason) -> bool {
     let mut short = [b'~'; 199];
     let mut target = [b'~'; 200];
-    if reasons::compose(reason, &mut short).number != 11 {
-        return 0;
+    if reasons::compose(reason, &mut short) != Err(Refusal::BadArgument) {
+        return false;
     }
-    let composed = reasons::compose(reason, &mut target);
-    if composed.number != 0 {
-        return 1;
-    }
-    let n = composed.length;
-    let text = &mut target[..n];
+    let Ok(length) = reasons::compose(reason, &mut target) else {
+        return true;
+    };
+    let text = &mut target[..length];
     write_both(text, b"; damaged ");
     write_number(b"", text.len());
     write_number(b", nothing ", count_nothing(text));
     io::write_all(1, b"\n");
-    0
+    false
 }
 
 // The sentences of a call, for the smallest arguments, the largest that a call takes and the largest that fit a word, and how many numbers below
@@ -85,14 +64,14 @@ fn show(reason: Reason) -> usize
 pub fn show_call(call: usize) {
     let mut none: usize = 0;
     for number in 0..33 {
-        none += show(Reason {
+        none += usize::from(show(Reason {
             call,
             number,
             writer: 0,
             page: 0,
             line: 0,
             holder: 0,
-        });
+        }));
         show(Reason {
             call,
             number,

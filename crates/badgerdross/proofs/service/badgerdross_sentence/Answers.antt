@@ -1,39 +1,27 @@
-use borrow.Author.Tests.{ne_eqb}
-use Prim.Native.Nat.{ℕ}
 use mathlib.Core.Path.{◌≡◌, sym, ap, ◌∙◌}
-use lib.ListN.{length}
-use Rattle.reasons.specs.declared.Reason.{Reason}
-use Rattle.reasons.specs.declared.Composed.{Composed}
-use Rattle.reasons.specs.Sentence.{compose_row, composed, sentence}
+use Rattle.rows.specs.Numbers.{number}
+use Rattle.reasons.proofs.Composing.{composed-by, refused-by}
 use Rattle.badgerdross.proofs.service.badgerdross_sentence.Goals as goal
 
--- the number of what was composed is the row's; taken, its length is the sentence's
-row : (a b : Reason) (n : ℕ) (r : Composed) → a ≡ b → r ≡ composed a n → r.number ≡ compose_row b n
-unfolding composed
-row a b n r q e = ap (λ (x : Composed). x.number) e ∙ ap (λ (x : Reason). compose_row x n) q
-
-long : (a b : Reason) (n : ℕ) (r : Composed) → a ≡ b → r ≡ composed a n → r.number ≡ 0 → r.length ≡ length (sentence b)
-unfolding composed
-long a b n r q e z =
-    let t : compose_row a n ≡ 0 = sym (ap (λ (x : Composed). x.number) e) ∙ z in
-    ap (λ (x : Composed). x.length) e ∙ rw t (ap (λ (x : Reason). length (sentence x)) q)
-
-pub returns-then-n-ne0 : goal.returns-then-n-ne0
-returns-then-n-ne0 c =
+pub returns-in-Ok : goal.returns-in-Ok
+returns-in-Ok c =
+    let h = c.compose.ensures in
     let q = c.reason_met-reason.ensures in
-    let h = c.compose-composed.ensures in
+    let t = composed-by c.reason_met-reason.result c.args.target.now (sym h.value ∙ c.in-Ok.is) in
     record {
-      number = row _ _ _ _ q h.value;
+      number = sym t.row ∙ rw q;
       bytes = h.target_after ∙ rw q;
-      count = rw (ne_eqb c.compose-composed.result.number 0 c.if-n-ne0.true);
+      count = t.count ∙ rw q;
     }
 
-pub returns : goal.returns
-returns c =
+pub returns-in-Err : goal.returns-in-Err
+returns-in-Err c =
+    let h = c.compose.ensures in
     let q = c.reason_met-reason.ensures in
-    let h = c.compose-composed.ensures in
+    let t = refused-by c.reason_met-reason.result c.args.target.now (sym h.value ∙ c.in-Err.is) in
+    let e : c.from.result ≡ 11 = c.from.ensures ∙ ap number t.1 in
     record {
-      number = sym c.if-n-ne0.false ∙ row _ _ _ _ q h.value;
+      number = e ∙ sym t.0 ∙ rw q;
       bytes = h.target_after ∙ rw q;
-      count = long _ _ _ _ q h.value c.if-n-ne0.false;
+      count = rw e;
     }

@@ -1,20 +1,13 @@
-use mathlib.Core.Path.{sym, ap}
-use Prim.Native.Nat.{◌≤◌}
-use native.Mathlib.Omega.{arith}
-use lib.ListN.{length, replicate}
+use mathlib.Core.Path.{sym}
+use lib.ListN.{replicate}
 use lib.Seq.{length-take-le}
-use Rattle.reasons.specs.declared.Composed.{Composed}
 use Rattle.reasons.proofs.Printable.{inside}
 use Rattle.reasons_shown.proofs.met.tell.Goals as goal
 
 -- What is composed lies in the target.
 pub slice_bounds-target-end : goal.slice_bounds-target-end
-slice_bounds-target-end c =
-    let i = inside c.met-reason.result (replicate 200 0) in
-    omega (arith, i.same, i.fits, ap (λ (d : Composed). d.length) c.compose-composed.ensures.value, ap length c.compose-composed.ensures.target_after)
+slice_bounds-target-end c = (inside c.met-reason.result (replicate 200 0) c.compose.ensures.value c.compose.ensures.target_after c.in-Ok.is).fits
 
 pub slice_bounds-write_both-end : goal.slice_bounds-write_both-end
 slice_bounds-write_both-end c =
-    let i = inside c.met-reason.result (replicate 200 0) in
-    let inside_target : c.compose-composed.result.length ≤ length c.compose-composed.new.target = omega (arith, i.same, i.fits, ap (λ (d : Composed). d.length) c.compose-composed.ensures.value, ap length c.compose-composed.ensures.target_after) in
-    sym (length-take-le _ _ inside_target)
+    sym (length-take-le _ _ (inside c.met-reason.result (replicate 200 0) c.compose.ensures.value c.compose.ensures.target_after c.in-Ok.is).fits)
