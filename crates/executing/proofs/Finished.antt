@@ -19,8 +19,7 @@ use Rattle.call_mount.specs.Replacing.{replacing}
 use Rattle.op_stores.specs.declared.Until.TheVariants.{Asked}
 use Rattle.op_stores.specs.Started.{Started}
 use Rattle.calling.proofs.Asked.{asked-told}
-use Rattle.executing.specs.declared.Cut.{Cut}
-use Rattle.executing.specs.declared.Cut.TheVariants.{Unset}
+use Rattle.std.specs.Prelude.{Option, None}
 use Rattle.printing.specs.declared.Output.TheVariants.{Answered}
 use Rattle.executing.specs.declared.Turned.{Turned}
 use Rattle.executing.specs.Called.{budget, after_cut, world_at, result_at, turn_at, finished}
@@ -41,7 +40,7 @@ unfolding exec mount_call
 mount-told st img = case_on (eqb (mount_of img).row 0) (λ t. rw t) (λ t. rw t)
 
 -- a call with this answer, which needs stores or none, on these words and bytes
-module _ (a : Answer) (words img : List ℕ) (cut : Cut) (letter number needed : ℕ) (hn : number ≡ number_of a) (hs : needed ≡ stores_of a) (r : Turned) where
+module _ (a : Answer) (words img : List ℕ) (cut : Option ℕ) (letter number needed : ℕ) (hn : number ≡ number_of a) (hs : needed ≡ stores_of a) (r : Turned) where
   pub finish-none : needed ≡ 0 → r ≡ record { mode = record { formatted = true; cut = cut }; output = Answered letter number 0 }
       → turn_at r words img ≡ finished letter cut (result_at a words img)
   unfolding finished
@@ -51,7 +50,7 @@ module _ (a : Answer) (words img : List ℕ) (cut : Cut) (letter number needed :
   pub finish-made : (needed ≡ 0 → ⊥) → (k made last : ℕ) (b : Answer) (words' img' words'' : List ℕ) → k ≡ budget cut needed
       → answered_at b (decoded words') ≡ run_of (decoded words) img k → img' ≡ run_bytes (decoded words) img k → made ≡ stores_of b
       → last ≡ (after_cut cut number (world_at words' img')).number → decoded words'' ≡ (after_cut cut number (world_at words' img')).world.st
-      → r ≡ record { mode = record { formatted = eqb last 0; cut = Unset }; output = Answered letter last made }
+      → r ≡ record { mode = record { formatted = eqb last 0; cut = None }; output = Answered letter last made }
       → turn_at r words'' img' ≡ finished letter cut (result_at a words img)
   unfolding finished exec
   finish-made n k made last b words' img' words'' hk ho hb hm hl ha e =

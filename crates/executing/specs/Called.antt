@@ -1,5 +1,5 @@
 -- The call that a line asks for, and what it comes to: one that needs stores makes them, all or under a K at most k, and then mounts.
-use Rattle.std.specs.Prelude.{ℕ, Bool, true, cond, List, [], eqb}
+use Rattle.std.specs.Prelude.{ℕ, Bool, true, cond, List, [], eqb, Option, None, Some}
 use Rattle.state.specs.State.{State}
 use Rattle.refinement.specs.Stores.{World}
 use Rattle.refinement.specs.Calls.{world_of}
@@ -12,8 +12,6 @@ use Rattle.forms.specs.declared.Ask.{Ask}
 use Rattle.forms.specs.declared.Ask.TheVariants.{Begin, Commit, Abort, Write, Consolidate, Checkpoint, Mount}
 use Rattle.printing.specs.declared.Output.{Output}
 use Rattle.printing.specs.declared.Output.TheVariants.{Answered}
-use Rattle.executing.specs.declared.Cut.{Cut}
-use Rattle.executing.specs.declared.Cut.TheVariants.{Unset, After}
 use Rattle.executing.specs.declared.Mode.{Mode}
 use Rattle.executing.specs.declared.Turned.{Turned}
 
@@ -31,7 +29,7 @@ call_of Mount count numbers = mount
 pub record Machine : Type 0 where
   pub st : State
   pub formatted : Bool
-  pub cut : Cut
+  pub cut : Option ℕ
 
 -- the machine after a line, what the line prints, and the buffer after it
 pub record Turn : Type 0 where
@@ -42,26 +40,26 @@ pub record Turn : Type 0 where
 abbrev pub turn : Machine → Output → List ℕ → Turn
 turn m output img = record { machine = m; output = output; image = img }
 
-abbrev pub ready : State → Cut → Machine
+abbrev pub ready : State → Option ℕ → Machine
 ready st cut = record { st = st; formatted = true; cut = cut }
 
 -- a K lets at most k of the stores needed be made, and then mounts: the number is the mount's
-abbrev pub budget : Cut → ℕ → ℕ
-budget Unset needed = needed
-budget (After k) needed = k
+abbrev pub budget : Option ℕ → ℕ → ℕ
+budget None needed = needed
+budget (Some k) needed = k
 
-abbrev pub after_cut : Cut → ℕ → World → Result
-after_cut Unset number v = record { number = number; stores = 0; world = v; target = [] }
-after_cut (After k) number v = exec mount v
+abbrev pub after_cut : Option ℕ → ℕ → World → Result
+after_cut None number v = record { number = number; stores = 0; world = v; target = [] }
+after_cut (Some k) number v = exec mount v
 
 -- what a call came to: one that needs stores makes them, and a K is used up. Where its mount is turned back, only a format is obeyed from then on
-unfoldable pub finished : ℕ → Cut → Result → Turn
+unfoldable pub finished : ℕ → Option ℕ → Result → Turn
 finished letter cut d =
     let e = exec (run (budget cut d.stores)) d.world in
     let f = after_cut cut d.number e.world in
     cond (eqb d.stores 0)
     (turn (ready d.world.st cut) (Answered letter d.number 0) d.world.image)
-    (turn (record { st = f.world.st; formatted = eqb f.number 0; cut = Unset }) (Answered letter f.number e.stores) e.world.image)
+    (turn (record { st = f.world.st; formatted = eqb f.number 0; cut = None }) (Answered letter f.number e.stores) e.world.image)
 
 -- ---- the same of the code, which keeps the state as words beside its mode
 

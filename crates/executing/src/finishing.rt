@@ -1,33 +1,29 @@
 // The stores that a call needs: all of them, or under a K at most k, and then a mount.
-ghost use Rattle.std.specs.Prelude.{◌≡◌, true, eqb};
+ghost use Rattle.std.specs.Prelude.{◌≡◌, true, eqb, None};
 ghost use Rattle.printing.specs.declared.Output.TheVariants.{Answered};
 ghost use Rattle.state_words.specs.Decoded.{decoded};
-ghost use Rattle.executing.specs.declared.Cut.TheVariants.{Unset};
 ghost use Rattle.executing.specs.Called.{budget, after_cut, world_at, result_at, turn_at, finished};
 
-use crate::{Cut, Mode, Turned};
+use crate::{Mode, Turned};
 use answers::Answer;
 use printing::Output;
 use state_words::Words;
 
 // How many stores may be made.
-fn budget_of(cut: Cut, needed: usize) -> usize
+fn budget_of(cut: Option<usize>, needed: usize) -> usize
     ensures { result ≡ budget cut needed }
 {
-    match cut {
-        Cut::Unset => needed,
-        Cut::After(k) => k,
-    }
+    cut.unwrap_or(needed)
 }
 
 // What follows the stores: under a K a mount, whose number then is the line's.
-fn mount_cut(image: &[u8], words: &mut Words, cut: Cut, number: usize) -> usize
+fn mount_cut(image: &[u8], words: &mut Words, cut: Option<usize>, number: usize) -> usize
     ensures number { result ≡ (after_cut cut number (world_at words.old image.now)).number }
     ensures state { decoded words.new ≡ (after_cut cut number (world_at words.old image.now)).world.st }
 {
     match cut {
-        Cut::Unset => number,
-        Cut::After(_) => {
+        None => number,
+        Some(_) => {
             let answer = call_mount::mount(image, words);
             answers::number_of(answer)
         }
@@ -35,7 +31,7 @@ fn mount_cut(image: &[u8], words: &mut Words, cut: Cut, number: usize) -> usize
 }
 
 // A call's answer, and the mode after it.
-pub fn answered(cut: Cut, letter: u8, number: usize, stores: usize) -> Turned
+pub fn answered(cut: Option<usize>, letter: u8, number: usize, stores: usize) -> Turned
     ensures { result ≡ record { mode = record { formatted = true; cut = cut }; output = Answered letter number stores } }
 {
     let mode = Mode {
@@ -52,11 +48,11 @@ pub fn answered(cut: Cut, letter: u8, number: usize, stores: usize) -> Turned
 
 // The answer when the stores are made: a K is used up. Where its mount was turned back, only a format is obeyed from now on.
 fn ended(letter: u8, number: usize, stores: usize) -> Turned
-    ensures { result ≡ record { mode = record { formatted = eqb number 0; cut = Unset }; output = Answered letter number stores } }
+    ensures { result ≡ record { mode = record { formatted = eqb number 0; cut = None }; output = Answered letter number stores } }
 {
     let mode = Mode {
         formatted: number == 0,
-        cut: Cut::Unset,
+        cut: None,
     };
     let output = Output::Answered {
         letter,
@@ -67,7 +63,13 @@ fn ended(letter: u8, number: usize, stores: usize) -> Turned
 }
 
 // What a call came to that was asked for; one that needs stores makes them.
-pub fn finish(image: &mut [u8], words: &mut Words, cut: Cut, letter: u8, answer: Answer) -> Turned
+pub fn finish(
+    image: &mut [u8],
+    words: &mut Words,
+    cut: Option<usize>,
+    letter: u8,
+    answer: Answer,
+) -> Turned
     ensures { turn_at result words.new image.new ≡ finished letter cut (result_at answer words.old image.old) }
 {
     let number = answers::number_of(answer);

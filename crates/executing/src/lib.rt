@@ -6,18 +6,12 @@ pub mod finishing;
 
 use printing::Output;
 
-// A K that waits for the next taken operation that needs stores.
-#[derive(Clone, Copy)]
-pub enum Cut {
-    Unset,
-    After(usize),
-}
-
 // What the program keeps between two lines beside the words. Until a format is taken it obeys nothing else.
-#[derive(Clone, Copy)]
+// The number of a K waits here for the next taken operation that needs stores.
+#[derive(Clone, Copy, Debug, PartialEq, Eq)]
 pub struct Mode {
     pub formatted: bool,
-    pub cut: Cut,
+    pub cut: Option<usize>,
 }
 
 // The mode after a line, and what the line prints.

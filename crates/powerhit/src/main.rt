@@ -23,8 +23,9 @@ struct Session {
     kept: usize,
     // bytes of output that are not yet written
     at: usize,
-    // whether there may be more input, and whether every write went well
+    // whether the last read put any bytes (as None of a read's Session this would not say that the bytes of a short read are performed)
     more: bool,
+    // whether every write went well (no `?`: lines are performed after a failed write too, as the contracts say)
     ok: bool,
 }
 
@@ -45,11 +46,10 @@ fn started(words: &mut Words) -> Session
 }
 
 fn write_out(out: &[u8; 65536], at: usize) -> bool {
-    if at > 65536 {
-        return false;
+    match out.get(..at) {
+        Some(bytes) => io::write_all(1, bytes),
+        None => false,
     }
-    let bytes: &[u8] = out;
-    io::write_all(1, &bytes[..at])
 }
 
 // Writes a full buffer, unless a write failed before, and gives whether every write went well.
@@ -88,6 +88,7 @@ fn perform_lines(
     let mut start = from;
     let mut end = to;
     let mut ok = s.ok;
+    // no `for`: where the next line ends is found, not counted
     while end < piece.len() {
         ok = write_full(out, at, ok);
         at = left(at);
@@ -163,10 +164,7 @@ fn perform_piece(
 fn read_some(stdin: &mut Stdin, input: &mut [u8]) -> usize
     ensures { result ≤ length input.new }
 {
-    match stdin.read(input) {
-        Ok(n) => n,
-        Err(_) => 0,
-    }
+    stdin.read(input).unwrap_or(0)
 }
 
 // Reads a piece of the input and performs its lines.
@@ -188,8 +186,7 @@ fn read_piece(
     next
 }
 
-// Reads to the end of the input. A proved loop has to end, so this one counts its turns down from a number that no run uses
-// up.
+// Reads to the end of the input. A proved loop has to end, so this one counts its turns, up to a number that no run reaches.
 fn read_all(
     stdin: &mut Stdin,
     image: &mut [u8],
@@ -203,10 +200,11 @@ fn read_all(
         result words.new image.new line.new out.new }
 {
     let mut s = s;
-    let mut turns = u64::MAX;
-    while turns > 0 && s.more && s.ok {
+    for _turn in 0..u64::MAX {
+        if !(s.more && s.ok) {
+            break;
+        }
         s = read_piece(stdin, image, words, s, line, input, out);
-        turns -= 1;
     }
     s
 }

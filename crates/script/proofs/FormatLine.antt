@@ -22,8 +22,7 @@ use Rattle.refinement.specs.Run.{Result, result, exec}
 use Rattle.refinement.proofs.FormatAsked.{formatting, format-valid, format-left, format-taken, ran-image, ran-state}
 use Rattle.call_mount.specs.Replacing.{replacing}
 use Rattle.printing.specs.declared.Output.TheVariants.{Answered}
-use Rattle.executing.specs.declared.Cut.{Cut}
-use Rattle.executing.specs.declared.Cut.TheVariants.{Unset}
+use Rattle.std.specs.Prelude.{Option, None}
 use Rattle.executing.specs.Called.{Machine, turn, ready, finished}
 use Rattle.script.specs.Turns.{formats}
 
@@ -60,18 +59,18 @@ module _ (z : Sizes) (ok : sizes_ok z ≡ true) (buffer : List ℕ) (fits : imag
       let n : left (formatting z) ≡ all = format-left z (legal z ok) in
       rw (← runs) (ap (λ (k : ℕ). min all k) n ∙ whole)
 
-  made : finished 70 Unset asks ≡ turn (ready (fresh_state z) Unset) (Answered 70 0 all) (formatted z buffer)
+  made : finished 70 None asks ≡ turn (ready (fresh_state z) None) (Answered 70 0 all) (formatted z buffer)
   unfolding finished exec
   made =
       let some : eqb (image_words z + 1) 0 ≡ false = ne_eqb (image_words z + 1) 0 (λ q. omega (arith, q)) in
-      rw some (λ i. turn (ready (state i) Unset) (Answered 70 0 (stores i)) (image i))
+      rw some (λ i. turn (ready (state i) None) (Answered 70 0 (stores i)) (image i))
 
-  pub format-fresh : (m : Machine) → m.cut ≡ Unset → formats m buffer z ≡ turn (ready (fresh_state z) Unset) (Answered 70 0 all) (formatted z buffer)
+  pub format-fresh : (m : Machine) → m.cut ≡ None → formats m buffer z ≡ turn (ready (fresh_state z) None) (Answered 70 0 all) (formatted z buffer)
   unfolding formats
   format-fresh m e =
       let d = result (replacing m.st (format_of z buffer)) buffer in
       let y : eqb (format_of z buffer).number 0 ≡ true = ap (λ (r : Result). eqb r.number 0) (asked m) in
       sym (row-yes (eqb (format_of z buffer).number 0) (finished 70 m.cut d) (turn m (Answered 70 (format_of z buffer).number 0) buffer) y)
-      ∙ ap (λ (k : Cut). finished 70 k d) e
-      ∙ ap (finished 70 Unset) (asked m)
+      ∙ ap (λ (k : Option ℕ). finished 70 k d) e
+      ∙ ap (finished 70 None) (asked m)
       ∙ made

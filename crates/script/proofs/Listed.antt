@@ -35,7 +35,7 @@ use Rattle.script.specs.Listing.{text, printed, input, output}
 use Rattle.printing.specs.Output.{output_line}
 use Rattle.script.specs.Performed.{started, line_turn}
 use Rattle.printing.specs.declared.Output.TheVariants.{Answered}
-use Rattle.executing.specs.declared.Cut.TheVariants.{Unset}
+use Rattle.std.specs.Prelude.{None}
 use Rattle.executing.specs.Called.{Machine, Turn, turn, ready, finished}
 use Rattle.script.specs.Turns.{shown, turn_of}
 use Rattle.script.proofs.FormatLine.{format-fresh}
@@ -51,7 +51,7 @@ fits : (n : ℕ) → n ≤ length (replicate {A = ℕ} n 0)
 fits n = omega (arith, length-replicate {A = ℕ} n 0)
 
 abbrev fresh_turn : Turn
-fresh_turn = turn (ready (fresh_state sizes) Unset) (Answered 70 0 1561) (formatted sizes memory)
+fresh_turn = turn (ready (fresh_state sizes) None) (Answered 70 0 1561) (formatted sizes memory)
 
 first-line : line_turn started memory (text "F,2,1,2") ≡ fresh_turn
 unfolding with_byte fields all_digits value_from all_numbers values line_of parsed form_of text turn_of tab filled

@@ -1,9 +1,8 @@
 -- A line of the input performed: its turn, and the line that it prints.
-use Rattle.std.specs.Prelude.{ℕ, ◌+◌, false, cond, List, leb, length, replicate}
+use Rattle.std.specs.Prelude.{ℕ, ◌+◌, false, cond, List, leb, length, replicate, None}
 use Rattle.words.specs.Words.{over}
 use Rattle.state_words.specs.Decoded.{decoded}
 use Rattle.text.specs.Fields.{parsed}
-use Rattle.executing.specs.declared.Cut.TheVariants.{Unset}
 use Rattle.script.specs.declared.Performed.{Performed}
 use Rattle.printing.specs.Output.{output_line}
 use Rattle.executing.specs.Called.{Machine, machine_at, Turn}
@@ -11,7 +10,7 @@ use Rattle.script.specs.Turns.{turn_of}
 
 -- before the first line: every word is 0, and no line looks at the state until a format is taken
 abbrev pub started : Machine
-started = record { st = decoded (replicate 1280 0); formatted = false; cut = Unset }
+started = record { st = decoded (replicate 1280 0); formatted = false; cut = None }
 
 -- a number has 1 to 9 digits
 abbrev pub line_turn : Machine → List ℕ → List ℕ → Turn

@@ -1,5 +1,5 @@
 -- What a line of each form does to the machine and the buffer, and what it prints.
-use Rattle.std.specs.Prelude.{ℕ, not, cond, List, [], ◌∷◌, eqb, ltb, get_or, replicate}
+use Rattle.std.specs.Prelude.{ℕ, not, cond, List, [], ◌∷◌, eqb, ltb, get_or, replicate, Some}
 use Prim.Native.Char.{code}
 use Rattle.bounded.specs.Rows.{refusal}
 use Rattle.layout.specs.declared.Sizes.{Sizes}
@@ -15,7 +15,6 @@ use Rattle.forms.specs.declared.Form.TheVariants.{Formats, Asks, Reads, Cuts, Ot
 use Rattle.forms.specs.Forms.{first, form_of}
 use Rattle.printing.specs.declared.Output.{Output}
 use Rattle.printing.specs.declared.Output.TheVariants.{Answered, Shown, Unknown}
-use Rattle.executing.specs.declared.Cut.TheVariants.{After}
 use Rattle.executing.specs.Called.{call_of, Machine, Turn, turn, ready, finished}
 
 abbrev pub sizes_in : List ℕ → Sizes
@@ -39,7 +38,7 @@ shown_by st img numbers = let n = num numbers in shown st img (n 0) (n 1) (n 2) 
 
 -- K: it takes the place of one that waits
 abbrev pub cuts : Machine → List ℕ → ℕ → Turn
-cuts m img k = turn (ready m.st (After k)) (Answered (code "K") 0 0) img
+cuts m img k = turn (ready m.st (Some k)) (Answered (code "K") 0 0) img
 
 -- each form's turn
 abbrev pub turn_by : Form → Machine → List ℕ → Line → Turn

@@ -4,7 +4,7 @@ ghost use Rattle.executing.specs.Called.{machine_at};
 ghost use Rattle.script.specs.Performed.{room, started, performed, performed_to};
 
 use crate::{Performed, turns};
-use executing::{Cut, Mode};
+use executing::Mode;
 use state_words::{WORD_COUNT, Words};
 
 // The machine before the first line: every word is 0.
@@ -14,7 +14,7 @@ pub fn start(words: &mut Words) -> Mode
     *words = [0u64; WORD_COUNT];
     Mode {
         formatted: false,
-        cut: Cut::Unset,
+        cut: None,
     }
 }
 
@@ -22,10 +22,7 @@ pub fn start(words: &mut Words) -> Mode
 fn has_room(size: usize, at: usize) -> bool
     ensures { result ≡ leb (at + room) size }
 {
-    if size < 67 {
-        return false;
-    }
-    at <= size - 67
+    size >= 67 && at <= size - 67
 }
 
 // Performs line number n, and puts the line that it prints into out from byte at on. Without room for 67 bytes it does nothing.
@@ -45,8 +42,6 @@ pub fn perform(
         return Performed { mode: m, end: at };
     }
     let t = turns::turn(image, words, m, text::parse::parse(line, 9));
-    let mode = t.mode;
-    let output = t.output;
-    let end = printing::put_output(out, at, n, output);
-    Performed { mode, end }
+    let end = printing::put_output(out, at, n, t.output);
+    Performed { mode: t.mode, end }
 }

@@ -4,7 +4,7 @@ ghost use Rattle.state_words.specs.Decoded.{decoded};
 ghost use Rattle.executing.specs.Called.{machine_at, turn_at};
 ghost use Rattle.script.specs.Turns.{sizes_in, formats, shown, shown_by, turn_of};
 
-use executing::{Cut, Mode, Turned, calls, finishing};
+use executing::{Mode, Turned, calls, finishing};
 use forms::Form;
 use layout::Sizes;
 use op_stores::Until;
@@ -38,8 +38,7 @@ fn format_turn(image: &mut [u8], words: &mut Words, m: Mode, z: Sizes) -> Turned
         };
         return Turned { mode: m, output };
     }
-    let cut = m.cut;
-    finishing::finish(image, words, cut, b'F', answer)
+    finishing::finish(image, words, m.cut, b'F', answer)
 }
 
 // R: the byte at an offset of a line.
@@ -95,15 +94,14 @@ pub fn turn(image: &mut [u8], words: &mut Words, m: Mode, line: Line) -> Turned
     match forms::form_of(m.formatted, letter, count, &line.numbers) {
         Form::Formats => format_turn(image, words, m, sizes_in(&line.numbers)),
         Form::Asks(a) => {
-            let cut = m.cut;
             let answer = calls::ask(image, words, a, count, &line.numbers);
-            finishing::finish(image, words, cut, letter, answer)
+            finishing::finish(image, words, m.cut, letter, answer)
         }
         Form::Reads => {
             let output = read_shown(image, words, &line.numbers);
             Turned { mode: m, output }
         }
-        Form::Cuts => finishing::answered(Cut::After(line.numbers[0] as usize), b'K', 0, 0),
+        Form::Cuts => finishing::answered(Some(line.numbers[0] as usize), b'K', 0, 0),
         Form::Other => Turned {
             mode: m,
             output: Output::Unknown,

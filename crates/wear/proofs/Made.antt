@@ -21,7 +21,7 @@ use Rattle.refinement.proofs.FormatAsked.{formatting, format-left}
 use Rattle.refinement.proofs.Quiet.{busy}
 use Rattle.refinement.proofs.Valid.{legal-sizes}
 use Rattle.call_mount.specs.Replacing.{replacing}
-use Rattle.executing.specs.declared.Cut.{Cut}
+use Rattle.std.specs.Prelude.{Option}
 use Rattle.executing.specs.Called.{budget, finished}
 use Rattle.placing.specs.Placing.{Placed}
 use Rattle.placing.proofs.Placed.{each_placed}
@@ -38,7 +38,7 @@ pub record Ran (v : World) (n : ℕ) : Type 0 where
   pub row : step_row v.st v.image ≡ 0
   pub few : n ≤ left v.st
 
-pub made-ran : (letter : ℕ) (cut : Cut) (d : Result) → (stores_in (finished letter cut d).output ≡ 0 → ⊥)
+pub made-ran : (letter : ℕ) (cut : Option ℕ) (d : Result) → (stores_in (finished letter cut d).output ≡ 0 → ⊥)
     → (d.stores ≡ 0 → ⊥) × Ran d.world (stores_in (finished letter cut d).output)
 unfolding finished exec run_of
 made-ran letter cut d some =

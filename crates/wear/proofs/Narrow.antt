@@ -27,8 +27,7 @@ use Rattle.forms.specs.declared.Ask.TheVariants.{Begin, Commit as Commits, Abort
 use Rattle.forms.specs.declared.Form.{Form}
 use Rattle.forms.specs.declared.Form.TheVariants.{Formats, Asks, Reads, Cuts, Other}
 use Rattle.forms.specs.Forms.{form_of}
-use Rattle.executing.specs.declared.Cut.{Cut}
-use Rattle.executing.specs.declared.Cut.TheVariants.{Unset, After}
+use Rattle.std.specs.Prelude.{Option, None, Some}
 use Rattle.executing.specs.Called.{call_of, Machine, Turn, budget, after_cut, finished}
 use Rattle.script.specs.Turns.{sizes_in, formats, turn_by, turn_of}
 use Rattle.wear.specs.Performs.{Narrow, NarrowMachine}
@@ -106,11 +105,11 @@ runs-narrow k v h =
     choose (eqb (step_row v.st v.image) 0) (stepped_by n (world_of v.st v.image)).st v.st (run-narrow n (world_of v.st v.image) h) h
 
 -- its stores made, and the mount under a K
-cut-narrow : (cut : Cut) (number : ℕ) (v : World) → Narrow v.st → Narrow (after_cut cut number v).world.st
-cut-narrow Unset number v h = h
-cut-narrow (After k) number v h = mount-narrow v h
+cut-narrow : (cut : Option ℕ) (number : ℕ) (v : World) → Narrow v.st → Narrow (after_cut cut number v).world.st
+cut-narrow None number v h = h
+cut-narrow (Some k) number v h = mount-narrow v h
 
-finished-narrow : (letter : ℕ) (cut : Cut) (d : Result) → Narrow d.world.st → Narrow (finished letter cut d).machine.st
+finished-narrow : (letter : ℕ) (cut : Option ℕ) (d : Result) → Narrow d.world.st → Narrow (finished letter cut d).machine.st
 unfolding finished
 finished-narrow letter cut d h =
     case_on (eqb d.stores 0)

@@ -26,7 +26,7 @@ use Rattle.forms.specs.declared.Form.TheVariants.{Formats, Asks, Reads, Cuts, Ot
 use Rattle.forms.specs.Forms.{has, form_of}
 use Rattle.printing.specs.declared.Output.{Output}
 use Rattle.printing.specs.declared.Output.TheVariants.{Answered}
-use Rattle.executing.specs.declared.Cut.{Cut}
+use Rattle.std.specs.Prelude.{Option}
 use Rattle.executing.specs.declared.Mode.{Mode}
 use Rattle.executing.specs.declared.Turned.{Turned}
 use Rattle.executing.specs.Called.{call_of, Machine, Turn, turn, machine_at, result_at, turn_at, finished}
@@ -109,7 +109,7 @@ module _ (m : Mode) (words img : List ℕ) (z : Sizes) (a : Answer) (words' img'
 
 -- ---- a call
 
-module _ (words img : List ℕ) (narrow : Narrow (decoded words)) (a : Ask) (line : Line) (cut : Cut) (answer : Answer) (words' img' : List ℕ)
+module _ (words img : List ℕ) (narrow : Narrow (decoded words)) (a : Ask) (line : Line) (cut : Option ℕ) (answer : Answer) (words' img' : List ℕ)
     (told : result_at answer words' img' ≡ exec (call_of a line.count line.numbers) (world_of (decoded words) img))
     (r : Turned) (words'' img'' : List ℕ) (q : turn_at r words'' img'' ≡ finished line.letter cut (result_at answer words' img'))
     (n : ℕ) (s : n ≡ stores_in r.output) where

@@ -87,10 +87,8 @@ pub fn count(counts: &mut [u64], e: Ends, written: bool, n: usize)
     requires { (length counts.old ≡ 22) × Rising e }
     ensures { counts.new ≡ counted e written n counts.old }
 {
-    let mut k = 0;
-    while k < 22 {
+    for k in 0..22 {
         counts[k] = counts[k].wrapping_add(worn(e, written, n, k) as u64);
-        k += 1;
     }
 }
 
@@ -98,7 +96,7 @@ pub fn count(counts: &mut [u64], e: Ends, written: bool, n: usize)
 fn left(a: usize, b: usize) -> usize
     ensures { result ≡ a - b }
 {
-    if a < b { 0 } else { a - b }
+    a.saturating_sub(b)
 }
 
 // The frame of a word.

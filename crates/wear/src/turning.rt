@@ -13,7 +13,7 @@ ghost use Rattle.wear.specs.Wear.{is_write, stores_in, worn_by, line_wear};
 ghost use Rattle.wear.specs.Performs.{Performs, Narrow, NarrowMachine};
 
 use crate::shares;
-use executing::{Cut, Mode, calls, finishing};
+use executing::{Mode, calls, finishing};
 use forms::{Ask, Form};
 use layout::Sizes;
 use op_stores::Until;
@@ -26,13 +26,8 @@ fn stores_in(o: Output) -> usize
     ensures { result ≡ stores_in o }
 {
     match o {
-        Output::Answered {
-            letter: _,
-            number: _,
-            stores,
-        } => stores,
-        Output::Shown(_) => 0,
-        Output::Unknown => 0,
+        Output::Answered { stores, .. } => stores,
+        Output::Shown(_) | Output::Unknown => 0,
     }
 }
 
@@ -40,15 +35,7 @@ fn stores_in(o: Output) -> usize
 fn is_write(a: Ask) -> bool
     ensures { result ≡ is_write a }
 {
-    match a {
-        Ask::Begin => false,
-        Ask::Commit => false,
-        Ask::Abort => false,
-        Ask::Write => true,
-        Ask::Consolidate => false,
-        Ask::Checkpoint => false,
-        Ask::Mount => false,
-    }
+    matches!(a, Ask::Write)
 }
 
 // F: a format asked for, its stores made and counted.
@@ -127,7 +114,7 @@ pub fn turn(image: &mut [u8], words: &mut Words, m: Mode, counts: &mut [u64], li
         Form::Asks(a) => ask_line(image, words, m, counts, a, line),
         Form::Reads => m,
         Form::Cuts => {
-            let t = finishing::answered(Cut::After(numbers[0] as usize), b'K', 0, 0);
+            let t = finishing::answered(Some(numbers[0] as usize), b'K', 0, 0);
             t.mode
         }
         Form::Other => m,

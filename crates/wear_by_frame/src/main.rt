@@ -16,7 +16,7 @@ struct Reading {
     mode: Mode,
     // bytes in the line buffer, of a line that is not at its end
     kept: usize,
-    // whether there may be more to read
+    // whether there may be more to read (as None of a read's Reading this would not say that the bytes of a short read are taken)
     more: bool,
 }
 
@@ -79,10 +79,8 @@ fn take_piece(
         result words.new image.new counts.new line.new }
 {
     let mut s = s;
-    let mut i = 0;
-    while i < piece.len() {
-        s = take_byte(s, image, words, counts, line, piece[i]);
-        i += 1;
+    for &b in piece {
+        s = take_byte(s, image, words, counts, line, b);
     }
     s
 }
@@ -91,10 +89,7 @@ fn take_piece(
 fn read_some(stdin: &mut Stdin, input: &mut [u8]) -> usize
     ensures { result ≤ length input.new }
 {
-    match stdin.read(input) {
-        Ok(n) => n,
-        Err(_) => 0,
-    }
+    stdin.read(input).unwrap_or(0)
 }
 
 // Reads a piece of the input and takes its bytes.
@@ -118,7 +113,7 @@ fn read_piece(
     next
 }
 
-// Reads on, to the end of the input. A proved loop has to end, so this one counts its turns down from a number that no run uses up.
+// Reads on, to the end of the input. A proved loop has to end, so this one counts its turns, up to a number that no run reaches.
 fn read_all(
     stdin: &mut Stdin,
     s: Reading,
@@ -134,10 +129,11 @@ fn read_all(
         result words.new image.new counts.new line.new }
 {
     let mut s = s;
-    let mut turns = u64::MAX;
-    while turns > 0 && s.more {
+    for _turn in 0..u64::MAX {
+        if !s.more {
+            break;
+        }
         s = read_piece(stdin, s, image, words, counts, line, input);
-        turns -= 1;
     }
     s
 }

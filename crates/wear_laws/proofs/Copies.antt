@@ -28,7 +28,7 @@ use Rattle.forms.specs.declared.Form.{Form}
 use Rattle.forms.specs.declared.Form.TheVariants.{Formats, Asks, Reads, Cuts, Other}
 use Rattle.forms.specs.Forms.{has, form_of}
 use Rattle.printing.specs.declared.Output.TheVariants.{Answered}
-use Rattle.executing.specs.declared.Cut.{Cut}
+use Rattle.std.specs.Prelude.{Option}
 use Rattle.executing.specs.Called.{call_of, Machine, Turn, turn, finished}
 use Rattle.script.specs.Turns.{sizes_in, formats, turn_by, turn_of}
 use Rattle.wear.specs.Performs.{Narrow, NarrowMachine}
@@ -96,7 +96,7 @@ taken : {A : Type 0} (P : A → Type 0) (b : Bool) (x y : A) → (b ≡ true →
 taken P true x y p q = p refl
 taken P false x y p q = q
 
-finished-runs : (letter : ℕ) (cut : Cut) (d : Result) → AskedRuns d
+finished-runs : (letter : ℕ) (cut : Option ℕ) (d : Result) → AskedRuns d
     → RunsIn d.world (stores_in (finished letter cut d).output)
 finished-runs letter cut d f =
     let n = stores_in (finished letter cut d).output in

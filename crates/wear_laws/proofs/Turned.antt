@@ -27,7 +27,7 @@ use Rattle.forms.specs.declared.Form.TheVariants.{Formats, Asks, Reads, Cuts, Ot
 use Rattle.forms.specs.Forms.{is, has, form_of}
 use Rattle.printing.specs.declared.Output.{Output}
 use Rattle.printing.specs.declared.Output.TheVariants.{Answered, Shown, Unknown}
-use Rattle.executing.specs.declared.Cut.{Cut}
+use Rattle.std.specs.Prelude.{Option}
 use Rattle.executing.specs.Called.{call_of, Machine, Turn, budget, finished}
 use Rattle.script.specs.Turns.{sizes_in, formats, shown, turn_by, turn_of}
 
@@ -90,7 +90,7 @@ Readable (Answered letter number stores) = (plain_byte letter ≡ true) × (stor
 Readable (Shown byte) = Unit {0}
 Readable Unknown = Unit {0}
 
-finished-readable : (letter : ℕ) (cut : Cut) (d : Result) → plain_byte letter ≡ true → Readable (finished letter cut d).output
+finished-readable : (letter : ℕ) (cut : Option ℕ) (d : Result) → plain_byte letter ≡ true → Readable (finished letter cut d).output
 unfolding finished
 finished-readable letter cut d p =
     row_keeps (λ (t : Turn). Readable t.output) (eqb d.stores 0) _ _ (p, omega arith) (p, run-low (budget cut d.stores) d.world)
@@ -125,7 +125,7 @@ module _ (m : Machine) (img : List ℕ) (line : Line) where
 exec-long : (c : Call) (v : World) → length (exec c v).world.image ≡ length v.image
 exec-long c v = (past-untouched.call c v).as_long
 
-finished-long : (letter : ℕ) (cut : Cut) (d : Result) → length (finished letter cut d).image ≡ length d.world.image
+finished-long : (letter : ℕ) (cut : Option ℕ) (d : Result) → length (finished letter cut d).image ≡ length d.world.image
 unfolding finished
 finished-long letter cut d =
     row_keeps (λ (t : Turn). length t.image ≡ length d.world.image) (eqb d.stores 0) _ _ refl (exec-long (run (budget cut d.stores)) d.world)

@@ -37,7 +37,7 @@ use Rattle.cutting.proofs.Feeding.{fed-append}
 use Rattle.text.specs.Fields.{with_byte, fields, all_digits, value_from, all_numbers, values, line_of, parsed}
 use Rattle.forms.specs.Forms.{form_of}
 use Rattle.printing.specs.declared.Output.TheVariants.{Answered}
-use Rattle.executing.specs.declared.Cut.TheVariants.{Unset}
+use Rattle.std.specs.Prelude.{None}
 use Rattle.executing.specs.Called.{Turn, turn, ready, finished}
 use Rattle.script.specs.Listing.{text}
 use Rattle.script.specs.Performed.{started}
@@ -66,7 +66,7 @@ fits : (n : ℕ) → n ≤ length (replicate {A = ℕ} n 0)
 fits n = omega (arith, length-replicate {A = ℕ} n 0)
 
 abbrev fresh_turn : Turn
-fresh_turn = turn (ready (fresh_state sizes) Unset) (Answered 70 0 1041) (formatted sizes memory)
+fresh_turn = turn (ready (fresh_state sizes) None) (Answered 70 0 1041) (formatted sizes memory)
 
 first-turn : turn_of started memory (parsed 9 format_line) ≡ fresh_turn
 unfolding with_byte fields all_digits value_from all_numbers values line_of parsed form_of text turn_of tab filled
@@ -94,7 +94,7 @@ abbrev format_numbers : List ℕ
 format_numbers = 64 ∷ 64 ∷ 0 ∷ 0 ∷ 0 ∷ 0 ∷ 0 ∷ 0 ∷ 0 ∷ 0 ∷ 0 ∷ 0 ∷ 0 ∷ 0 ∷ 0 ∷ 1024 ∷ 9 ∷ 4 ∷ 4 ∷ 0 ∷ 1041 ∷ 0 ∷ []
 
 abbrev after_format : Work
-after_format = record { machine = ready (fresh_state sizes) Unset; image = formatted sizes memory; worn = format_numbers }
+after_format = record { machine = ready (fresh_state sizes) None; image = formatted sizes memory; worn = format_numbers }
 
 format-numbers : with_turn (world_of (formatting sizes) memory) fresh_turn ≡ after_format
 unfolding tab worn_by count_below one wear_of part_of ends_copy format_at

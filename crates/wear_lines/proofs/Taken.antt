@@ -1,4 +1,4 @@
--- A line taken, a buffer cleared, and the numbers printed.
+-- A line taken, and the numbers printed.
 use Prim.Native.Nat.{ℕ, zero, suc, ◌+◌, ◌*◌, ◌%◌, ◌^◌, ◌<◌, ◌≤◌}
 use mathlib.Core.Bool.{true, false}
 use mathlib.Core.List.{List, [], ◌∷◌, ◌++◌}
@@ -25,16 +25,6 @@ use Rattle.wear.specs.Performs.{Counts, Performs, NarrowMachine}
 use Rattle.wear.proofs.Narrow.{turn-narrow}
 use Rattle.wear_lines.specs.Lines.{Work, opening, turned, parts, act, ended, number_line, response}
 use Rattle.wear_lines.specs.Stands.{Stands, Acts, PutResponse}
-
--- a loop that puts 0 in each place
-pub cleared : (l : List ℕ) → filled (length l) (λ i. 0) l ≡ replicate (length l) 0
-cleared l =
-    let n = length l in
-    let size = length-filled n (λ i. 0) l in
-    ext_get_or 0 (filled n (λ i. 0) l) (replicate n 0) (size ∙ sym (length-replicate n 0))
-    (λ i p.
-    let h : i < n = omega (arith, p, size) in
-    get_or-filled n (λ i. 0) l i 0 h (omega arith) ∙ sym (get_or-replicate n i 0 0 h))
 
 -- ---- a line
 

@@ -15,23 +15,12 @@ use script::performing;
 use state_words::Words;
 use wear::turning;
 
-// Puts 0 in each byte.
-fn clear(image: &mut [u8])
-    ensures { image.new ≡ replicate (length image.old) 0 }
-{
-    let mut i = 0;
-    while i < image.len() {
-        image[i] = 0;
-        i += 1;
-    }
-}
-
 // Before the first line of an input: no format is taken, no K waits, and the buffer is of zeros.
 pub fn open_input(image: &mut [u8], words: &mut Words) -> Mode
     ensures machine { machine_at result words.new ≡ started }
     ensures image { image.new ≡ replicate (length image.old) 0 }
 {
-    clear(image);
+    image.fill(0);
     performing::start(words)
 }
 
@@ -39,10 +28,7 @@ pub fn open_input(image: &mut [u8], words: &mut Words) -> Mode
 fn is_parting(line: &[u8]) -> bool
     ensures { result ≡ parts line.now }
 {
-    if line.len() != 1 {
-        return false;
-    }
-    line[0] == b'='
+    matches!(line, [b'='])
 }
 
 // One line more.

@@ -19,10 +19,8 @@ pub fn put_response(out: &mut [u8], counts: &[u64]) -> usize
     ensures { PutResponse counts.now out.old out.new result }
 {
     let mut next = 0;
-    let mut k = 0;
-    while k < 22 {
+    for k in 0..22 {
         next = put_line(out, next, counts[k]);
-        k += 1;
     }
     next
 }

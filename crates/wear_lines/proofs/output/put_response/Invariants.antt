@@ -1,4 +1,4 @@
-use Prim.Native.Nat.{◌-◌, ◌≤◌}
+use Prim.Native.Nat.{◌≤◌}
 use mathlib.Core.Path.{◌≡◌}
 use lib.ListN.{length}
 use Rattle.number_text.specs.Text.{Put}
@@ -7,6 +7,3 @@ use Rattle.wear_lines.proofs.output.put_response.Given as goal
 
 abbrev pub invariant-loop-k : goal.invariant-loop-k
 invariant-loop-k l = (l.k ≤ 22) × (length l.out ≡ length l.initial.out) × Put l.initial.out 0 (listed l.counts l.k) l.out l.next
-
-abbrev pub decreases-loop-k : goal.decreases-loop-k
-decreases-loop-k l = 22 - l.k

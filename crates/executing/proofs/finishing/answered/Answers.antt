@@ -1,5 +1,0 @@
-use mathlib.Core.Path.{refl}
-use Rattle.executing.proofs.finishing.answered.Goals as goal
-
-pub returns : goal.returns
-returns c = refl
