@@ -78,15 +78,7 @@ pub fn held_ok(z: Sizes, words: &Words) -> bool
     ensures { result ≡ held_ok z (decoded words.now).table.page (decoded words.now).writers.opened
         (decoded words.now).writers.held }
 {
-    let mut s = 0;
-    while s < z.slots {
-        let free = page_at(words, s) == journal::NO_PAGE;
-        if !slot_held_ok(words, free, s) {
-            return false;
-        }
-        s += 1;
-    }
-    true
+    (0..z.slots).all(|s| slot_held_ok(words, page_at(words, s) == journal::NO_PAGE, s))
 }
 
 // Whether a writer other than w holds line l of slot s.
@@ -94,15 +86,7 @@ pub fn others_hold(words: &Words, w: usize, s: usize, l: usize) -> bool
     requires { (s < 16) × (l < 64) }
     ensures { result ≡ others_hold (decoded words.now).writers.held w s l }
 {
-    let mut v = 0;
-    while v < 4 {
-        let m = held_at(words, v, s);
-        if (v != w) & masks::has(m, l) {
-            return true;
-        }
-        v += 1;
-    }
-    false
+    (0..4).any(|v| v != w && masks::has(held_at(words, v, s), l))
 }
 
 // How many slots writer w holds lines of.
@@ -110,29 +94,17 @@ pub fn held_count(z: Sizes, words: &Words, w: usize) -> usize
     requires { Legal z × (w < 4) }
     ensures { result ≡ length (held_slots z (decoded words.now).writers.held w) }
 {
-    let mut n = 0;
-    let mut s = 0;
-    while s < z.slots {
-        let m = held_at(words, w, s);
-        n += state::held::one_if(m != 0);
-        s += 1;
-    }
-    n
+    (0..z.slots).filter(|&s| held_at(words, w, s) != 0).count()
 }
 
 // Whether writer w is open and no other is.
 fn alone_open(words: &Words, w: usize) -> bool
     ensures { result ≡ alone_open (decoded words.now).writers.opened w }
 {
-    let mut v = 0;
-    while v < 4 {
+    (0..4).all(|v| {
         let open = open_at(words, v);
-        if !((open & (v == w)) | (!open & (v != w))) {
-            return false;
-        }
-        v += 1;
-    }
-    true
+        (open & (v == w)) | (!open & (v != w))
+    })
 }
 
 // Whether no line is held.
@@ -140,14 +112,7 @@ fn none_held(z: Sizes, words: &Words) -> bool
     requires { Legal z }
     ensures { result ≡ none_held z (decoded words.now).writers.held }
 {
-    let mut s = 0;
-    while s < z.slots {
-        if some_hold(words, s) {
-            return false;
-        }
-        s += 1;
-    }
-    true
+    (0..z.slots).all(|s| !some_hold(words, s))
 }
 
 // The first of n entries with this key, or n where there is none.
@@ -181,17 +146,7 @@ fn entries_ok(z: Sizes, words: &Words, n: usize) -> bool
     requires { Legal z }
     ensures { result ≡ entries_ok z (decoded words.now).wide.keys n }
 {
-    if z.entries < n {
-        return false;
-    }
-    let mut e = 0;
-    while e < n {
-        if !key_right(z, words, e) {
-            return false;
-        }
-        e += 1;
-    }
-    true
+    n <= z.entries && (0..n).all(|e| key_right(z, words, e))
 }
 
 // Whether the entries are right, and a wide writer is open, not prepared, and beside no held line and no other open writer.

@@ -1,17 +1,20 @@
+use Prim.Native.Nat.{ℕ}
+use mathlib.Core.Bool.{Bool, not, ◌&&◌, ◌||◌}
+use mathlib.Core.Path.{refl, ◌∙◌}
+use native.Mathlib.Omega.{arith}
+use lib.Dec.{eqb}
 use borrow.Author.Rules.{rules}
-use Rattle.bounded.proofs.Below.{all_none, all-turn, all-stops, all-ends}
-use mathlib.Core.Path.{ap}
-use Rattle.state_held.proofs.held.alone_open.Invariants.{test}
+use borrow.Author.Tests.{tests}
+use Rattle.std.proofs.lemmas.Iterator.{YieldsList-from_range}
+use Rattle.std.proofs.lemmas.Iterator.Search.{all_from_yields_List}
+use Rattle.state.specs.Held.{is_open}
+use Rattle.state_words.specs.Decoded.{decoded}
+use Rattle.state_words.proofs.Ranges.{all-range}
 use Rattle.state_held.proofs.held.alone_open.Goals as goal
 
-pub loop-v-init : goal.loop-v-init
-loop-v-init c = (search rules, all_none _)
-
-pub returns-then-not-open-v : goal.returns-then-not-open-v
-returns-then-not-open-v c = all-stops _ _ _ _ c.loop-v-test.true (ap (test c.args.w c.loop-v.v) c.open_at-open.ensures) (c.if-not-open-v.true)
-
-pub loop-v-preserved : goal.loop-v-preserved
-loop-v-preserved c = (search rules, all-turn _ _ _ c.loop-v.invariant.1 (ap (test c.args.w c.loop-v.v) c.open_at-open.ensures) (c.if-not-open-v.false))
-
 pub returns : goal.returns
-returns c = all-ends _ _ _ c.loop-v.invariant.0 c.loop-v-test.false c.loop-v.invariant.1
+returns c =
+    let a = c.args in
+    let opened = (decoded a.words.now).writers.opened in
+    let test : ℕ → Bool = λ (v : ℕ). (is_open opened v && eqb v a.w) || (not (is_open opened v) && not (eqb v a.w)) in
+    all_from_yields_List test _ _ c.all.result c.all.ensures.ran (YieldsList-from_range 0 4 4 refl (omega arith)) (λ x b q k. search (rules, tests)) ∙ all-range test 4

@@ -1,27 +1,23 @@
+use Prim.Native.Nat.{ℕ}
+use mathlib.Core.Bool.{Bool}
+use mathlib.Core.Path.{refl, ◌∙◌}
+use native.Mathlib.Omega.{arith}
 use borrow.Author.Rules.{rules}
-use Rattle.bounded.proofs.Below.{all_none, all-turn, all-stops, all-ends}
-use borrow.Author.Tests.{le-leb, lt-leb}
-use Rattle.entries.specs.Entries.{entries_ok}
+use borrow.Author.Tests.{tests, le-leb, lt-leb}
+use Rattle.std.proofs.lemmas.Iterator.{YieldsList-from_range}
+use Rattle.std.proofs.lemmas.Iterator.Search.{all_from_yields_List}
+use Rattle.entries.specs.Entries.{key_right, entries_ok}
+use Rattle.state_words.specs.Decoded.{decoded}
+use Rattle.state_words.proofs.Ranges.{all-range}
 use Rattle.state_held.proofs.held.entries_ok.Goals as goal
 
-pub returns-then-z-n : goal.returns-then-z-n
+pub returns-then-n-z : goal.returns-then-n-z
 unfolding entries_ok
-returns-then-z-n c = rw (lt-leb _ _ c.if-z-n.true)
+returns-then-n-z c =
+    let a = c.args in
+    let test : ℕ → Bool = key_right a.z (decoded a.words.now).wide.keys in
+    rw (le-leb _ _ c.if-n-z.true) (all_from_yields_List test _ _ c.all.result c.all.ensures.ran (YieldsList-from_range 0 a.n a.n refl (omega arith)) (λ x b q k. search (rules, tests)) ∙ all-range test a.n)
 
-pub loop-e-init : goal.loop-e-init
-loop-e-init c = (search rules, search rules, all_none _)
-
-pub returns-then-not-key_right : goal.returns-then-not-key_right
+pub returns-else-n-z : goal.returns-else-n-z
 unfolding entries_ok
-returns-then-not-key_right c =
-    rw (le-leb _ _ c.loop-e.invariant.1)
-    (all-stops _ _ _ _ c.loop-e-test.true c.key_right.ensures (c.if-not-key_right.true))
-
-pub loop-e-preserved : goal.loop-e-preserved
-loop-e-preserved c = (search rules, search rules, all-turn _ _ _ c.loop-e.invariant.2 c.key_right.ensures (c.if-not-key_right.false))
-
-pub returns : goal.returns
-unfolding entries_ok
-returns c =
-    rw (le-leb _ _ c.loop-e.invariant.1)
-    (all-ends _ _ _ c.loop-e.invariant.0 c.loop-e-test.false c.loop-e.invariant.2)
+returns-else-n-z c = rw (lt-leb _ _ c.if-n-z.false)

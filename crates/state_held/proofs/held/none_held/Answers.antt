@@ -1,17 +1,18 @@
+use Prim.Native.Nat.{ℕ}
+use mathlib.Core.Bool.{Bool, not}
+use mathlib.Core.Path.{refl, ◌∙◌}
+use native.Mathlib.Omega.{arith}
 use borrow.Author.Rules.{rules}
-use Rattle.bounded.proofs.Below.{all_none, all-turn, all-stops, all-ends}
-use mathlib.Core.Bool.{not}
-use mathlib.Core.Path.{ap}
+use borrow.Author.Tests.{tests}
+use Rattle.std.proofs.lemmas.Iterator.{YieldsList-from_range}
+use Rattle.std.proofs.lemmas.Iterator.Search.{all_from_yields_List}
+use Rattle.state.specs.Held.{some_hold}
+use Rattle.state_words.specs.Decoded.{decoded}
+use Rattle.state_words.proofs.Ranges.{all-range}
 use Rattle.state_held.proofs.held.none_held.Goals as goal
 
-pub loop-s-init : goal.loop-s-init
-loop-s-init c = (search rules, all_none _)
-
-pub returns-then-some_hold : goal.returns-then-some_hold
-returns-then-some_hold c = all-stops _ _ _ _ c.loop-s-test.true (ap not c.some_hold.ensures) (ap not c.if-some_hold.true)
-
-pub loop-s-preserved : goal.loop-s-preserved
-loop-s-preserved c = (search rules, all-turn _ _ _ c.loop-s.invariant.1 (ap not c.some_hold.ensures) (ap not c.if-some_hold.false))
-
 pub returns : goal.returns
-returns c = all-ends _ _ _ c.loop-s.invariant.0 c.loop-s-test.false c.loop-s.invariant.1
+returns c =
+    let a = c.args in
+    let test : ℕ → Bool = λ (s : ℕ). not (some_hold (decoded a.words.now).writers.held s) in
+    all_from_yields_List test _ _ c.all.result c.all.ensures.ran (YieldsList-from_range 0 a.z.slots a.z.slots refl (omega arith)) (λ x b q k. search (rules, tests)) ∙ all-range test a.z.slots
