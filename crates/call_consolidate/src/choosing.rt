@@ -46,10 +46,8 @@ pub(crate) fn slot_to_free(z: Sizes, words: &Words) -> usize
         (decoded words.now).writers.held }
 {
     let mut best = 0;
-    let mut s = 0;
-    while s < z.slots {
+    for s in 0..z.slots {
         best = better(words, s, best);
-        s += 1;
     }
     best
 }

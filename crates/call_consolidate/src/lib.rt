@@ -13,6 +13,7 @@ ghost use Rattle.state_words.specs.Decoded.{decoded, places_of};
 use answers::Answer;
 use layout::Sizes;
 use op_stores::Until;
+use rows::Refusal;
 use state::{Op, Places};
 use state_words::Words;
 
@@ -33,15 +34,9 @@ pub fn free_valid(image: &mut [u8], z: Sizes, at: Places, words: &mut Words, unt
         (free_of (decoded words.old) image.old) image.old until }
     ensures words { (number_of result ≡ 0 → ⊥) → words.new ≡ words.old }
 {
-    let first = call_rows::valid_row(z, words, image.len());
-    if first != 0 {
-        return answers::answer_of(first, 0);
-    }
+    call_rows::valid_row(z, words, image.len())?;
     let s = choosing::slot_to_free(z, words);
-    let row = call_rows::free_row(z, at, s);
-    if row != 0 {
-        return answers::answer_of(row, 0);
-    }
+    call_rows::free_row(z, at, s)?;
     let page = state_words::page_at(words, s);
     op_stores::ask(image, z, at, words, Op::Consolidate { page }, until)
 }
@@ -56,7 +51,7 @@ pub fn free_slot(image: &mut [u8], words: &mut Words, until: Until) -> Answer
     let z = state_words::sizes_in(words);
     let at = state_words::places_in(words);
     if !state_rules::state_ok(z, at, words) {
-        return Answer::BadState;
+        return Err(Refusal::BadState);
     }
     free_valid(image, z, at, words, until)
 }

@@ -4,7 +4,11 @@ use mathlib.Core.Bool.{Bool, true, false}
 use mathlib.Core.List.{List, [], ◌∷◌, ◌++◌}
 use mathlib.Core.Path.{◌≡◌, refl, sym, ap, ◌∙◌}
 use lib.Dec.{eqb}
-use lib.ListN.{length, replicate}
+use lib.ListN.{length}
+use Rattle.std.specs.Prelude.{Ok, Err}
+use Rattle.rows.specs.declared.Refusal.{Refusal}
+use Rattle.rows.specs.Numbers.{number}
+use Rattle.rows.proofs.Numbers.{number-some}
 use borrow.Author.Tests.{eqb-true, ne_eqb}
 use Rattle.bounded.specs.Below.{some_below}
 use Rattle.bounded.specs.Rows.{Row, refusal}
@@ -16,23 +20,11 @@ use Rattle.moduli_text.specs.Text.{text_row, moduli_in}
 use Rattle.moduli_text.proofs.TextLaws.{text-taken}
 use Rattle.state.specs.State.{State, own_frame}
 use Rattle.state.specs.Slots.{slot_of_page}
-use Rattle.answers.specs.Answers.{is_answer}
 use Rattle.refinement.specs.Frames.{frame_of}
 use Rattle.refinement.specs.Calls.{quiet_rows, load_rows, load_of}
 use Rattle.refinement.proofs.Quiet.{Quiet}
 use Rattle.state_lines.specs.Committed.{committed_at}
-use Rattle.call_load.specs.declared.Loaded.{Loaded}
 use Rattle.call_load.specs.Loaded.{loaded_of, meter_high}
-
--- the number of a text is a row's
-pub text-low : (text : List ℕ) → is_answer (text_row text) ≡ true
-text-low text =
-    case_on (eqb (text_row text) 25)
-    (λ t. ap is_answer (eqb-true (text_row text) 25 t))
-    (λ t.
-    case_on (eqb (text_row text) 26)
-    (λ u. ap is_answer (eqb-true (text_row text) 26 u))
-    (λ u. ap is_answer (text-taken text t u)))
 
 -- the frame of a line's committed copy, as the code found it
 pub frame_found : (z : Sizes) (st : State) (s l f : ℕ) → s ≡ slot_of_page z st.table.page 0 → f ≡ committed_at z (slot_in st.table s) s (own_frame st 0) l → f ≡ frame_of (own_frame st) z st.table 0 l
@@ -78,10 +70,10 @@ module _ (st : State) (img : List ℕ) where
 
     -- ---- what comes of it
 
-    pub load-refused : (r : Loaded) (row : ℕ) → row ≡ refusal (load_rows st img text) → (row ≡ 0 → ⊥) → loaded_of r ≡ record { number = row; moduli = replicate 24 0 } → loaded_of r ≡ load_of st img text
+    pub load-refused : (r : Refusal) → number r ≡ refusal (load_rows st img text) → loaded_of (Err r) ≡ load_of st img text
     unfolding load_of
-    load-refused r row e n h = h ∙ rw (← e, ne_eqb row 0 n)
+    load-refused r e = rw (← e, ne_eqb (number r) 0 (number-some r))
 
-    pub load-taken : (ms : List ℕ) → 0 ≡ refusal (load_rows st img text) → ms ≡ moduli_in text → record { number = 0; moduli = ms } ≡ load_of st img text
+    pub load-taken : (ms : List ℕ) → 0 ≡ refusal (load_rows st img text) → ms ≡ moduli_in text → loaded_of (Ok ms) ≡ load_of st img text
     unfolding load_of
     load-taken ms e h = rw (← e, h)

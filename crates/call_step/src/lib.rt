@@ -22,13 +22,10 @@ pub fn run(image: &mut [u8], words: &mut Words, k: usize) -> Answer
 {
     let z = state_words::sizes_in(words);
     let at = state_words::places_in(words);
-    let row = call_rows::busy_row(z, at, words, image.len());
-    if row != 0 {
-        return answers::answer_of(row, 0);
-    }
+    call_rows::busy_row(z, at, words, image.len())?;
     let n = bounded::smaller(k, op_stores::left_in(z, at, words));
     op_stores::go(image, z, at, words, n);
-    Answer::Taken(n)
+    Ok(n)
 }
 
 // Makes one store.

@@ -6,6 +6,7 @@ use mathlib.Core.Path.{◌≡◌, refl, sym, ap, ◌∙◌, subst}
 use native.Mathlib.Omega.{arith}
 use lib.Dec.{ltb}
 use lib.ListN.{length}
+use Rattle.std.specs.Prelude.{Ok}
 use borrow.Author.Tests.{ltb-false, eqb-true}
 use Rattle.bounded.specs.Rows.{refusal}
 use Rattle.bounded.proofs.Rows.{row-none, none-apply}
@@ -20,8 +21,6 @@ use Rattle.state.specs.Wide.{is_wide}
 use Rattle.operations.specs.Operations.{is_idle, write_rows, log_rows, op_rows, needs}
 use Rattle.validity.specs.Validity.{op_fits, is_fresh}
 use Rattle.operations.proofs.Taken.{ArgsGood, write-taken, log-taken}
-use Rattle.answers.specs.Answers.{is_answer}
-use Rattle.answers.proofs.Answered.{row-known}
 use Rattle.refinement.proofs.WriterCalls.{write-fits, write-op-row}
 use Rattle.refinement.specs.Calls.{quiet_rows, seen_line, finished_line, write_call_rows, write_op, changes_nothing}
 use Rattle.refinement.proofs.Quiet.{Quiet, quiet}
@@ -59,21 +58,13 @@ write-none st img w p l o n bytes e =
       args = g.args;
     })
 
--- each number of its rows is an answer's
-pub write_known : (st : State) (img : List ℕ) (w p l o n : ℕ) (bytes : List ℕ) → is_answer (refusal (write_call_rows st img w p l o n bytes)) ≡ true
-write_known st img w p l o n bytes =
-    let first = quiet_rows st (length img) ++ ((ltb (length bytes) n, 11) ∷ []) in
-    case_on (is_wide st.wide w)
-    (λ t. rw t (row-known (first ++ log_rows st p l o n) refl))
-    (λ t. rw t (row-known (first ++ write_rows st w p l o n) refl))
-
 -- what the merge requires of what was found
-pub write-merge : (st : State) (img : List ℕ) (w p l o n : ℕ) (bytes : List ℕ) (found : Found) → WriteFound st img w p l o n bytes found → found.row ≡ 0
+pub write-merge : (st : State) (img : List ℕ) (w p l o n : ℕ) (bytes : List ℕ) (found : Found) → WriteFound st img w p l o n bytes (Ok found)
     → Legal st.sizes × SeenLow st.sizes found × (l < 64) × (image_length st.sizes ≤ length img) × (o + n ≤ 64) × (n ≤ length bytes)
-write-merge st img w p l o n bytes found f z =
-    let q = write-none st img w p l o n bytes (sym f.0 ∙ z) in (
+write-merge st img w p l o n bytes found f =
+    let q = write-none st img w p l o n bytes (sym f.0) in (
       (ranges-of st q.quiet.ok).legal,
-      found-low st img w p l o n bytes found f z q.quiet.ok q.args.page-low,
+      found-low st img w p l o n bytes found f q.quiet.ok q.args.page-low,
       q.args.line_low,
       q.quiet.long,
       q.args.fits,
@@ -81,23 +72,21 @@ write-merge st img w p l o n bytes found f z =
     )
 
 -- whether it changes nothing, as the code tests it
-pub idle-is : (st : State) (img : List ℕ) (w p l o n : ℕ) (bytes : List ℕ) (found : Found) → WriteFound st img w p l o n bytes found → found.row ≡ 0
+pub idle-is : (st : State) (img : List ℕ) (w p l o n : ℕ) (bytes : List ℕ) (found : Found) → WriteFound st img w p l o n bytes (Ok found)
     → (changed : Bool) → changed ≡ merge_changes (found_line img st.sizes found l) o n bytes → found.held && not changed ≡ changes_nothing st img w p l o n bytes
 unfolding changes_nothing
-idle-is st img w p l o n bytes found f z changed c =
-    let g = f.1 z in
-    let s : changed ≡ merge_changes (seen_line st img w p l) o n bytes = c ∙ ap (λ (x : List ℕ). merge_changes x o n bytes) (found-seen st img w p l o n bytes found f z).1 in
-    rw (g.1, s)
+idle-is st img w p l o n bytes found f changed c =
+    let s : changed ≡ merge_changes (seen_line st img w p l) o n bytes = c ∙ ap (λ (x : List ℕ). merge_changes x o n bytes) (found-seen st img w p l o n bytes found f).1 in
+    rw (f.2, s)
 
 -- the pending operation, as the code has it
-pub pending-is : (st : State) (img : List ℕ) (w p l o n : ℕ) (bytes : List ℕ) (found : Found) → WriteFound st img w p l o n bytes found → found.row ≡ 0
+pub pending-is : (st : State) (img : List ℕ) (w p l o n : ℕ) (bytes : List ℕ) (found : Found) → WriteFound st img w p l o n bytes (Ok found)
     → (words : List ℕ) → words ≡ line_words (merged (found_line img st.sizes found l) o n bytes)
     → (op : Op) (q : Pending) → op ≡ cond found.wide (Log p l o n) (Write w p l o n) → q ≡ pending_from op words
     → q ≡ pending_from (write_op st w p l o n) (finished_line st img w p l o n bytes)
-pending-is st img w p l o n bytes found f z words m op q a e =
-    let g = f.1 z in
-    let b : op ≡ write_op st w p l o n = rw g.2 at a in
-    let s : words ≡ finished_line st img w p l o n bytes = m ∙ ap (λ (x : List ℕ). line_words (merged x o n bytes)) (found-seen st img w p l o n bytes found f z).1 in
+pending-is st img w p l o n bytes found f words m op q a e =
+    let b : op ≡ write_op st w p l o n = rw f.3 at a in
+    let s : words ≡ finished_line st img w p l o n bytes = m ∙ ap (λ (x : List ℕ). line_words (merged x o n bytes)) (found-seen st img w p l o n bytes found f).1 in
     rw (b, s) at e
 
 -- the operation that a taken write asks for: no row turns it back, it fits the writer, and it needs stores

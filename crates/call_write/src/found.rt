@@ -12,30 +12,18 @@ ghost use Rattle.call_write.specs.Finding.{FramesIn, EntryIn};
 use crate::Span;
 use layout::Sizes;
 use lines::Merged;
+use rows::Refusal;
 use state::Places;
 use state_held::slots::slot_of;
 use state_words::Words;
 
-// The row, 0 where none turns the write back; then the frame that the line is read from, whether the writer holds the line, and whether it is the wide
-// one. That one holds a line as an entry: it is then `seen`.
+// Where no row turns the write back: the frame that the line is read from, whether the writer holds the line, and whether it is the wide one. That one
+// holds a line as an entry: it is then `seen`.
 #[derive(Clone, Copy)]
 pub struct Found {
-    pub row: usize,
     pub seen: usize,
     pub held: bool,
     pub wide: bool,
-}
-
-// A refusal.
-fn turned_back(row: usize) -> Found
-    ensures { result ≡ record { row = row; seen = 0; held = false; wide = false } }
-{
-    Found {
-        row,
-        seen: 0,
-        held: false,
-        wide: false,
-    }
 }
 
 // Whether the writer holds line l, s being its page's slot, S where it has none.
@@ -50,51 +38,48 @@ fn holds_line(z: Sizes, words: &Words, writer: usize, s: usize, l: usize) -> boo
 }
 
 // The rows from 11 on, of a page below P.
-fn frames_found(z: Sizes, at: Places, words: &Words, writer: usize, a: Span) -> Found
+fn frames_found(
+    z: Sizes,
+    at: Places,
+    words: &Words,
+    writer: usize,
+    a: Span,
+) -> Result<Found, Refusal>
     requires { Legal z × (at.next < z.slots) × (a.page < z.pages) }
     ensures { FramesIn z at (decoded words.now) writer a result }
 {
     let s = slot_of(z, words, a.page);
-    let row = op_rows::write_row(z, at, words, writer, a, s);
-    if row != 0 {
-        return turned_back(row);
-    }
+    op_rows::write_row(z, at, words, writer, a, s)?;
     let seen = state_lines::seen_frame(z, words, writer, a.page, s, a.line);
     let held = holds_line(z, words, writer, s, a.line);
-    Found {
-        row,
+    Ok(Found {
         seen,
         held,
         wide: false,
-    }
+    })
 }
 
 // The same of a wide write.
-fn entry_found(z: Sizes, at: Places, words: &Words, a: Span) -> Found
+fn entry_found(z: Sizes, at: Places, words: &Words, a: Span) -> Result<Found, Refusal>
     requires { Legal z × (at.count ≤ 64) × (a.page < z.pages) }
     ensures { EntryIn z at (decoded words.now) a result }
 {
-    let row = op_rows::log_row(z, at, words, a);
-    if row != 0 {
-        return turned_back(row);
-    }
+    op_rows::log_row(z, at, words, a)?;
     let e = state_held::held::find_entry(words, at.count, (64 * a.page + a.line) as u64);
     if e < at.count {
-        return Found {
-            row,
+        return Ok(Found {
             seen: e,
             held: true,
             wide: true,
-        };
+        });
     }
     let s = slot_of(z, words, a.page);
     let seen = state_lines::seen_frame(z, words, at.wide, a.page, s, a.line);
-    Found {
-        row,
+    Ok(Found {
         seen,
         held: false,
         wide: true,
-    }
+    })
 }
 
 // All rows of a write on a state that row 8 accepts, and what it then finds.
@@ -106,17 +91,14 @@ pub fn write_found(
     writer: usize,
     a: Span,
     data: &[u8],
-) -> Found
+) -> Result<Found, Refusal>
     requires { (z ≡ (decoded words.now).sizes) × (at ≡ places_of (decoded words.now)) × (state_ok (decoded words.now) ≡ true) }
     ensures { WriteFound (decoded words.now) image.now writer a.page a.line a.offset
         a.length «data».now result }
 {
-    let row = call_rows::valid_row(z, words, image.len());
-    if row != 0 {
-        return turned_back(row);
-    }
+    call_rows::valid_row(z, words, image.len())?;
     if (data.len() < a.length) | (a.page >= z.pages) {
-        return turned_back(11);
+        return Err(Refusal::BadArgument);
     }
     if at.wide == writer {
         return entry_found(z, at, words, a);

@@ -3,13 +3,12 @@
 
 pub mod found;
 
-ghost use Rattle.std.specs.Prelude.{true, ◌≡◌, replicate};
+ghost use Rattle.std.specs.Prelude.{true, ◌≡◌, replicate, Ok};
 ghost use Rattle.state.specs.declared.Op.TheVariants.{Write, Log};
 ghost use Rattle.operations.specs.Operations.{needs};
 ghost use Rattle.validity.specs.Validity.{state_ok};
 ghost use Rattle.refinement.specs.Stores.{stores_made, state_after};
 ghost use Rattle.refinement.specs.Calls.{write_of};
-ghost use Rattle.answers.specs.declared.Answer.TheVariants.{Taken};
 ghost use Rattle.answers.specs.Answers.{number_of};
 ghost use Rattle.state_words.specs.Decoded.{decoded, places_of};
 ghost use Rattle.state_pending.specs.Put.{with_pending};
@@ -20,6 +19,7 @@ use answers::Answer;
 use layout::Sizes;
 pub use op_rows::Span;
 use op_stores::Until;
+use rows::Refusal;
 use state::{Op, Pending, Places};
 use state_words::Words;
 
@@ -71,7 +71,7 @@ fn put_line(
     until: Until,
 ) -> Answer
     requires { Asks z at (decoded words.old) image.old p × (p.op ≡ Write writer a.page a.line a.offset a.length) }
-    ensures answer { result ≡ Taken (needs (decoded words.old) p.op) }
+    ensures answer { result ≡ Ok (needs (decoded words.old) p.op) }
     ensures image { image.new ≡ stores_made (with_pending (decoded words.old) p)
         (budget until (with_pending (decoded words.old) p)) image.old }
     ensures words { decoded words.new ≡ state_after (with_pending (decoded words.old) p)
@@ -81,12 +81,12 @@ fn put_line(
     let line = p.line;
     state_pending::put_pending(words, p);
     if op_stores::budget(until, op, 0, 8) == 0 {
-        return Answer::Taken(8);
+        return Ok(8);
     }
     let piece = op_write::line_piece(z, at.next, words, line, a.page, a.line, 0);
     op_writer::put_piece(image, words, piece, 8);
     op_write::complete_write(z, words, writer, a.page, a.line);
-    Answer::Taken(8)
+    Ok(8)
 }
 
 // Write on a state that row 8 accepts.
@@ -106,13 +106,10 @@ pub fn write_valid(
         span.length «data».now) image.old until }
     ensures words { (number_of result ≡ 0 → ⊥) → words.new ≡ words.old }
 {
-    let found = found::write_found(image, z, at, words, writer, span, data);
-    if found.row != 0 {
-        return answers::answer_of(found.row, 0);
-    }
+    let found = found::write_found(image, z, at, words, writer, span, data)?;
     let merged = found::merged(image, z, found, span.line, span.offset, data, span.length);
     if found.held & !merged.changed {
-        return Answer::Taken(0);
+        return Ok(0);
     }
     let line = merged.words;
     if found.wide {
@@ -141,7 +138,7 @@ pub fn write(
     let z = state_words::sizes_in(words);
     let at = state_words::places_in(words);
     if !state_rules::state_ok(z, at, words) {
-        return Answer::BadState;
+        return Err(Refusal::BadState);
     }
     write_valid(image, z, at, words, writer, span, data, until)
 }

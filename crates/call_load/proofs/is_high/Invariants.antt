@@ -1,4 +1,3 @@
-use Prim.Native.Nat.{◌-◌, ◌≤◌}
 use mathlib.Core.Bool.{false}
 use mathlib.Core.Path.{◌≡◌}
 use Rattle.bounded.specs.Below.{some_below}
@@ -7,7 +6,4 @@ use Rattle.state_words.specs.Decoded.{decoded}
 use Rattle.call_load.proofs.is_high.Given as goal
 
 abbrev pub invariant-loop-m : goal.invariant-loop-m
-invariant-loop-m l = (l.m ≤ 24) × (some_below l.m (meter_high l.z l.image (decoded l.words) l.moduli) ≡ false)
-
-abbrev pub decreases-loop-m : goal.decreases-loop-m
-decreases-loop-m l = 24 - l.m
+invariant-loop-m l = some_below l.m (meter_high l.z l.image (decoded l.words) l.moduli) ≡ false

@@ -3,7 +3,7 @@ use mathlib.Core.Path.{◌≡◌, sym, ap, ◌∙◌}
 use Rattle.state.specs.State.{State}
 use Rattle.layout.specs.declared.Sizes.{Sizes}
 use Rattle.state.specs.declared.Places.{Places}
-use Rattle.answers.specs.declared.Answer.TheVariants.{Taken}
+use Rattle.std.specs.Prelude.{Ok}
 use Rattle.layout.specs.Layout.{line_word}
 use Rattle.refinement.specs.Write.{frame_to_write, write_done}
 use Rattle.op_pieces.specs.Pieces.{line_piece}
@@ -33,7 +33,7 @@ pub returns-then-budget-eq0 : goal.returns-then-budget-eq0
 returns-then-budget-eq0 c =
     let a = c.args.a in
     let q = none_made c.args.z c.args.at (st c.before.before.before.before.before.before.before) c.args.image.now c.args.p c.requires.0 c.args.writer a.page a.line a.offset a.length c.requires.1 c.args.until (sym c.budget.ensures ∙ c.if-budget-eq0.true) in record {
-      answer = ap Taken (counted c.args.z c.args.at (st c.before.before.before.before.before.before.before) c.args.image.now c.args.p c.requires.0 c.args.writer a.page a.line a.offset a.length c.requires.1);
+      answer = ap Ok (counted c.args.z c.args.at (st c.before.before.before.before.before.before.before) c.args.image.now c.args.p c.requires.0 c.args.writer a.page a.line a.offset a.length c.requires.1);
       image = q.0;
       words = c.put_pending.ensures ∙ q.1;
     }
@@ -66,7 +66,7 @@ pub returns : goal.returns
 returns c =
     let a = c.args.a in
     let all = whole c.args.z c.args.at (st c.before.before.before.before.before.before.before.before.before.before.before.before.before.before) c.args.image.now c.args.p c.requires.0 c.args.writer a.page a.line a.offset a.length c.requires.1 c.args.until (λ q. c.if-budget-eq0.false (c.budget.ensures ∙ q)) in record {
-      answer = ap Taken (counted c.args.z c.args.at (st c.before.before.before.before.before.before.before.before.before.before.before.before.before.before) c.args.image.now c.args.p c.requires.0 c.args.writer a.page a.line a.offset a.length c.requires.1);
+      answer = ap Ok (counted c.args.z c.args.at (st c.before.before.before.before.before.before.before.before.before.before.before.before.before.before) c.args.image.now c.args.p c.requires.0 c.args.writer a.page a.line a.offset a.length c.requires.1);
       image = line_made c.args.z c.args.at (st c.before.before.before.before.before.before.before.before.before.before.before.before.before.before) c.args.image.now c.args.p c.requires.0 c.args.writer a.page a.line a.offset a.length c.requires.1 _ (piece c.before.before.before.before.before.before.before) c.line_piece-piece.ensures.inside c.args.until _ all c.put_piece.ensures;
       words = line-done c.args.z c.args.at (st c.before.before.before.before.before.before.before.before.before.before.before.before.before.before) c.args.image.now c.args.p c.requires.0 c.args.writer a.page a.line a.offset a.length c.requires.1 c.args.until _ all (c.complete_write.ensures ∙ ap (λ (u : State). write_done u c.args.writer a.page a.line) c.put_pending.ensures);
     }

@@ -5,7 +5,7 @@ use Rattle.bounded.proofs.Rows.{row_at}
 use Rattle.bounded.proofs.Tests.{held}
 use Rattle.state.specs.State.{State}
 use Rattle.refinement.specs.Calls.{write_call_rows, write_of}
-use Rattle.answers.specs.declared.Answer.TheVariants.{BadState}
+use Rattle.rows.specs.declared.Refusal.TheVariants.{BadState}
 use Rattle.op_stores.proofs.Starting.{started-refused}
 use Rattle.state_words.specs.Decoded.{decoded}
 use Rattle.call_write.proofs.write.Lts
@@ -28,7 +28,7 @@ returns-then-not-state_ok c =
     let rs = write_call_rows (st c.before.before.before.before.before.before.before) a.image.now a.writer a.span.page a.span.line a.span.offset a.span.length a.«data».now in
     let e = row_at rs 0 (omega arith) tt (sym (ap not c.state_ok.ensures) ∙ (ap not c.if-not-state_ok.true)) in
     record {
-      started = started-refused (st c.before.before.before.before.before.before.before) a.image.now a.until rs 8 e (λ q. omega arith) refl BadState refl _ _;
+      started = started-refused (st c.before.before.before.before.before.before.before) a.image.now a.until rs BadState e _ _;
       words = λ n. refl;
     }
 

@@ -4,14 +4,14 @@ use Rattle.refinement.specs.Freeing.{slot_to_free}
 use Rattle.call_consolidate.proofs.choosing.slot_to_free.Goals as goal
 
 pub loop-s-init : goal.loop-s-init
-loop-s-init c = (search rules, least-none _ _)
+loop-s-init c = least-none _ _
 
 pub better-best-requires : goal.better-best-requires
-better-best-requires c = (search rules, rw c.loop-s.invariant.1 (least-finds _ _ _).le)
+better-best-requires c = (search rules, rw c.loop-s.invariant (least-finds _ _ _).le)
 
 pub loop-s-preserved : goal.loop-s-preserved
-loop-s-preserved c = (search rules, least-turn _ _ _ _ _ c.loop-s.invariant.1 c.better-best.ensures)
+loop-s-preserved c = least-turn _ _ _ _ _ c.loop-s.invariant c.better-best.ensures
 
 pub returns : goal.returns
 unfolding slot_to_free
-returns c = least-ends _ _ _ _ _ c.loop-s.invariant.0 c.loop-s-test.false c.loop-s.invariant.1
+returns c = least-ends _ _ _ _ _ c.loop-s.auto.s-end c.loop-s-test.false c.loop-s.invariant

@@ -1,4 +1,3 @@
-use Prim.Native.Nat.{◌-◌, ◌≤◌}
 use mathlib.Core.Path.{◌≡◌}
 use Rattle.bounded.specs.Below.{least_below}
 use Rattle.refinement.specs.Freeing.{may_free, lines_to_copy}
@@ -7,8 +6,5 @@ use Rattle.call_consolidate.proofs.choosing.slot_to_free.Given as goal
 
 -- The best of the slots below s, which is s while none of them may be freed.
 abbrev pub invariant-loop-s : goal.invariant-loop-s
-invariant-loop-s l = (l.s ≤ l.z.slots)
-    × (l.best ≡ least_below l.s (may_free (decoded l.words).table.page (decoded l.words).writers.held) (lines_to_copy (decoded l.words).table.bitmap))
-
-abbrev pub decreases-loop-s : goal.decreases-loop-s
-decreases-loop-s l = l.z.slots - l.s
+invariant-loop-s l =
+    l.best ≡ least_below l.s (may_free (decoded l.words).table.page (decoded l.words).writers.held) (lines_to_copy (decoded l.words).table.bitmap)

@@ -1,95 +1,73 @@
-use Prim.Native.Nat.{◌<◌, ◌≤◌}
+use borrow.Author.Rules.{rules}
+use Prim.Native.Nat.{ℕ, ◌<◌, ◌≤◌}
 use mathlib.Core.Bool.{Bool, false}
+use mathlib.Core.List.{List}
 use mathlib.Core.Path.{◌≡◌, sym, ap, ◌∙◌}
-use native.Mathlib.Omega.{arith}
 use lib.Dec.{ltb, leb}
 use lib.ListN.{length}
-use borrow.Author.Tests.{leb-false, eq-eqb, ne_eqb}
+use borrow.Author.Tests.{leb-false, ne_eqb}
+use Rattle.std.specs.Prelude.{Err}
 use Rattle.bounded.proofs.Tests.{or_left, or_right}
-use Rattle.layout.specs.Layout.{Legal, image_length}
+use Rattle.bounded.specs.Rows.{refusal}
 use Rattle.layout.specs.declared.Sizes.{Sizes}
+use Rattle.layout.specs.Layout.{Legal, image_length}
 use Rattle.state.specs.State.{State}
+use Rattle.refinement.specs.Calls.{quiet_rows}
 use Rattle.state.specs.declared.Places.{Places}
 use Rattle.state.specs.Wide.{is_wide}
-use Rattle.call_write.specs.declared.found.Found.{Found}
-use Rattle.call_write.specs.Found.{FoundAfter, WriteFound}
-use Rattle.call_write.proofs.FoundLine.{back-row, entry-after, frames-after}
+use Rattle.rows.specs.declared.Refusal.TheVariants.{BadArgument}
+use Rattle.call_write.proofs.FoundLine.{entry-after, frames-after}
 use Rattle.call_write.proofs.ShortData.{write-bad}
-use Rattle.call_write.proofs.Whole.{first-known, found-whole}
-use Rattle.state_words.specs.Decoded.{decoded}
-use Rattle.call_write.proofs.found.write_found.Lts
-use Rattle.call_write.proofs.found.write_found.Tie
-use Rattle.call_write.proofs.found.write_found.Reads
+use Rattle.call_write.proofs.Whole.{found-first, first-known, found-whole}
+use Rattle.state_words.specs.Decoded.{decoded, places_of}
 use Rattle.call_write.proofs.found.write_found.Goals as goal
 
-abbrev At-Start : Type 0
-At-Start = Lts.Start Tie.the-claims Reads.Pre Reads.Post
-
-abbrev At-After-valid_row-row : Type 0
-At-After-valid_row-row = Lts.After-valid_row Tie.the-claims Reads.Pre Reads.Post
-
-abbrev At-Else-data-a : Type 0
-At-Else-data-a = Lts.Else2 Tie.the-claims Reads.Pre Reads.Post
+-- what the rest leans on; z and at are what the code read
+leans : (z : Sizes) (at : Places) (st : State) (img : List ℕ) → z ≡ st.sizes → at ≡ places_of st → 0 ≡ refusal (quiet_rows st (length img))
+    → Legal z × (at.next < z.slots) × (at.count ≤ 64) × (image_length z ≤ length img)
+leans z at st img ez ea e = rw (ez, ea) (first-known st img e)
 
 -- Rows 8, 4 and 9, row 11 for the data, then the others.
-abbrev st : At-Start → State
-st s = decoded s.args.words.now
-
-abbrev short : At-Start → Bool
-short s = ltb (length s.args.«data».now) s.args.a.length
-
--- what is found after the rows that come first is what is found
-whole : (c : At-After-valid_row-row) (r : Found) → let a = c.before.before.before.args in
-    FoundAfter c.valid_row-row.result (st c.before.before.before) a.writer a.a.page a.a.line a.a.offset a.a.length a.«data».now r
-    → WriteFound (st c.before.before.before) a.image.now a.writer a.a.page a.a.line a.a.offset a.a.length a.«data».now r
-whole c r f =
-    let a = c.before.before.before.args in
-    found-whole (st c.before.before.before) a.image.now _ c.valid_row-row.ensures a.writer a.a.page a.a.line a.a.offset a.a.length a.«data».now r f
-
-long2 : (c : At-Else-data-a) → short c.before.before.before.before.before.before.before.before ≡ false
-long2 c = or_left (short c.before.before.before.before.before.before.before.before) (leb c.before.before.before.before.before.before.before.before.args.z.pages c.before.before.before.before.before.before.before.before.args.a.page) c.if-data-a.false
-
-page-low : (c : At-Else-data-a) → c.before.before.before.before.before.before.before.before.args.a.page < c.before.before.before.before.before.before.before.before.args.z.pages
-page-low c = leb-false _ _ (or_right (short c.before.before.before.before.before.before.before.before) (leb c.before.before.before.before.before.before.before.before.args.z.pages c.before.before.before.before.before.before.before.before.args.a.page) c.if-data-a.false)
-
--- what the rest leans on
-leans : (c : At-Else-data-a) → let a = c.before.before.before.before.before.before.before.before.args in Legal a.z × (a.at.next < a.z.slots) × (a.at.count ≤ 64) × (image_length a.z ≤ length a.image.now)
-leans c =
-    rw (c.before.before.before.before.before.before.before.before.requires.0, c.before.before.before.before.before.before.before.before.requires.1) (first-known (st c.before.before.before.before.before.before.before.before) c.before.before.before.before.before.before.before.before.args.image.now _ c.before.before.before.before.before.valid_row-row.ensures c.before.before.before.before.if-row-ne0.false)
-
-pub returns-then-row-ne0 : goal.returns-then-row-ne0
-returns-then-row-ne0 c =
-    let row = back-row _ _ c.turned_back.ensures in
-    whole c.before.before.before _ (row ∙ rw (ne_eqb _ _ c.if-row-ne0.true), λ z. absurd (c.if-row-ne0.true (sym row ∙ z)))
+pub returns-in_err-valid_row : goal.returns-in_err-valid_row
+returns-in_err-valid_row c =
+    let a = c.args in
+    let same : c.from_residual.result ≡ Err c.in_err-valid_row.field-0.0 = search rules in
+    rw same (found-first (decoded a.words.now) a.image.now a.writer a.a.page a.a.line a.a.offset a.a.length a.«data».now _ c.in_err-valid_row.ensures)
 
 pub returns-then-data-a : goal.returns-then-data-a
 returns-then-data-a c =
     let a = c.args in
-    let row = back-row _ _ c.turned_back-then-data-a.ensures in
+    let st = decoded a.words.now in
     let over = rw (ap (λ (z : Sizes). z.pages) c.requires.0) at c.if-data-a.true in
-    let bad = write-bad (short c.before.before.before.before.before.before.before.before.before.before) (is_wide (st c.before.before.before.before.before.before.before.before.before.before).wide a.writer) (st c.before.before.before.before.before.before.before.before.before.before) a.writer a.a.page a.a.line a.a.offset a.a.length over in
-    whole c.before.before.before.before.before.before.before _ (row ∙ rw (eq-eqb _ _ c.if-row-ne0.false) bad, λ z. absurd (omega (arith, row, z)))
+    let bad = write-bad (ltb (length a.«data».now) a.a.length) (is_wide st.wide a.writer) st a.writer a.a.page a.a.line a.a.offset a.a.length over in
+    found-whole st a.image.now c.in_ok-valid_row.ensures a.writer a.a.page a.a.line a.a.offset a.a.length a.«data».now (Err BadArgument) bad
 
 pub entry_found-requires : goal.entry_found-requires
 entry_found-requires c =
-    let q = leans c.before.before.before in
-    (q.0, q.2, page-low c.before.before.before)
+    let a = c.args in
+    let q = leans a.z a.at (decoded a.words.now) a.image.now c.requires.0 c.requires.1 c.in_ok-valid_row.ensures in
+    let low = leb-false _ _ (or_right (ltb (length a.«data».now) a.a.length) (leb a.z.pages a.a.page) c.if-data-a.false) in
+    (q.0, q.2, low)
 
 pub returns-then-at-writer : goal.returns-then-at-writer
 returns-then-at-writer c =
     let a = c.args in
-    let wide : (st c.before.before.before.before.before.before.before.before.before.before.before.before).wide.writer ≡ a.writer = sym (ap (λ (p : Places). p.wide) c.requires.1) ∙ c.if-at-writer.true in
-    whole c.before.before.before.before.before.before.before.before.before _ (entry-after _ c.if-row-ne0.false (st c.before.before.before.before.before.before.before.before.before.before.before.before) a.writer a.a.page a.a.line a.a.offset a.a.length a.«data».now
-    (long2 c.before.before.before.before) _ wide (rw (c.requires.0, c.requires.1) at c.entry_found.ensures))
+    let st = decoded a.words.now in
+    let wide : st.wide.writer ≡ a.writer = sym (ap (λ (p : Places). p.wide) c.requires.1) ∙ c.if-at-writer.true in
+    let long = or_left (ltb (length a.«data».now) a.a.length) (leb a.z.pages a.a.page) c.if-data-a.false in
+    found-whole st a.image.now c.in_ok-valid_row.ensures a.writer a.a.page a.a.line a.a.offset a.a.length a.«data».now _ (entry-after st a.writer a.a.page a.a.line a.a.offset a.a.length a.«data».now long _ wide (rw (c.requires.0, c.requires.1) at c.entry_found.ensures))
 
 pub frames_found-requires : goal.frames_found-requires
 frames_found-requires c =
-    let q = leans c.before.before.before in
-    (q.0, q.1, page-low c.before.before.before)
+    let a = c.args in
+    let q = leans a.z a.at (decoded a.words.now) a.image.now c.requires.0 c.requires.1 c.in_ok-valid_row.ensures in
+    let low = leb-false _ _ (or_right (ltb (length a.«data».now) a.a.length) (leb a.z.pages a.a.page) c.if-data-a.false) in
+    (q.0, q.1, low)
 
 pub returns : goal.returns
 returns c =
     let a = c.args in
-    let narrow : is_wide (st c.before.before.before.before.before.before.before.before.before.before.before.before).wide a.writer ≡ false = ne_eqb (st c.before.before.before.before.before.before.before.before.before.before.before.before).wide.writer a.writer (λ q. c.if-at-writer.false (ap (λ (p : Places). p.wide) c.requires.1 ∙ q)) in
-    whole c.before.before.before.before.before.before.before.before.before _ (frames-after _ c.if-row-ne0.false (st c.before.before.before.before.before.before.before.before.before.before.before.before) a.writer a.a.page a.a.line a.a.offset a.a.length a.«data».now
-    (long2 c.before.before.before.before) _ narrow (rw (c.requires.0, c.requires.1) at c.frames_found.ensures))
+    let st = decoded a.words.now in
+    let narrow : is_wide st.wide a.writer ≡ false = ne_eqb st.wide.writer a.writer (λ q. c.if-at-writer.false (ap (λ (p : Places). p.wide) c.requires.1 ∙ q)) in
+    let long = or_left (ltb (length a.«data».now) a.a.length) (leb a.z.pages a.a.page) c.if-data-a.false in
+    found-whole st a.image.now c.in_ok-valid_row.ensures a.writer a.a.page a.a.line a.a.offset a.a.length a.«data».now _ (frames-after st a.writer a.a.page a.a.line a.a.offset a.a.length a.«data».now long _ narrow (rw (c.requires.0, c.requires.1) at c.frames_found.ensures))
