@@ -78,17 +78,9 @@ module _ {s : Output} {out : List ℕ} where
       let e : i ≡ 12 ^ n = omega arith in
       subst (λ (j : ℕ). Prints s out (each j (λ j. lines_of (sequence n j))) (up_to j (λ j. with_lines (sequence n j))) r out') e p
 
--- ---- the response
-
-pub responds-list : (input : List ℕ) (n : ℕ) (s r : Output) (out out' : List ℕ) → n ≡ wanted_of input → n ≤ 3 → s.at ≡ 0 → Prints s out (listing n) (with_listing n) r out' → Responds input r out'
-responds-list input n s r out out' e h z p =
-    let t = le-leb n 3 h in
-    record { waiting = rw (← e, t) (p.waiting ∙ ap (with_listing n) z); unwritten = rw (← e, t) (p.unwritten [] (rw z (ends-none out []))) }
+-- ---- the response to any other input
 
 pub mark-ends : (out : List ℕ) → 2 ≤ length out → Ends (set (set out 0 (code "?")) 1 (code "\n")) 2 mark
 mark-ends [] h = absurd (omega arith)
 mark-ends (a ∷ []) h = absurd (omega arith)
 mark-ends (a ∷ b ∷ l) h = record { within = omega arith; bytes = refl }
-
-pub responds-mark : (input : List ℕ) (n : ℕ) (ok : Bool) (out : List ℕ) → n ≡ wanted_of input → 3 < n → Ends out 2 mark → Responds input (record { at = 2; ok = ok }) out
-responds-mark input n ok out e h p = let t = lt-leb n 3 h in record { waiting = rw (← e, t); unwritten = rw (← e, t) p }

@@ -2,13 +2,14 @@
 // bytes that a mount then shows (request L9). A line is sequence_lines'; here the input is read and the output is collected.
 #![tactic(auto)]
 
-ghost use Rattle.std.specs.Prelude.{◌≡◌, ◌^◌, ◌≤◌, length};
+ghost use Rattle.std.specs.Prelude.{◌≡◌, ◌^◌, ◌≤◌, length, MatchOption};
 ghost use Rattle.cutting.specs.Buffers.{Ends};
 ghost use Rattle.sequences.specs.Sequences.{sequence};
 ghost use Rattle.sequence_lines.specs.Listing.{lines_of, listing};
 ghost use Rattle.short_runs.specs.Program.{roomed, digit_of, wanted_of, mark, with_lines, with_listing, Prints, PutCut, Responds};
 
-// The output so far: how many of its bytes wait in the buffer, and whether every write went well.
+// The output so far: how many of its bytes wait in the buffer, and whether every write went well (no `?`: after a failed write the contracts
+// go on to tell the bytes that wait).
 #[derive(Clone, Copy)]
 struct Output {
     at: usize,
@@ -23,11 +24,10 @@ struct Cut {
 }
 
 fn write_out(out: &[u8; 65536], at: usize) -> bool {
-    if at > 65536 {
-        return false;
+    match out.get(..at) {
+        Some(bytes) => io::write_all(1, bytes),
+        None => false,
     }
-    let bytes: &[u8] = out;
-    io::write_all(1, &bytes[..at])
 }
 
 // Writes what waits where there may be too little room for a line.
@@ -65,6 +65,7 @@ fn put_cuts(s: Output, out: &mut [u8; 65536], n: usize, i: u64) -> Output
 {
     let mut output = s;
     let mut k = 0;
+    // no `for`: how many cuts there are is known after the first
     loop {
         let cut = put_cut(output, out, n, i, k);
         output = cut.output;
@@ -94,39 +95,30 @@ fn put_all(s: Output, out: &mut [u8; 65536], n: usize) -> Output
     ensures { Prints s out.old (listing n) (with_listing n) result out.new }
 {
     let mut output = s;
-    let all = total(n);
-    let mut i = 0;
-    while i < all {
+    for i in 0..total(n) {
         output = put_cuts(output, out, n, i);
-        i += 1;
     }
     output
 }
 
-// The digit's number, or 4 for any other byte.
-fn digit_of(b: u8) -> usize
-    ensures { result ≡ digit_of b }
+// The number of a digit of 0 to 3.
+fn digit_of(b: u8) -> Option<usize>
+    ensures { MatchOption result (digit_of b ≡ 4) (λ n. (n ≡ digit_of b) × (n ≤ 3)) }
 {
-    if (b < 48) | (b > 51) {
-        return 4;
+    match b {
+        b'0'..=b'3' => Some((b - b'0') as usize),
+        _ => None,
     }
-    b as usize - 48
 }
 
-// The number that the input asks for, or 4: one digit of 0 to 3, with or without a newline.
-fn wanted(input: &[u8]) -> usize
-    ensures { result ≡ wanted_of input.now }
+// The number that the input asks for: one digit of 0 to 3, with or without a newline.
+fn wanted(input: &[u8]) -> Option<usize>
+    ensures { MatchOption result (wanted_of input.now ≡ 4) (λ n. (n ≡ wanted_of input.now) × (n ≤ 3)) }
 {
-    if input.len() == 1 {
-        return digit_of(input[0]);
+    match input {
+        [b] | [b, b'\n'] => digit_of(*b),
+        _ => None,
     }
-    if input.len() != 2 {
-        return 4;
-    }
-    if input[1] != 10 {
-        return 4;
-    }
-    digit_of(input[0])
 }
 
 // The answer to any other input.
@@ -143,12 +135,13 @@ fn respond(input: &[u8], out: &mut [u8; 65536]) -> Output
     ensures { Responds input.now result out.new }
 {
     let s = Output { at: 0, ok: true };
-    let n = wanted(input);
-    if n <= 3 {
-        return put_all(s, out, n);
+    match wanted(input) {
+        Some(n) => put_all(s, out, n),
+        None => {
+            put_mark(out);
+            Output { at: 2, ok: true }
+        }
     }
-    put_mark(out);
-    Output { at: 2, ok: true }
 }
 
 // Three bytes tell whether the input is right.

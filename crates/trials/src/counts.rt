@@ -2,53 +2,45 @@
 ghost use Rattle.std.specs.Prelude.{◌≡◌};
 ghost use Rattle.trials.specs.Trials.{stores_for, plus, counted};
 
-use crate::{Ask, Spent};
+use crate::{Ask, NOTHING, Spent};
 
 // What the n stores of a call are for.
+#[tactic(auto, unfolding(crate::specs::Trials::stores_for))]
 pub fn stores_for(a: Ask, n: u64) -> Spent
     ensures { result ≡ stores_for a n }
 {
-    let mut s = Spent {
-        written: 0,
-        journal: 0,
-        copies: 0,
-        tables: 0,
-    };
     match a {
-        Ask::Begin => s,
-        Ask::Write { page: _, byte: _ } => {
-            s.written = n;
-            s
-        }
-        Ask::Free => {
-            if n < 6 {
-                return s;
-            }
-            s.journal = 5;
-            s.copies = n - 6;
-            s.tables = 1;
-            s
-        }
-        Ask::Checkpoint => {
-            s.tables = n;
-            s
-        }
-        Ask::Commit => {
-            s.journal = n;
-            s
-        }
-        Ask::Abort => s,
+        Ask::Write { .. } => Spent {
+            written: n,
+            ..NOTHING
+        },
+        Ask::Free if n >= 6 => Spent {
+            journal: 5,
+            copies: n - 6,
+            tables: 1,
+            ..NOTHING
+        },
+        Ask::Checkpoint => Spent {
+            tables: n,
+            ..NOTHING
+        },
+        Ask::Commit => Spent {
+            journal: n,
+            ..NOTHING
+        },
+        Ask::Begin | Ask::Free | Ask::Abort => NOTHING,
     }
 }
 
+#[tactic(auto, unfolding(crate::specs::Trials::plus))]
 pub fn add(s: Spent, t: Spent) -> Spent
     ensures { result ≡ plus s t }
 {
     Spent {
-        written: std::num::wrapping_add_u64(s.written, t.written),
-        journal: std::num::wrapping_add_u64(s.journal, t.journal),
-        copies: std::num::wrapping_add_u64(s.copies, t.copies),
-        tables: std::num::wrapping_add_u64(s.tables, t.tables),
+        written: s.written.wrapping_add(t.written),
+        journal: s.journal.wrapping_add(t.journal),
+        copies: s.copies.wrapping_add(t.copies),
+        tables: s.tables.wrapping_add(t.tables),
     }
 }
 

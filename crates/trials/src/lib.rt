@@ -14,7 +14,7 @@ use layout::Sizes;
 use state_words::Words;
 
 // The calls that a round makes, all by writer 0; a write puts a byte at the start of a page.
-#[derive(Clone, Copy)]
+#[derive(Clone, Copy, Debug, PartialEq, Eq)]
 pub enum Ask {
     Begin,
     Write { page: usize, byte: u8 },
@@ -25,7 +25,7 @@ pub enum Ask {
 }
 
 // Stores by what they were for.
-#[derive(Clone, Copy)]
+#[derive(Clone, Copy, Debug, PartialEq, Eq)]
 pub struct Spent {
     pub written: u64,
     pub journal: u64,
@@ -33,8 +33,16 @@ pub struct Spent {
     pub tables: u64,
 }
 
+// No store.
+const NOTHING: Spent = Spent {
+    written: 0,
+    journal: 0,
+    copies: 0,
+    tables: 0,
+};
+
 // The number of the last call's answer, the stores made and the rounds so far. The store's state and image are lent beside it.
-#[derive(Clone, Copy)]
+#[derive(Clone, Copy, Debug, PartialEq, Eq)]
 pub struct Trial {
     pub number: usize,
     pub spent: Spent,
@@ -46,15 +54,9 @@ pub struct Trial {
 pub fn nothing_tried() -> Trial
     ensures { (words img : List ℕ) → trial_of result words img ≡ untried (world_of (decoded words) img) }
 {
-    let spent = Spent {
-        written: 0,
-        journal: 0,
-        copies: 0,
-        tables: 0,
-    };
     Trial {
         number: 0,
-        spent,
+        spent: NOTHING,
         done: 0,
         abandoned: 0,
     }

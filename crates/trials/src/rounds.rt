@@ -54,13 +54,11 @@ fn put_pages(t: Trial, image: &mut [u8], words: &mut Words, pages: &[u64], byte:
         ≡ put_all byte pages.now (trial_of t words.old image.old) }
 {
     let mut t = t;
-    let mut i = 0;
-    while i < pages.len() {
-        t = put_page(t, image, words, pages[i] as usize, byte);
+    for &page in pages {
+        t = put_page(t, image, words, page as usize, byte);
         if t.number != 0 {
             return t;
         }
-        i += 1;
     }
     t
 }

@@ -15,7 +15,7 @@ struct Reading {
     session: Session,
     // bytes in the line buffer: a letter, a comma, and a line that is not at its end
     kept: usize,
-    // whether there may be more to read
+    // whether there may be more to read (as None of a read's Reading this would not say that the bytes of a short read are taken)
     more: bool,
 }
 
@@ -71,10 +71,8 @@ fn take_piece(
         result words.new image.new line.new }
 {
     let mut s = s;
-    let mut i = 0;
-    while i < piece.len() {
-        s = take_byte(s, image, words, line, piece[i]);
-        i += 1;
+    for &b in piece {
+        s = take_byte(s, image, words, line, b);
     }
     s
 }
@@ -90,10 +88,7 @@ fn reads_on(lines: usize, set: bool) -> bool
 fn read_some(stdin: &mut Stdin, input: &mut [u8]) -> usize
     ensures { result ≤ length input.new }
 {
-    match stdin.read(input) {
-        Ok(n) => n,
-        Err(_) => 0,
-    }
+    stdin.read(input).unwrap_or(0)
 }
 
 // Reads a piece of the input and takes its bytes.
@@ -117,8 +112,8 @@ fn read_piece(
     next
 }
 
-// Reads on, to the end of the input or past the last round. A proved loop has to end, so this one counts its turns down from a number that no
-// run uses up.
+// Reads on, to the end of the input or past the last round. A proved loop has to end, so this one
+// counts its turns, up to a number that no run reaches.
 fn read_all(
     stdin: &mut Stdin,
     s: Reading,
@@ -132,10 +127,11 @@ fn read_all(
     ensures { TakesSome s words.old image.old line.old result words.new image.new line.new }
 {
     let mut s = s;
-    let mut turns = u64::MAX;
-    while turns > 0 && s.more {
+    for _turn in 0..u64::MAX {
+        if !s.more {
+            break;
+        }
         s = read_piece(stdin, s, image, words, line, input);
-        turns -= 1;
     }
     s
 }

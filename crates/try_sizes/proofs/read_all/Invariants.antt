@@ -4,10 +4,7 @@ use Rattle.try_sizes.specs.Program.{TakesSome}
 use Rattle.try_sizes.proofs.read_all.Given as goal
 
 -- At each turn the bytes read so far have brought the program there.
-abbrev pub invariant-loop-turns : goal.invariant-loop-turns
-invariant-loop-turns l =
+abbrev pub invariant-loop-turn : goal.invariant-loop-turn
+invariant-loop-turn l =
     (length l.image ≡ length l.initial.image) × (length l.line ≡ length l.initial.line) × (length l.input ≡ length l.initial.input)
     × TakesSome l.initial.s l.initial.words l.initial.image l.initial.line l.s l.words l.image l.line
-
-abbrev pub decreases-loop-turns : goal.decreases-loop-turns
-decreases-loop-turns l = l.turns

@@ -1,5 +1,0 @@
-use Rattle.std.proofs.Common.{refl}
-use Rattle.trials.proofs.nothing_tried.Goals as goal
-
-pub returns : goal.returns
-returns c words img = refl
