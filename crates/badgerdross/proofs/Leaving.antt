@@ -6,7 +6,7 @@ use lib.Dec.{eqb}
 use Rattle.bounded.proofs.Tests.{case_on}
 use Rattle.state.specs.State.{State}
 use Rattle.refinement.specs.Outcome.{Outcome}
-use Rattle.answers.specs.declared.Answer.{Answer}
+use Rattle.answers.specs.Answers.{Answer}
 use Rattle.answers.specs.Answers.{number_of, stores_of}
 use Rattle.op_stores.specs.declared.Until.{Until}
 use Rattle.op_stores.specs.Started.{started_of, Started}

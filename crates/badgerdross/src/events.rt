@@ -37,13 +37,11 @@ pub extern "C" fn badgerdross_load(
     ensures moduli { moduli.new ≡
         cond (eqb result 0) (load_of (decoded words.now) image.now text.now).moduli moduli.old }
 {
-    let loaded = call_load::load(image, words, text);
-    let a = loaded.answer;
-    let n = answers::number_of(a);
-    if n != 0 {
-        return n;
+    match call_load::load(image, words, text) {
+        Ok(read) => {
+            *moduli = read;
+            0
+        }
+        Err(row) => usize::from(row),
     }
-    let read = loaded.moduli;
-    *moduli = read;
-    0
 }

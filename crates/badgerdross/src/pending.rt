@@ -1,12 +1,12 @@
 // The pending operation: stepped, run, and what its next store is.
 ghost use Rattle.std.specs.Prelude.{cond, ◌≡◌, eqb};
 ghost use Rattle.answers.specs.Answers.{number_of};
-ghost use Rattle.call_step.specs.NextStore.{next_store_of};
-ghost use Rattle.refinement.specs.Calls.{step_of, step_bytes, run_of, run_bytes};
+ghost use Rattle.refinement.specs.Calls.{step_of, step_bytes, step_row, run_of, run_bytes};
 ghost use Rattle.state_words.specs.Decoded.{decoded};
 ghost use Rattle.badgerdross.specs.Left.{Leaves, Keeps};
 ghost use Rattle.badgerdross.specs.Told.{Tells};
 
+use call_step::NextRange;
 use state_words::Words;
 
 // Makes one store.
@@ -49,18 +49,15 @@ pub extern "C" fn badgerdross_next_store(
     image: &[u8],
     next: &mut [usize; 5],
 ) -> usize
-    ensures number { result ≡ number_of (next_store_of (decoded words.now) image.now).answer }
+    ensures number { result ≡ step_row (decoded words.now) image.now }
     ensures told { result ≡ 0 → Tells (decoded words.now) image.now next.new }
     ensures kept { Keeps result next.new next.old }
 {
-    let range = call_step::next_range(image, words);
-    let told = range.next;
-    let a = told.answer;
-    let n = answers::number_of(a);
-    if n != 0 {
-        return n;
+    match call_step::next_range(image, words) {
+        Ok(NextRange { next: told, beside, left }) => {
+            *next = [told.at, beside, usize::from(told.decides), told.before, left];
+            0
+        }
+        Err(row) => usize::from(row),
     }
-    let decides = state::held::one_if(told.decides);
-    *next = [told.at, range.beside, decides, told.before, range.left];
-    0
 }

@@ -3,16 +3,14 @@
 #![tactic(auto)]
 
 ghost use Rattle.std.specs.Prelude.{cond, ◌≡◌, eqb, length};
-ghost use Rattle.answers.specs.Answers.{number_of};
 ghost use Rattle.badgerdross.specs.Left.{Leaves, Starts, Keeps, until_by, sizes_by, version, Plays, room_by};
 ghost use Rattle.badgerdross.specs.Told.{Tells, reason_by, read_number, read_refusal};
 ghost use Rattle.call_mount.specs.Replacing.{replacing};
 ghost use Rattle.call_round.specs.Round.{round_of};
-ghost use Rattle.call_step.specs.NextStore.{next_store_of};
 ghost use Rattle.layout.specs.Layout.{sizes_ok, image_length};
 ghost use Rattle.reason_reading.specs.Reading.{read_back};
 ghost use Rattle.reasons.specs.Sentence.{compose_row, composed_in, sentence};
-ghost use Rattle.refinement.specs.Calls.{event_of, load_of, step_of, step_bytes, run_of, run_bytes, consolidate_of, free_of, checkpoint_of, begin_of, begin_wide_of, abort_of, write_of, commit_of, prepare_of, confirm_of, withdraw_of, read_row, read_bytes, world_of};
+ghost use Rattle.refinement.specs.Calls.{event_of, load_of, step_of, step_bytes, step_row, run_of, run_bytes, consolidate_of, free_of, checkpoint_of, begin_of, begin_wide_of, abort_of, write_of, commit_of, prepare_of, confirm_of, withdraw_of, read_row, read_bytes, world_of};
 ghost use Rattle.refinement.specs.Mount.{format_of, mount_call};
 ghost use Rattle.refinement.specs.Recall.{recall_row, recall_bytes};
 ghost use Rattle.state_words.specs.Decoded.{decoded};
@@ -148,7 +146,7 @@ pub extern "C" fn badgerdross_next_store(
     image: &[u8],
     next: &mut [usize; 5],
 ) -> usize
-    ensures number { result ≡ number_of (next_store_of (decoded words.now) image.now).answer }
+    ensures number { result ≡ step_row (decoded words.now) image.now }
     ensures told { result ≡ 0 → Tells (decoded words.now) image.now next.new }
     ensures kept { Keeps result next.new next.old }
 {

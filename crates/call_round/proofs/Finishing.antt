@@ -6,7 +6,7 @@ use Rattle.refinement.specs.Outcome.{Outcome}
 use Rattle.refinement.specs.Stores.{World, left}
 use Rattle.refinement.specs.Calls.{world_of}
 use Rattle.refinement.specs.Run.{Call, Result, result, exec, run}
-use Rattle.answers.specs.declared.Answer.{Answer}
+use Rattle.answers.specs.Answers.{Answer}
 use Rattle.answers.specs.Answers.{answered_at}
 use Rattle.state_words.specs.Decoded.{decoded}
 use Rattle.op_stores.specs.declared.Until.TheVariants.{End}

@@ -4,7 +4,7 @@ use mathlib.Core.Bool.{and-false}
 use Rattle.bounded.proofs.Tests.{case_on, row_keeps}
 use Rattle.refinement.specs.Stores.{World}
 use Rattle.refinement.specs.Run.{Call, checkpoint, free, begin, abort, commit, write, Result, exec}
-use Rattle.answers.specs.declared.Answer.{Answer}
+use Rattle.answers.specs.Answers.{Answer}
 use Rattle.answers.specs.Answers.{number_of, stores_of}
 use Rattle.call_round.specs.declared.Room.{Room}
 use Rattle.call_round.specs.declared.Round.{Round}

@@ -3,7 +3,7 @@ use Rattle.std.specs.Prelude.{◌≡◌, ℕ, ◌+◌, ◌%◌, ◌^◌, Bool, c
 use Rattle.refinement.specs.Stores.{World}
 use Rattle.refinement.specs.Calls.{world_of}
 use Rattle.refinement.specs.Run.{Call, checkpoint, free, begin, abort, commit, run, write, Result, result, exec}
-use Rattle.answers.specs.declared.Answer.{Answer}
+use Rattle.answers.specs.Answers.{Answer}
 use Rattle.answers.specs.Answers.{answered_at}
 use Rattle.state_words.specs.Decoded.{decoded}
 use Rattle.call_round.specs.declared.Room.{Room}

@@ -4,7 +4,7 @@ use mathlib.Core.List.{List}
 use mathlib.Core.Path.{◌≡◌, ◌∙◌}
 use Rattle.state.specs.State.{State}
 use Rattle.refinement.specs.Outcome.{Outcome}
-use Rattle.answers.specs.declared.Answer.{Answer}
+use Rattle.answers.specs.Answers.{Answer}
 use Rattle.answers.specs.Answers.{answered_at}
 use Rattle.op_stores.specs.declared.Until.TheVariants.{Asked}
 use Rattle.op_stores.specs.Started.{Started}

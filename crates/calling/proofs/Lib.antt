@@ -1,3 +1,2 @@
 pub mod Asked
 pub mod Copied
-pub mod Stored

@@ -91,8 +91,5 @@ pub fn write(image: &mut [u8], words: &mut Words, count: usize, numbers: &[u64; 
 pub fn stores_of(a: Answer) -> usize
     ensures { result ≡ stores_of a }
 {
-    let Answer::Taken(stores) = a else {
-        return 0;
-    };
-    stores
+    a.unwrap_or(0)
 }

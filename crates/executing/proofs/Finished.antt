@@ -8,7 +8,7 @@ use borrow.Author.Tests.{ne_eqb}
 use Rattle.bounded.proofs.Tests.{case_on}
 use Rattle.mount.specs.Mount.{mount_of}
 use Rattle.state.specs.State.{State}
-use Rattle.answers.specs.declared.Answer.{Answer}
+use Rattle.answers.specs.Answers.{Answer}
 use Rattle.answers.specs.Answers.{number_of, stores_of, answered_at}
 use Rattle.refinement.specs.Outcome.{Outcome}
 use Rattle.refinement.specs.Calls.{world_of, run_of, run_bytes}

@@ -4,7 +4,7 @@ use Rattle.state.specs.State.{State}
 use Rattle.refinement.specs.Stores.{World}
 use Rattle.refinement.specs.Calls.{world_of}
 use Rattle.refinement.specs.Run.{Call, Result, mount, checkpoint, begin, abort, commit, consolidate, run, write, result, exec}
-use Rattle.answers.specs.declared.Answer.{Answer}
+use Rattle.answers.specs.Answers.{Answer}
 use Rattle.answers.specs.Answers.{answered_at}
 use Rattle.state_words.specs.Decoded.{decoded}
 use Rattle.calling.specs.WriteLine.{num, data_of}

@@ -1,6 +1,6 @@
 -- Calls on the host's own state record, by value or lent by `&mut` (document 01: "the host's own state record is changed directly").
 use Rattle.std.specs.Prelude.{◌≡◌}
-use Rattle.answers.specs.declared.Answer.{Answer}
+use Rattle.answers.specs.Answers.{Answer}
 use Rattle.answers.specs.Answers.{number_of, answered_at}
 use Rattle.refinement.specs.Outcome.{Outcome}
 use Rattle.state_words.specs.Decoded.{decoded}

@@ -11,7 +11,7 @@ use Rattle.mount.specs.Mount.{mount_of}
 use Rattle.state.specs.State.{State}
 use Rattle.refinement.specs.Outcome.{Outcome, answered}
 use Rattle.refinement.specs.Mount.{mount_call, format_of}
-use Rattle.answers.specs.declared.Answer.{Answer}
+use Rattle.answers.specs.Answers.{Answer}
 use Rattle.answers.specs.Answers.{answered_at}
 use Rattle.op_stores.specs.declared.Until.TheVariants.{Asked}
 use Rattle.call_mount.specs.Replacing as call

@@ -9,7 +9,7 @@ use borrow.Author.Tests.{ne_eqb, lt-ltb, le-ltb}
 use Rattle.bounded.proofs.Tests.{row-yes}
 use Rattle.layout.specs.declared.Sizes.{Sizes}
 use Rattle.state.specs.State.{State}
-use Rattle.answers.specs.declared.Answer.{Answer}
+use Rattle.answers.specs.Answers.{Answer}
 use Rattle.answers.specs.Answers.{number_of}
 use Rattle.refinement.specs.Calls.{read_row, read_bytes}
 use Rattle.refinement.specs.Mount.{format_of}

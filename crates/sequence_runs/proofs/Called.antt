@@ -8,7 +8,7 @@ use lib.Dec.{eqb}
 use lib.ListN.{get_or, replicate, get_or-eq_default}
 use borrow.Author.Tests.{eqb-true, eqb-false}
 use Rattle.bounded.proofs.Tests.{case_on}
-use Rattle.answers.specs.declared.Answer.{Answer}
+use Rattle.answers.specs.Answers.{Answer}
 use Rattle.answers.specs.Answers.{number_of, stores_of, answered_at}
 use Rattle.refinement.specs.Outcome.{Outcome}
 use Rattle.refinement.specs.Stores.{World}

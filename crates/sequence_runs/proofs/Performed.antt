@@ -15,7 +15,7 @@ use Rattle.refinement.specs.Stores.{World}
 use Rattle.refinement.specs.Outcome.{Outcome}
 use Rattle.refinement.specs.Mount.{format_call}
 use Rattle.fresh.specs.Fresh.{format_rows, format_row, format_bytes}
-use Rattle.answers.specs.declared.Answer.{Answer}
+use Rattle.answers.specs.Answers.{Answer}
 use Rattle.answers.specs.Answers.{answered_at}
 use Rattle.state_words.specs.Decoded.{decoded}
 use Rattle.call_mount.specs.Replacing.{replacing}

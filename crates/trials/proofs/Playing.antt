@@ -2,7 +2,7 @@
 use Rattle.std.proofs.Common.{◌≡◌, ℕ, ◌+◌, ◌<◌, ◌≤◌, List, length, get_or, drop, ap, add-one, drop_of_length-le, drop-cons, eq-eqb, ne_eqb}
 use Rattle.layout.specs.declared.Sizes.{Sizes}
 use Rattle.fresh.specs.Fresh.{format_bytes}
-use Rattle.answers.specs.declared.Answer.{Answer}
+use Rattle.answers.specs.Answers.{Answer}
 use Rattle.answers.specs.Answers.{number_of, stores_of, answered_at}
 use Rattle.state_words.specs.Decoded.{decoded}
 use Rattle.call_mount.specs.Replacing.{replacing}

@@ -7,7 +7,7 @@ use Rattle.bounded.proofs.Tests.{case_on, contradicts}
 use Rattle.layout.specs.declared.Sizes.{Sizes}
 use Rattle.layout.specs.Layout.{Legal}
 use Rattle.state.specs.State.{State}
-use Rattle.answers.specs.declared.Answer.{Answer}
+use Rattle.answers.specs.Answers.{Answer}
 use Rattle.answers.specs.Answers.{number_of, stores_of}
 use Rattle.refinement.specs.Stores.{World, store_at, left}
 use Rattle.refinement.specs.Calls.{world_of, step_row}

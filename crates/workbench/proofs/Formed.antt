@@ -3,7 +3,7 @@ use mathlib.Core.Bool.{Bool, true, false}
 use mathlib.Core.Path.{◌≡◌, ap, ap₂, ◌∙◌}
 use Rattle.state.specs.State.{State}
 use Rattle.refinement.specs.Outcome.{Outcome}
-use Rattle.answers.specs.declared.Answer.{Answer}
+use Rattle.answers.specs.Answers.{Answer}
 use Rattle.answers.specs.Answers.{answered_at}
 use Rattle.workbench.specs.declared.Said.{Said}
 use Rattle.workbench.specs.declared.Said.TheVariants.{OtherForm}

@@ -6,7 +6,7 @@ use Rattle.state.specs.Wide.{no_wide}
 use Rattle.state.specs.Held.{no_writer}
 use Rattle.refinement.specs.Settled.{no_pending}
 use Rattle.refinement.specs.Outcome.{Outcome}
-use Rattle.answers.specs.declared.Answer.{Answer}
+use Rattle.answers.specs.Answers.{Answer}
 use Rattle.answers.specs.Answers.{number_of, stores_of}
 use Rattle.text.specs.declared.Line.{Line}
 use Rattle.state_words.specs.Decoded.{decoded}

@@ -6,8 +6,9 @@ use Rattle.refinement.specs.Stores.{World}
 use Rattle.refinement.specs.Calls.{world_of, with_writers, begin_rows, begin_of}
 use Rattle.refinement.specs.Run.{begin, exec}
 use Rattle.refinement.proofs.Begun.{opening}
-use Rattle.answers.specs.declared.Answer.TheVariants.{BadState}
-use Rattle.answers.proofs.Answered.{row-known, row-refused}
+use Rattle.std.specs.Prelude.{Err}
+use Rattle.rows.specs.declared.Refusal.TheVariants.{BadState}
+use Rattle.answers.proofs.Answered.{row-refused}
 use Rattle.state_words.specs.Decoded.{decoded}
 use Rattle.call_round.specs.declared.Round.{Round}
 use Rattle.call_round.specs.Kept.{FineAt}
@@ -61,12 +62,12 @@ returns-then-not-state_ok c =
     let w = begin a.writer in
     let rs = begin_rows st a.writer in
     let e = row_at rs 0 (omega arith) tt (sym (ap not c.state_ok.ensures) ∙ (ap not c.if-not-state_ok.true)) in
-    let refused = row-refused st (with_writers st (opening st a.writer)) rs 8 e BadState (λ q. omega arith) (row-known rs refl) refl in
+    let refused = row-refused rs st (with_writers st (opening st a.writer)) 0 BadState e in
     let none : Round = record { number = 0; call = 0; stores = 0 } in
     let eight : Round = record { number = 8; call = 0; stores = 0 } in
-    let f = finishes-at-once _ a.image.now (no_stores (refusal rs)) w a.words.now refl BadState a.words.now refused in
+    let f = finishes-at-once _ a.image.now (no_stores (refusal rs)) w a.words.now refl (Err BadState) a.words.now refused in
     not-begun a.room a.writer a.writes.now a.«data».now (first c.before.before.before.before.before.before.before.before) _
-    (call-made w none eight a.words.now a.image.now BadState a.words.now a.image.now f refl) (λ q. omega arith)
+    (call-made w none eight a.words.now a.image.now (Err BadState) a.words.now a.image.now f refl) (λ q. omega arith)
 
 pub begin_made-begun-requires : goal.begin_made-begun-requires
 begin_made-begun-requires c = (c.places_in-at.ensures, ok c.before.before.before.before)

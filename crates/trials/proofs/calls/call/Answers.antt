@@ -1,5 +1,5 @@
 use Rattle.std.proofs.Common.{◌≡◌, ℕ, List, refl}
-use Rattle.answers.specs.declared.Answer.{Answer}
+use Rattle.answers.specs.Answers.{Answer}
 use Rattle.refinement.specs.Calls.{world_of, begin_rows, begin_of, abort_rows, abort_of}
 use Rattle.bounded.specs.Rows.{refusal}
 use Rattle.refinement.specs.Run.{free, checkpoint, commit, exec}
