@@ -13,9 +13,10 @@ use workbench::Said;
 pub fn answered(answer: Answer) -> Said
     ensures { result ≡ answer_said answer }
 {
-    let number = answers::number_of(answer);
-    let count = calling::stores_of(answer);
-    Said::Answered { number, count }
+    Said::Answered {
+        number: answers::number_of(answer),
+        count: calling::stores_of(answer),
+    }
 }
 
 // In place all stores are made; else none.

@@ -2,14 +2,15 @@
 use Prim.Native.Nat.{ℕ}
 use mathlib.Core.Bool.{Bool, true, false}
 use mathlib.Core.List.{List}
-use mathlib.Core.Path.{◌≡◌, refl, sym, ap, ◌∙◌}
+use mathlib.Core.Path.{◌≡◌, ◌∙◌}
 use lib.Dec.{eqb}
+use Rattle.std.proofs.Common.{Some}
 use Rattle.bounded.proofs.Tests.{case_on, contradicts}
 use Rattle.layout.specs.declared.Sizes.{Sizes}
 use Rattle.fresh.specs.Fresh.{format_row}
 use Rattle.mount.specs.Mount.{mount_of}
 use Rattle.state.specs.State.{State}
-use Rattle.refinement.specs.Outcome.{Outcome, answered}
+use Rattle.refinement.specs.Outcome.{Outcome}
 use Rattle.refinement.specs.Mount.{mount_call, format_of}
 use Rattle.answers.specs.Answers.{Answer}
 use Rattle.answers.specs.Answers.{answered_at}
@@ -35,11 +36,11 @@ module _ (img : List ℕ) where
   format-refused z f = case_on (eqb (format_row z img) 0) (λ t. contradicts t f) (λ t. rw t)
 
 module _ (r : Said) (ok : Bool) (st after : State) (a : Answer) (e : ok ≡ true) (h : r ≡ answer_said a) where
-  pub has-mounted : (img : List ℕ) → answered_at a after ≡ call.replacing st (mount_call img) → shown after r ≡ formed ok st (replacing st (mount_call img))
+  pub has-mounted : (img : List ℕ) → answered_at a after ≡ call.replacing st (mount_call img) → shown after (Some r) ≡ formed ok st (replacing st (mount_call img))
   has-mounted img k = has-called r ok st after a (call.replacing st (mount_call img)) e k h ∙ rw e (same st (mount_call img) (mount-refused img))
 
   pub has-formatted : (z : Sizes) (img bytes : List ℕ) → FormatStarted a after bytes z st img Asked
-      → (shown after r ≡ formed ok st (replacing st (format_of z img))) × (bytes ≡ img)
+      → (shown after (Some r) ≡ formed ok st (replacing st (format_of z img))) × (bytes ≡ img)
   has-formatted z img bytes s =
       let t = has-asked r ok st after a e h bytes (call.replacing st (format_of z img)) img s in
       (t.0 ∙ rw e (same st (format_of z img) (format-refused img z)), t.1)

@@ -1,5 +1,5 @@
 -- The lines that make a call on the whole image: F, M, S, N and n of PROBE.md. Each is the call's own definition.
-use Rattle.std.specs.Prelude.{ℕ, Bool, ◌||◌, cond, List, eqb}
+use Rattle.std.specs.Prelude.{ℕ, Bool, ◌||◌, cond, List, eqb, Option}
 use Rattle.layout.specs.declared.Sizes.{Sizes}
 use Rattle.state.specs.State.{State}
 use Rattle.refinement.specs.Calls.{step_of, step_bytes, run_of, run_bytes}
@@ -47,5 +47,5 @@ ran_bytes st img line = cond (eqb line.count 1) (run_bytes st img (arg line 0)) 
 abbrev pub store_said : NextStore → Said
 store_said s = cond (eqb (number_of s.answer) 0) (Store s.at s.decides) (Answered (number_of s.answer) 0)
 
-abbrev pub next_said : State → List ℕ → Line → Said
+abbrev pub next_said : State → List ℕ → Line → Option Said
 next_said st img line = formed_said (eqb line.count 0) (store_said (next_store_of st img))

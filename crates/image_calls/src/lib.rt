@@ -11,88 +11,70 @@ use layout::Sizes;
 use op_stores::Until;
 use state_words::Words;
 use text::Line;
-use workbench::Said;
+use workbench::{Said, numbers};
 
-// L, or 0 where it is left out.
-fn entries_in(line: Line) -> usize
-    ensures { result ≡ (sizes_in line).entries }
-{
-    if line.count == 4 {
-        return line.numbers[3] as usize;
-    }
-    0
-}
-
-// The sizes that a line names.
+// The sizes that a line names; L is 0 where it is left out.
 fn sizes_in(line: Line) -> Sizes
     ensures { result ≡ sizes_in line }
 {
-    let entries = entries_in(line);
+    let [pages, slots, places, entries, ..] = line.numbers;
     Sizes {
-        pages: line.numbers[0] as usize,
-        slots: line.numbers[1] as usize,
-        places: line.numbers[2] as usize,
-        entries,
+        pages: pages as usize,
+        slots: slots as usize,
+        places: places as usize,
+        entries: if line.count == 4 { entries as usize } else { 0 },
     }
 }
 
-pub fn format(image: &mut [u8], words: &mut Words, line: Line) -> Said
+pub fn format(image: &mut [u8], words: &mut Words, line: Line) -> Option<Said>
     ensures turn { turn_at result words.new ≡ format_turn (decoded words.old) image.old line }
     ensures bytes { image.new ≡ image.old }
 {
     if (line.count == 3) | (line.count == 4) { // F,P,S,J or F,P,S,J,L
         let answer = call_mount::format(image, words, sizes_in(line), Until::Asked);
-        return answered(answer);
+        return Some(answered(answer));
     }
-    Said::OtherForm
+    None
 }
 
-pub fn mount(image: &[u8], words: &mut Words, line: Line) -> Said
+pub fn mount(image: &[u8], words: &mut Words, line: Line) -> Option<Said>
     ensures { turn_at result words.new ≡ mount_turn (decoded words.old) image.now line }
 {
-    if line.count == 0 { // M
-        let answer = call_mount::mount(image, words);
-        return answered(answer);
-    }
-    Said::OtherForm
+    numbers::<0>(line)?; // M
+    let answer = call_mount::mount(image, words);
+    Some(answered(answer))
 }
 
-pub fn step(image: &mut [u8], words: &mut Words, line: Line) -> Said
+pub fn step(image: &mut [u8], words: &mut Words, line: Line) -> Option<Said>
     ensures turn { turn_at result words.new ≡ step_turn (decoded words.old) image.old line }
     ensures bytes { image.new ≡ stepped_bytes (decoded words.old) image.old line }
 {
-    if line.count == 0 { // S
-        let answer = call_step::step(image, words);
-        return answered(answer);
-    }
-    Said::OtherForm
+    numbers::<0>(line)?; // S
+    let answer = call_step::step(image, words);
+    Some(answered(answer))
 }
 
-pub fn run(image: &mut [u8], words: &mut Words, line: Line) -> Said
+pub fn run(image: &mut [u8], words: &mut Words, line: Line) -> Option<Said>
     ensures turn { turn_at result words.new ≡ run_turn (decoded words.old) image.old line }
     ensures bytes { image.new ≡ ran_bytes (decoded words.old) image.old line }
 {
-    if line.count == 1 { // N,k
-        let answer = call_step::run(image, words, line.numbers[0] as usize);
-        return answered(answer);
-    }
-    Said::OtherForm
+    let [k] = numbers::<1>(line)?; // N,k
+    let answer = call_step::run(image, words, k as usize);
+    Some(answered(answer))
 }
 
-pub fn next_store(image: &[u8], words: &Words, line: Line) -> Said
+pub fn next_store(image: &[u8], words: &Words, line: Line) -> Option<Said>
     ensures { result ≡ next_said (decoded words.now) image.now line }
 {
-    if line.count != 0 { // n
-        return Said::OtherForm;
-    }
+    numbers::<0>(line)?; // n
     let next = call_step::next_store(image, words);
     let answer = next.answer;
     let number = answers::number_of(answer);
     if number == 0 {
-        return Said::Store {
+        return Some(Said::Store {
             at: next.at,
             decides: next.decides,
-        };
+        });
     }
-    Said::Answered { number, count: 0 }
+    Some(Said::Answered { number, count: 0 })
 }

@@ -1,25 +1,20 @@
 -- The target of a read or a recall: it is at first zero, and a taken call's has 64 bytes.
 use Prim.Native.Nat.{ℕ, zero, suc, ◌≤◌}
-use mathlib.Core.Bool.{◌||◌, ◌&&◌, true}
+use mathlib.Core.Bool.{◌||◌}
 use mathlib.Core.List.{List, ◌∷◌}
 use mathlib.Core.Path.{◌≡◌, refl, ap}
 use native.Mathlib.Nat.{not-suc-le-zero, le_of_suc-le-suc}
 use native.Mathlib.Omega.{arith}
-use lib.Dec.{ltb, leb, eqb}
+use lib.Dec.{ltb, leb}
 use lib.ListN.{length, take, replicate}
-use borrow.Author.Tests.{ltb-false, leb-true}
+use borrow.Author.Tests.{ltb-false}
 use Rattle.bounded.proofs.Rows.{none-apply}
-use Rattle.bounded.proofs.Tests.{and_right, or_right}
+use Rattle.bounded.proofs.Tests.{or_right}
 use Rattle.words.specs.Words.{word}
 use Rattle.mount.specs.Mount.{sizes_from}
 use Rattle.state.specs.State.{State}
 use Rattle.refinement.specs.Calls.{read_rows, read_row}
 use Rattle.refinement.specs.Recall.{recall_rows, recall_row}
-use Rattle.text.specs.declared.Line.{Line}
-use Rattle.workbench.specs.Turns.{arg}
-
-pub target_small : (line : Line) (n i : ℕ) → eqb line.count n && leb (arg line i) 128 ≡ true → arg line i ≤ 128
-target_small line n i e = leb-true (arg line i) 128 (and_right (eqb line.count n) (leb (arg line i) 128) e)
 
 pub take-zeros : (t n : ℕ) → t ≤ n → take {A = ℕ} t (replicate n 0) ≡ replicate t 0
 take-zeros zero n h = refl

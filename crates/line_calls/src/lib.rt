@@ -7,7 +7,7 @@ ghost use Rattle.state_words.specs.Decoded.{decoded};
 
 use state_words::Words;
 use text::Line;
-use workbench::Said;
+use workbench::{Said, numbers};
 
 // A refused call's answer, or the hash of the 64 bytes that a taken one put into its target.
 fn said(number: usize, target: &[u8]) -> Said
@@ -35,15 +35,15 @@ fn read_into(image: &[u8], words: &Words, line: Line, target: &mut [u8]) -> Said
     said(answers::number_of(answer), target)
 }
 
-pub fn read(image: &[u8], words: &Words, line: Line) -> Said
+pub fn read(image: &[u8], words: &Words, line: Line) -> Option<Said>
     ensures { result ≡ read_said (decoded words.now) image.now line }
 {
-    let t = line.numbers[3] as usize;
-    if (line.count == 4) & (t <= 128) {
-        let mut target = [0u8; 128];
-        return read_into(image, words, line, &mut target[..t]);
+    let [_, _, _, t] = numbers::<4>(line)?; // R,w,p,l,t
+    if t > 128 {
+        return None;
     }
-    Said::OtherForm
+    let mut target = [0u8; 128];
+    Some(read_into(image, words, line, &mut target[..t as usize]))
 }
 
 // A recall's answer, or the hash of the 64 bytes.
@@ -59,13 +59,13 @@ fn recall_into(image: &[u8], line: Line, target: &mut [u8]) -> Said
     said(number, target)
 }
 
-pub fn recall(image: &[u8], line: Line) -> Said
+pub fn recall(image: &[u8], line: Line) -> Option<Said>
     ensures { result ≡ recall_said image.now line }
 {
-    let t = line.numbers[2] as usize;
-    if (line.count == 3) & (t <= 128) {
-        let mut target = [0u8; 128];
-        return recall_into(image, line, &mut target[..t]);
+    let [_, _, t] = numbers::<3>(line)?; // E,p,l,t
+    if t > 128 {
+        return None;
     }
-    Said::OtherForm
+    let mut target = [0u8; 128];
+    Some(recall_into(image, line, &mut target[..t as usize]))
 }

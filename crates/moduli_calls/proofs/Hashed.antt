@@ -1,10 +1,10 @@
 -- The bytes of 24 moduli, as a loop lays them over zeros.
 use Prim.Native.Nat.{ℕ, ◌+◌, ◌*◌, ◌≤◌, ◌<◌}
 use mathlib.Core.List.{List, ◌++◌, append-nil}
-use mathlib.Core.Path.{◌≡◌, refl, sym, ap, ◌∙◌}
+use mathlib.Core.Path.{◌≡◌, refl, ap, ◌∙◌}
 use native.Mathlib.Numerals.{add-one}
 use native.Mathlib.Omega.{arith}
-use lib.ListN.{length, get_or, drop, replicate, drop_of_length-le}
+use lib.ListN.{length, get_or, replicate, drop_of_length-le}
 use Rattle.bounded.proofs.Below.{ends}
 use Rattle.words.specs.Words.{over, bytes_of, put_word}
 use Rattle.words.proofs.Bytes.{length-bytes}

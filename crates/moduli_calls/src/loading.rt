@@ -1,6 +1,5 @@
 // A load: its text is a part of the buffer, its image the bytes lent.
-ghost use Rattle.std.specs.Prelude.{◌≡◌, true, ◌+◌, ◌≤◌, leb, length, take};
-ghost use Rattle.words.specs.Words.{part};
+ghost use Rattle.std.specs.Prelude.{◌≡◌, take};
 ghost use Rattle.hashing.specs.Hash.{hash_of};
 ghost use Rattle.state_words.specs.Decoded.{decoded};
 ghost use Rattle.refinement.specs.Calls.{load_of};
@@ -9,27 +8,15 @@ ghost use Rattle.moduli_calls.specs.Calls.{moduli_bytes, loaded_said, table_by, 
 use state_words::Words;
 use text::Line;
 use workbench::moduli::Moduli;
-use workbench::{Said, moduli};
-
-// Whether n bytes from at on are within size.
-fn is_within(size: usize, at: usize, n: usize) -> bool
-    ensures { result ≡ leb (at + n) size }
-{
-    if size < at {
-        return false;
-    }
-    n <= size - at
-}
+use workbench::{Said, numbers};
 
 // The hash of the moduli, each as 8 bytes.
 fn hash_moduli(moduli: [u64; 24]) -> u64
     ensures { result ≡ hash_of (moduli_bytes moduli) }
 {
     let mut bytes = [0u8; 192];
-    let mut i = 0;
-    while i < 24 {
+    for i in 0..24 {
         words::put_word(&mut bytes, 8 * i, moduli[i]);
-        i += 1;
     }
     hashing::hash(&bytes)
 }
@@ -44,25 +31,28 @@ fn load_text(image: &[u8], words: &Words, table: &mut Moduli, text: &[u8]) -> Sa
     let answer = loaded.answer;
     let number = answers::number_of(answer);
     if number == 0 {
-        let ms = loaded.moduli;
-        moduli::lend_all(table, ms);
-        return Said::Hash(hash_moduli(ms));
+        let moduli = loaded.moduli;
+        *table = Moduli::all_lent(moduli);
+        return Said::Hash(hash_moduli(moduli));
     }
     Said::Answered { number, count: 0 }
 }
 
 // The text is a part of the whole buffer; the image is what is lent of it.
-pub fn load(buffer: &[u8], words: &Words, table: &mut Moduli, lent: usize, line: Line) -> Said
+pub fn load(
+    buffer: &[u8],
+    words: &Words,
+    table: &mut Moduli,
+    lent: usize,
+    line: Line,
+) -> Option<Said>
     ensures said { result ≡ load_said (decoded words.now) (take lent buffer.now) buffer.now line }
     ensures table { table.new
         ≡ table_loaded (decoded words.now) (take lent buffer.now) buffer.now table.old line }
 {
-    let at = line.numbers[0] as usize;
-    let n = line.numbers[1] as usize;
-    if (line.count == 2) & is_within(buffer.len(), at, n) { // l,at,n
-        let k = bounded::smaller(lent, buffer.len());
-        let end = at + n;
-        return load_text(&buffer[..k], words, table, &buffer[at..end]);
-    }
-    Said::OtherForm
+    let [at, n] = numbers::<2>(line)?; // l,at,n
+    let end = at.checked_add(n)?;
+    let text = buffer.get(at as usize..end as usize)?;
+    let k = lent.min(buffer.len());
+    Some(load_text(&buffer[..k], words, table, text))
 }

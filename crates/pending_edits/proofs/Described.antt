@@ -1,10 +1,9 @@
 -- The operation that a line of O describes, by the numbers that stand in the words.
-use Prim.Native.Nat.{ℕ, ◌<◌, ◌≤◌}
-use mathlib.Core.Bool.{false, ◌||◌}
+use Prim.Native.Nat.{ℕ, ◌≤◌}
+use mathlib.Core.Bool.{false}
 use mathlib.Core.List.{[], ◌∷◌}
 use mathlib.Core.Path.{◌≡◌, ◌∙◌}
 use borrow.Author.Tests.{ne_eqb, le-ltb}
-use lib.Dec.{eqb, ltb}
 use Rattle.operations.specs.Operations.{is_idle}
 use Rattle.state_words.specs.Decoded.{op_by}
 use Rattle.state_words.proofs.PendingLaws.{op-idle}

@@ -12,7 +12,8 @@ ghost use Rattle.pending_edits.specs.Edits.{pending_in, pending_of, pending_turn
 
 use state_words::{LINE, PENDING, SECOND, Words, parts};
 use text::Line;
-use workbench::{Said, finished};
+use workbench::finished::finished_lines;
+use workbench::{Said, edited, numbers};
 
 // Puts eight words from word i on.
 fn put_eight(words: &mut Words, i: usize, l: [u64; 8])
@@ -20,6 +21,7 @@ fn put_eight(words: &mut Words, i: usize, l: [u64; 8])
     ensures words { words.new ≡ eight words.old i l }
     ensures long { length l ≡ 8 }
 {
+    // One by one, as `eight` says it: of `copy_from_slice` the proof does not close.
     words[i] = l[0];
     words[i + 1] = l[1];
     words[i + 2] = l[2];
@@ -56,15 +58,15 @@ fn put_described(words: &mut Words, line: Line)
     put_numbers(words, [k, n[1], n[2], n[3], n[4], n[5], n[6], 0]);
 }
 
-pub fn set_pending(words: &mut Words, line: Line) -> Said
+pub fn set_pending(words: &mut Words, line: Line) -> Option<Said>
     ensures { turn_at result words.new ≡ pending_turn (decoded words.old) line }
 {
-    let k = line.numbers[0];
-    if (line.count == 7) & (k <= 10) {
-        put_described(words, line);
-        return workbench::edited();
+    let [kind, ..] = numbers::<7>(line)?;
+    if kind > 10 {
+        return None;
     }
-    Said::OtherForm
+    put_described(words, line);
+    Some(edited())
 }
 
 // A word with its byte j set to v.
@@ -72,10 +74,10 @@ fn with_byte(word: u64, j: usize, v: u8) -> u64
     requires { j < 8 }
     ensures { result ≡ with_byte word j v }
 {
-    let mut b = [0u8; 8];
-    words::put_word(&mut b, 0, word);
-    b[j] = v;
-    words::word_at(&b, 0)
+    let mut bytes = [0u8; 8];
+    words::put_word(&mut bytes, 0, word);
+    bytes[j] = v;
+    words::word_at(&bytes, 0)
 }
 
 // Sets byte i of the finished lines, which stand one behind the other.
@@ -88,15 +90,16 @@ fn put_line_byte(words: &mut Words, i: usize, v: u8)
     words[k] = with_byte(words[k], i % 8, v);
 }
 
-pub fn set_line_byte(words: &mut Words, line: Line) -> Said
+pub fn set_line_byte(words: &mut Words, line: Line) -> Option<Said>
     ensures { turn_at result words.new ≡ line_byte_turn (decoded words.old) line }
 {
-    let i = line.numbers[0] as usize;
-    let v = line.numbers[1];
-    let bytes = 64 * finished::finished_lines(parts::op_in(words));
-    if (line.count == 2) & (i < bytes) & (v <= 255) {
-        put_line_byte(words, i, v as u8);
-        return workbench::edited();
+    let [i, v] = numbers::<2>(line)?;
+    let i = i as usize;
+    let v = u8::try_from(v).ok()?;
+    let bytes = 64 * finished_lines(parts::op_in(words));
+    if i >= bytes {
+        return None;
     }
-    Said::OtherForm
+    put_line_byte(words, i, v);
+    Some(edited())
 }

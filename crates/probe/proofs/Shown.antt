@@ -11,6 +11,7 @@ use Rattle.cutting.proofs.Buffers.{holds-none, holds-length, holds_more, ends-no
 use Rattle.text.specs.Fields.{parsed}
 use Rattle.text.proofs.LongLine.{cut_line}
 use Rattle.number_text.specs.Text.{Put}
+use Rattle.workbench.specs.declared.moduli.Moduli.{Moduli}
 use Rattle.probe.specs.declared.Session.{Session}
 use Rattle.probe.specs.Program.{Work, act, Stand, stand, bench_in, Shows, Takes, Reads, TakesSome, Closes, bench_after, bytes_after, line_text, roomed}
 
@@ -74,7 +75,7 @@ unfolding part
 part-rest l a = take_all (length l - a) (drop a l) (omega (arith, length-drop a l))
 
 -- of a line that goes on at `from` and ends at `end`, as much as fits is put behind what is kept
-pub record More (p : Stand) (piece : List ℕ) (s : Session) (buffer words table line out : List ℕ) (from end : ℕ) (line' : List ℕ) (k : ℕ) : Type 0 where
+pub record More (p : Stand) (piece : List ℕ) (s : Session) (buffer words : List ℕ) (table : Moduli) (line out : List ℕ) (from end : ℕ) (line' : List ℕ) (k : ℕ) : Type 0 where
   pub inside : from < length piece
   pub found : end ≡ line_end piece from
   pub laid : line' ≡ over line s.kept (fitting line s.kept piece from end)
@@ -88,7 +89,9 @@ module _
     {p : Stand}
     {piece : List ℕ}
     {s : Session}
-    {buffer words table line out : List ℕ}
+    {buffer words : List ℕ}
+    {table : Moduli}
+    {line out : List ℕ}
     {from end : ℕ}
     {line' : List ℕ}
     {k : ℕ}

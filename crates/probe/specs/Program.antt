@@ -7,6 +7,7 @@ use Rattle.state.specs.State.{State}
 use Rattle.state_words.specs.Decoded.{decoded}
 use Rattle.workbench.specs.Turns.{first_state}
 use Rattle.workbench.specs.Moduli.{first_moduli}
+use Rattle.workbench.specs.declared.moduli.Moduli.{Moduli}
 use Rattle.probing.specs.Lines.{turn_of, buffer_after, table_after, lent_after}
 use Rattle.reporting.specs.Text.{printed_of}
 use Rattle.probe.specs.declared.Session.{Session}
@@ -14,7 +15,7 @@ use Rattle.probe.specs.declared.Session.{Session}
 -- what the calls work on beside the buffer: the state, the table of moduli, and how many of the buffer's first bytes they are lent
 pub record Bench : Type 0 where
   pub st : State
-  pub table : List ℕ
+  pub table : Moduli
   pub lent : ℕ
 
 -- at first they are lent the whole buffer
@@ -73,14 +74,14 @@ pub record Stand : Type 0 where
   pub session : Session
   pub buffer : List ℕ
   pub words : List ℕ
-  pub table : List ℕ
+  pub table : Moduli
   pub line : List ℕ
   pub out : List ℕ
 
-abbrev pub stand : Session → List ℕ → List ℕ → List ℕ → List ℕ → List ℕ → Stand
+abbrev pub stand : Session → List ℕ → List ℕ → Moduli → List ℕ → List ℕ → Stand
 stand s buffer words table line out = record { session = s; buffer = buffer; words = words; table = table; line = line; out = out }
 
-abbrev pub bench_at : List ℕ → List ℕ → ℕ → Bench
+abbrev pub bench_at : List ℕ → Moduli → ℕ → Bench
 bench_at words table lent = record { st = decoded words; table = table; lent = lent }
 
 abbrev pub bench_in : Stand → Bench

@@ -9,12 +9,14 @@ ghost use Rattle.std.specs.Prelude.{◌≡◌, ℕ, List};
 ghost use Rattle.state_words.specs.Decoded.{decoded};
 ghost use Rattle.workbench.specs.Turns.{first_state};
 ghost use Rattle.workbench.specs.Moduli.{first_moduli};
+ghost use Rattle.workbench.specs.declared.moduli.Moduli.{Moduli};
 ghost use Rattle.probe.specs.Program.{stand, Shows, first};
 
 use state_words::WORD_COUNT;
+use workbench::moduli::Moduli;
 
 // What a printed line leaves beside the state: what later calls are lent, and where the next line is printed.
-#[derive(Clone, Copy)]
+#[derive(Clone, Copy, Debug, PartialEq, Eq)]
 struct Printed {
     lent: usize,
     next: usize,
@@ -22,7 +24,7 @@ struct Printed {
 
 // The program between two lines: how many of the buffer's first bytes the calls are lent, how many lines it performed, how many bytes it kept of the next
 // one, how many bytes of output are not written yet, and whether there is more to read and writes go well.
-#[derive(Clone, Copy)]
+#[derive(Clone, Copy, Debug, PartialEq, Eq)]
 struct Session {
     lent: usize,
     lines: u64,
@@ -32,7 +34,7 @@ struct Session {
 }
 
 fn started() -> Session
-    ensures { (buffer words table line out : List ℕ) → decoded words ≡ first_state → table ≡ first_moduli
+    ensures { (buffer words line out : List ℕ) → (table : Moduli) → decoded words ≡ first_state → table ≡ first_moduli
         → Shows (stand result buffer words table line out) (first buffer) }
 {
     Session {
@@ -48,7 +50,7 @@ fn main(rt: HostRuntime) {
     let mut stdin = rt.stdin();
     let mut buffer = [0u8; 65536];
     let mut words = [0u64; WORD_COUNT];
-    let mut table = [0u64; 25];
+    let mut table = Moduli::first();
     let mut line = [0u8; 2048];
     let mut input = [0u8; 65536];
     let mut out = [0u8; 65536];

@@ -180,7 +180,7 @@ fn perform_all(
     ensures { Ran buffer.old (stand result buffer.new words.new table.new line.new out.new) }
 {
     workbench::starting::put_first(words);
-    workbench::moduli::put_first(table);
+    *table = Moduli::first();
     let s = read_all(
         stdin,
         crate::started(),

@@ -1,10 +1,10 @@
 -- The lines that make a call, on the bytes lent, by their letters.
-use Rattle.std.specs.Prelude.{ℕ, true, false, List, [], ◌∷◌}
+use Rattle.std.specs.Prelude.{ℕ, true, false, List, [], ◌∷◌, None}
 use Prim.Native.Char.{code}
 use Rattle.state.specs.State.{State}
 use Rattle.text.specs.declared.Line.{Line}
 use Rattle.workbench.specs.Turns.{Turn, shown, choose}
-use Rattle.workbench.specs.declared.Said.TheVariants.{OtherForm}
+use Rattle.workbench.specs.declared.moduli.Moduli.{Moduli}
 use Rattle.transaction_calls.specs.Calls.{begin_turn, begin_wide_turn, abort_turn, withdraw_turn, commit_turn, commit_bytes, consolidate_turn, consolidate_bytes}
 use Rattle.transaction_calls.specs.Calls.{checkpoint_turn, checkpoint_bytes, write_turn, write_bytes, free_turn, prepare_turn, confirm_turn}
 use Rattle.image_calls.specs.Calls.{format_turn, mount_turn, step_turn, stepped_bytes, run_turn, ran_bytes, next_said}
@@ -24,7 +24,7 @@ place_turn st img line =
     ∷ (code "d", consolidate_turn true st img line)
     ∷ (code "p", checkpoint_turn true st img line)
     ∷ [])
-    (shown st OtherForm)
+    (shown st None)
 
 unfoldable pub place_bytes : State → List ℕ → Line → List ℕ
 place_bytes st img line =
@@ -38,7 +38,7 @@ place_bytes st img line =
 
 -- ---- of a transaction, or an operation that is asked for: none of these changes a byte
 
-unfoldable pub ask_turn : State → List ℕ → List ℕ → Line → Turn
+unfoldable pub ask_turn : State → List ℕ → Moduli → Line → Turn
 ask_turn st img table line =
     choose line.letter
     ((code "B", begin_turn st line)
@@ -58,7 +58,7 @@ ask_turn st img table line =
 
 -- ---- any call
 
-unfoldable pub call_turn : State → List ℕ → List ℕ → Line → Turn
+unfoldable pub call_turn : State → List ℕ → Moduli → Line → Turn
 call_turn st img table line =
     choose line.letter
     ((code "F", format_turn st img line)

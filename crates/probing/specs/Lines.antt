@@ -1,12 +1,13 @@
 -- A line performed (PROBE.md): its turn, the buffer and the table of moduli after it, and what later calls are lent. The calls are lent the buffer's first
 -- `lent` bytes; the others stay.
-use Rattle.std.specs.Prelude.{ℕ, cond, List, [], ◌∷◌, ◌++◌, eqb, length, take, drop}
+use Rattle.std.specs.Prelude.{ℕ, cond, List, [], ◌∷◌, ◌++◌, eqb, length, take, drop, Option}
 use Prim.Native.Char.{code}
 use Rattle.state.specs.State.{State}
 use Rattle.text.specs.declared.Line.{Line}
 use Rattle.workbench.specs.Turns.{Turn, shown, formed_said, choose}
 use Rattle.workbench.specs.declared.Said.TheVariants.{Hash, Numbers}
 use Rattle.workbench.specs.declared.Said.{Said}
+use Rattle.workbench.specs.declared.moduli.Moduli.{Moduli}
 use Rattle.hashing.specs.Hash.{hash_of}
 use Rattle.buffer_edits.specs.Edits.{lend_said, lent_by, byte_said, byte_set, word_said, word_set}
 use Rattle.state_edits.specs.Edits.{number_turn}
@@ -16,14 +17,14 @@ use Rattle.moduli_calls.specs.Calls.{load_said, table_loaded}
 use Rattle.probing.specs.Calls.{call_turn, call_bytes}
 
 -- G prints the state's numbers, H the hash of the whole buffer
-abbrev pub numbers_said : Line → Said
+abbrev pub numbers_said : Line → Option Said
 numbers_said line = formed_said (eqb line.count 0) Numbers
 
-abbrev pub hash_said : List ℕ → Line → Said
+abbrev pub hash_said : List ℕ → Line → Option Said
 hash_said buffer line = formed_said (eqb line.count 0) (Hash (hash_of buffer))
 
 -- by its letter; one of another letter is a call
-unfoldable pub turn_of : State → ℕ → List ℕ → List ℕ → Line → Turn
+unfoldable pub turn_of : State → ℕ → List ℕ → Moduli → Line → Turn
 turn_of st lent buffer table line =
     choose line.letter
     ((code "L", shown st (lend_said (length buffer) line))
@@ -48,7 +49,7 @@ buffer_after st lent buffer line =
     (call_bytes st (take lent buffer) line ++ drop lent buffer)
 
 -- the moduli after it
-unfoldable pub table_after : State → ℕ → List ℕ → List ℕ → Line → List ℕ
+unfoldable pub table_after : State → ℕ → List ℕ → Moduli → Line → Moduli
 table_after st lent buffer table line =
     choose line.letter
     ((code "m", modulus_set table line)

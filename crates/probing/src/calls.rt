@@ -11,12 +11,11 @@ use workbench::Said;
 use workbench::moduli::Moduli;
 
 // In place.
-fn perform(image: &mut [u8], words: &mut Words, line: Line) -> Said
+fn perform(image: &mut [u8], words: &mut Words, line: Line) -> Option<Said>
     ensures turn { turn_at result words.new ≡ place_turn (decoded words.old) image.old line }
     ensures bytes { image.new ≡ place_bytes (decoded words.old) image.old line }
 {
-    let letter = line.letter;
-    match letter {
+    match line.letter {
         b'b' => transaction_calls::begin(words, line),
         b'a' => transaction_calls::abort(words, line),
         b'v' => transaction_calls::begin_wide(words, line),
@@ -24,17 +23,16 @@ fn perform(image: &mut [u8], words: &mut Words, line: Line) -> Said
         b'c' => transaction_calls::commit(image, words, line, true),
         b'd' => transaction_calls::consolidate(image, words, line, true),
         b'p' => transaction_calls::checkpoint(image, words, line, true),
-        _ => Said::OtherForm,
+        _ => None,
     }
 }
 
 // Of a transaction, or an operation that is asked for; else in place.
-fn ask(image: &mut [u8], words: &mut Words, table: Moduli, line: Line) -> Said
+fn ask(image: &mut [u8], words: &mut Words, table: Moduli, line: Line) -> Option<Said>
     ensures turn { turn_at result words.new ≡ ask_turn (decoded words.old) image.old table line }
     ensures bytes { image.new ≡ place_bytes (decoded words.old) image.old line }
 {
-    let letter = line.letter;
-    match letter {
+    match line.letter {
         b'B' => transaction_calls::begin(words, line),
         b'A' => transaction_calls::abort(words, line),
         b'V' => transaction_calls::begin_wide(words, line),
@@ -51,12 +49,11 @@ fn ask(image: &mut [u8], words: &mut Words, table: Moduli, line: Line) -> Said
     }
 }
 
-pub fn call(image: &mut [u8], words: &mut Words, table: Moduli, line: Line) -> Said
+pub fn call(image: &mut [u8], words: &mut Words, table: Moduli, line: Line) -> Option<Said>
     ensures turn { turn_at result words.new ≡ call_turn (decoded words.old) image.old table line }
     ensures bytes { image.new ≡ call_bytes (decoded words.old) image.old line }
 {
-    let letter = line.letter;
-    match letter {
+    match line.letter {
         b'F' => image_calls::format(image, words, line),
         b'M' => image_calls::mount(image, words, line),
         b'S' => image_calls::step(image, words, line),

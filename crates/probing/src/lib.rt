@@ -12,31 +12,33 @@ ghost use Rattle.probing.specs.Lines.{numbers_said, hash_said, turn_of, buffer_a
 use moduli_calls::loading;
 use state_words::Words;
 use text::Line;
-use workbench::Said;
 use workbench::moduli::Moduli;
+use workbench::{Said, numbers};
 
 // G: the state's numbers are printed.
-fn show_numbers(line: Line) -> Said
+fn show_numbers(line: Line) -> Option<Said>
     ensures { result ≡ numbers_said line }
 {
-    if line.count == 0 {
-        return Said::Numbers;
-    }
-    Said::OtherForm
+    numbers::<0>(line)?;
+    Some(Said::Numbers)
 }
 
 // H: the hash of the whole buffer.
-fn show_hash(buffer: &[u8], line: Line) -> Said
+fn show_hash(buffer: &[u8], line: Line) -> Option<Said>
     ensures { result ≡ hash_said buffer.now line }
 {
-    if line.count == 0 {
-        return Said::Hash(hashing::hash(buffer));
-    }
-    Said::OtherForm
+    numbers::<0>(line)?;
+    Some(Said::Hash(hashing::hash(buffer)))
 }
 
 // A call on the bytes lent; never are more lent than there are.
-fn call_lent(buffer: &mut [u8], words: &mut Words, table: Moduli, lent: usize, line: Line) -> Said
+fn call_lent(
+    buffer: &mut [u8],
+    words: &mut Words,
+    table: Moduli,
+    lent: usize,
+    line: Line,
+) -> Option<Said>
     ensures turn { turn_at result words.new
         ≡ call_turn (decoded words.old) (take lent buffer.old) table line }
     ensures bytes { buffer.new
@@ -55,13 +57,12 @@ pub fn turn(
     table: &mut Moduli,
     lent: usize,
     line: Line,
-) -> Said
+) -> Option<Said>
     ensures turn { turn_at result words.new ≡ turn_of (decoded words.old) lent buffer.old table.old line }
     ensures bytes { buffer.new ≡ buffer_after (decoded words.old) lent buffer.old line }
     ensures table { table.new ≡ table_after (decoded words.old) lent buffer.old table.old line }
 {
-    let letter = line.letter;
-    match letter {
+    match line.letter {
         b'L' => buffer_edits::lend(buffer.len(), line),
         b'Y' => buffer_edits::set_byte(buffer, line),
         b'U' => buffer_edits::set_word(buffer, line),

@@ -1,11 +1,11 @@
 // The line that a line of probe prints, put into a buffer; each call gives where the next goes.
 #![tactic(auto)]
 
-ghost use Rattle.std.specs.Prelude.{◌+◌, ◌≤◌, length};
+ghost use Rattle.std.specs.Prelude.{◌+◌, ◌≤◌, Some, length};
 ghost use Rattle.number_text.specs.Text.{Put, field};
 ghost use Rattle.state_words.specs.Decoded.{decoded};
 ghost use Rattle.state_text.specs.Numbers.{state_field};
-ghost use Rattle.reporting.specs.Text.{shown_start, shown_line, printed_of};
+ghost use Rattle.reporting.specs.Text.{shown_start, shown_line, said_line, printed_of};
 ghost use Rattle.workbench.specs.Turns.{turn_at};
 
 use number_text::put_after;
@@ -45,13 +45,12 @@ fn put_numbered(out: &mut [u8], at: usize, n: u64, letter: u8, words: &Words) ->
     decimals::put_byte(out, next, b'\n')
 }
 
-// The line that input line n prints, at most 29,066 bytes.
-pub fn print(out: &mut [u8], at: usize, n: u64, letter: u8, said: Said, words: &Words) -> usize
+// The line that a line of its letter's form prints.
+fn print_said(out: &mut [u8], at: usize, n: u64, letter: u8, said: Said, words: &Words) -> usize
     requires { at + 29066 ≤ length out.old }
-    ensures { Put out.old at (printed_of n letter (turn_at said words.now)) out.new result }
+    ensures { Put out.old at (said_line n letter (Some said) (decoded words.now)) out.new result }
 {
     match said {
-        Said::OtherForm => printing::put_output(out, at, n as usize, Output::Unknown),
         Said::Answered { number, count } => {
             let answer = Output::Answered {
                 letter,
@@ -65,5 +64,23 @@ pub fn print(out: &mut [u8], at: usize, n: u64, letter: u8, said: Said, words: &
         }
         Said::Hash(h) => put_counted(out, at, n, letter, 0, h),
         Said::Numbers => put_numbered(out, at, n, letter, words),
+    }
+}
+
+// The line that input line n prints, at most 29,066 bytes.
+pub fn print(
+    out: &mut [u8],
+    at: usize,
+    n: u64,
+    letter: u8,
+    said: Option<Said>,
+    words: &Words,
+) -> usize
+    requires { at + 29066 ≤ length out.old }
+    ensures { Put out.old at (printed_of n letter (turn_at said words.now)) out.new result }
+{
+    match said {
+        None => printing::put_output(out, at, n as usize, Output::Unknown),
+        Some(said) => print_said(out, at, n, letter, said, words),
     }
 }

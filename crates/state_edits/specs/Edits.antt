@@ -1,12 +1,11 @@
 -- T,f,i,v of PROBE.md: number f of the state, at place i, becomes v.
-use Rattle.std.specs.Prelude.{ℕ, ◌^◌, Bool, ◌&&◌, ◌||◌, cond, List, ltb, leb, eqb, set}
+use Rattle.std.specs.Prelude.{ℕ, ◌^◌, Bool, ◌&&◌, ◌||◌, cond, List, ltb, leb, eqb, set, None}
 use Rattle.layout.specs.declared.Sizes.{Sizes}
 use Rattle.replay.specs.declared.Table.{Table}
 use Rattle.state.specs.State.{State, Wide}
 use Rattle.state_words.specs.Decoded.{with_table, with_writers, with_opened, with_held, with_wide, with_map}
 use Rattle.text.specs.declared.Line.{Line}
 use Rattle.workbench.specs.Turns.{Turn, arg, shown, edited, formed}
-use Rattle.workbench.specs.declared.Said.TheVariants.{OtherForm}
 
 -- v where field k is the one that is set, else what was there
 abbrev pub newest : {A : Type 0} → ℕ → ℕ → A → A → A
@@ -102,7 +101,7 @@ placed_turn st f i v =
     (cond (eqb f 11) (open_turn st i v)
     (cond (eqb f 12) (held_turn st i v)
     (cond (eqb f 13) (entry_turn st i v)
-    (cond (eqb f 17) (key_turn st i v) (shown st OtherForm)))))
+    (cond (eqb f 17) (key_turn st i v) (shown st None)))))
 
 abbrev pub field_turn : State → ℕ → ℕ → ℕ → Turn
 field_turn st f i v = cond (is_single f) (single_turn st f i v) (placed_turn st f i v)

@@ -9,7 +9,7 @@ ghost use Rattle.state_edits.specs.Edits.{entry_turn, key_turn, placed_turn, fie
 
 use state_words::{BITMAP, LAST, ORIGINAL, PAGE, SIZES, SPARE, Words};
 use text::Line;
-use workbench::Said;
+use workbench::{Said, edited, numbers};
 
 // P, S, J, L.
 fn put_size(words: &mut Words, k: usize, v: usize)
@@ -54,114 +54,99 @@ fn put_slot_number(words: &mut Words, f: usize, i: usize, v: usize)
     }
 }
 
-fn set_single(words: &mut Words, f: usize, i: usize, v: usize) -> Said
+fn set_single(words: &mut Words, f: usize, i: usize, v: usize) -> Option<Said>
     requires { is_single f ≡ true }
     ensures { turn_at result words.new ≡ single_turn (decoded words.old) f i v }
 {
-    if i == 0 {
-        put_single(words, f, v);
-        return workbench::edited();
+    if i != 0 {
+        return None;
     }
-    Said::OtherForm
+    put_single(words, f, v);
+    Some(edited())
 }
 
 // An original and a spare have 32 bits.
-fn set_slot(words: &mut Words, f: usize, i: usize, v: usize) -> Said
+fn set_slot(words: &mut Words, f: usize, i: usize, v: usize) -> Option<Said>
     requires { (5 < f) × (f ≤ 10) }
     ensures { turn_at result words.new ≡ slot_turn (decoded words.old) f i v }
 {
-    if (i <= 15) & ((f < 7) | (8 < f) | (v < 4294967296)) {
-        put_slot_number(words, f, i, v);
-        return workbench::edited();
+    if (i > 15) | ((f == 7) | (f == 8)) & (v >= 4294967296) {
+        return None;
     }
-    Said::OtherForm
+    put_slot_number(words, f, i, v);
+    Some(edited())
 }
 
 // Field 11: writer i open or not.
-fn set_open(words: &mut Words, i: usize, v: usize) -> Said
+fn set_open(words: &mut Words, i: usize, v: usize) -> Option<Said>
     ensures { turn_at result words.new ≡ open_turn (decoded words.old) i v }
 {
-    if (i <= 3) & (v <= 1) {
-        state_words::put_open(words, i, v == 1);
-        return workbench::edited();
+    if (i > 3) | (v > 1) {
+        return None;
     }
-    Said::OtherForm
+    state_words::put_open(words, i, v == 1);
+    Some(edited())
 }
 
 // Field 12: held lines, at 16 × writer + slot.
-fn set_held(words: &mut Words, i: usize, v: usize) -> Said
+fn set_held(words: &mut Words, i: usize, v: usize) -> Option<Said>
     ensures { turn_at result words.new ≡ held_turn (decoded words.old) i v }
 {
-    if i <= 63 {
-        state_words::put_held(words, i / 16, i % 16, v as u64);
-        return workbench::edited();
+    if i > 63 {
+        return None;
     }
-    Said::OtherForm
+    state_words::put_held(words, i / 16, i % 16, v as u64);
+    Some(edited())
 }
 
 // Field 13: the map's entry of page i, of 16 bits.
-fn set_entry(words: &mut Words, i: usize, v: usize) -> Said
+fn set_entry(words: &mut Words, i: usize, v: usize) -> Option<Said>
     ensures { turn_at result words.new ≡ entry_turn (decoded words.old) i v }
 {
-    if (i <= 1023) & (v <= 65535) {
-        state_words::put_entry(words, i, v);
-        return workbench::edited();
+    if (i > 1023) | (v > 65535) {
+        return None;
     }
-    Said::OtherForm
+    state_words::put_entry(words, i, v);
+    Some(edited())
 }
 
 // Field 17: key i of the wide transaction.
-fn set_key(words: &mut Words, i: usize, v: usize) -> Said
+fn set_key(words: &mut Words, i: usize, v: usize) -> Option<Said>
     ensures { turn_at result words.new ≡ key_turn (decoded words.old) i v }
 {
-    if i <= 63 {
-        state_words::put_key(words, i, v as u64);
-        return workbench::edited();
+    if i > 63 {
+        return None;
     }
-    Said::OtherForm
+    state_words::put_key(words, i, v as u64);
+    Some(edited())
 }
 
 // The fields that have a place.
-fn set_placed(words: &mut Words, f: usize, i: usize, v: usize) -> Said
+fn set_placed(words: &mut Words, f: usize, i: usize, v: usize) -> Option<Said>
     ensures { turn_at result words.new ≡ placed_turn (decoded words.old) f i v }
 {
-    if (6 <= f) & (f <= 10) {
-        return set_slot(words, f, i, v);
+    match f {
+        6..=10 => set_slot(words, f, i, v),
+        11 => set_open(words, i, v),
+        12 => set_held(words, i, v),
+        13 => set_entry(words, i, v),
+        17 => set_key(words, i, v),
+        _ => None,
     }
-    if f == 11 {
-        return set_open(words, i, v);
-    }
-    if f == 12 {
-        return set_held(words, i, v);
-    }
-    if f == 13 {
-        return set_entry(words, i, v);
-    }
-    if f == 17 {
-        return set_key(words, i, v);
-    }
-    Said::OtherForm
 }
 
-fn set_field(words: &mut Words, f: usize, i: usize, v: usize) -> Said
+fn set_field(words: &mut Words, f: usize, i: usize, v: usize) -> Option<Said>
     ensures { turn_at result words.new ≡ field_turn (decoded words.old) f i v }
 {
-    if (f <= 5) | ((14 <= f) & (f <= 16)) | (f == 18) {
-        return set_single(words, f, i, v);
+    match f {
+        0..=5 | 14..=16 | 18 => set_single(words, f, i, v),
+        _ => set_placed(words, f, i, v),
     }
-    set_placed(words, f, i, v)
 }
 
-pub fn set_number(words: &mut Words, line: Line) -> Said
+pub fn set_number(words: &mut Words, line: Line) -> Option<Said>
     ensures { turn_at result words.new ≡ number_turn (decoded words.old) line }
 {
-    if line.count == 3 {
-        return set_field(
-            words,
-            line.numbers[0] as usize,
-            line.numbers[1] as usize,
-            line.numbers[2] as usize,
-        );
-    }
-    Said::OtherForm
+    let [f, i, v] = numbers::<3>(line)?;
+    set_field(words, f as usize, i as usize, v as usize)
 }

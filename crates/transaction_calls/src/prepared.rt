@@ -8,47 +8,39 @@ use call_turns::answered;
 use op_stores::Until;
 use state_words::Words;
 use text::Line;
-use workbench::Said;
+use workbench::{Said, numbers};
 
-pub fn free_slot(image: &mut [u8], words: &mut Words, line: Line) -> Said
+pub fn free_slot(image: &mut [u8], words: &mut Words, line: Line) -> Option<Said>
     ensures turn { turn_at result words.new ≡ free_turn (decoded words.old) image.old line }
     ensures bytes { image.new ≡ image.old }
 {
-    if line.count == 0 { // X
-        let answer = call_consolidate::free_slot(image, words, Until::Asked);
-        return answered(answer);
-    }
-    Said::OtherForm
+    numbers::<0>(line)?; // X
+    let answer = call_consolidate::free_slot(image, words, Until::Asked);
+    Some(answered(answer))
 }
 
-pub fn prepare(image: &mut [u8], words: &mut Words, line: Line) -> Said
+pub fn prepare(image: &mut [u8], words: &mut Words, line: Line) -> Option<Said>
     ensures turn { turn_at result words.new ≡ prepare_turn (decoded words.old) image.old line }
     ensures bytes { image.new ≡ image.old }
 {
-    if line.count == 1 { // I,w
-        let answer = call_prepare::prepare(image, words, line.numbers[0] as usize, Until::Asked);
-        return answered(answer);
-    }
-    Said::OtherForm
+    let [w] = numbers::<1>(line)?; // I,w
+    let answer = call_prepare::prepare(image, words, w as usize, Until::Asked);
+    Some(answered(answer))
 }
 
-pub fn confirm(image: &mut [u8], words: &mut Words, line: Line) -> Said
+pub fn confirm(image: &mut [u8], words: &mut Words, line: Line) -> Option<Said>
     ensures turn { turn_at result words.new ≡ confirm_turn (decoded words.old) image.old line }
     ensures bytes { image.new ≡ image.old }
 {
-    if line.count == 1 { // J,w
-        let answer = call_prepare::confirm(image, words, line.numbers[0] as usize, Until::Asked);
-        return answered(answer);
-    }
-    Said::OtherForm
+    let [w] = numbers::<1>(line)?; // J,w
+    let answer = call_prepare::confirm(image, words, w as usize, Until::Asked);
+    Some(answered(answer))
 }
 
-pub fn withdraw(image: &[u8], words: &mut Words, line: Line) -> Said
+pub fn withdraw(image: &[u8], words: &mut Words, line: Line) -> Option<Said>
     ensures { turn_at result words.new ≡ withdraw_turn (decoded words.old) image.now line }
 {
-    if line.count == 1 { // Z,w
-        let answer = call_prepare::withdraw(image, words, line.numbers[0] as usize);
-        return answered(answer);
-    }
-    Said::OtherForm
+    let [w] = numbers::<1>(line)?; // Z,w
+    let answer = call_prepare::withdraw(image, words, w as usize);
+    Some(answered(answer))
 }

@@ -9,29 +9,14 @@ pub fn finished_lines(op: Op) -> usize
 {
     match op {
         Op::Idle => 0,
-        Op::Write {
-            writer: _,
-            page: _,
-            line: _,
-            offset: _,
-            length: _,
-        } => 1,
-        Op::Commit { writer: _ } => 0,
-        Op::Consolidate { page: _ } => 0,
+        Op::Write { .. } => 1,
+        Op::Commit { .. } => 0,
+        Op::Consolidate { .. } => 0,
         Op::Checkpoint => 0,
-        Op::Event {
-            kind: _,
-            meter: _,
-            amount: _,
-        } => 2,
-        Op::Prepare { writer: _ } => 0,
-        Op::Confirm { writer: _ } => 0,
-        Op::Log {
-            page: _,
-            line: _,
-            offset: _,
-            length: _,
-        } => 1,
+        Op::Event { .. } => 2,
+        Op::Prepare { .. } => 0,
+        Op::Confirm { .. } => 0,
+        Op::Log { .. } => 1,
         Op::Copy => 0,
         Op::Format => 0,
     }

@@ -5,14 +5,14 @@ pub mod finished;
 pub mod moduli;
 pub mod starting;
 
-ghost use Rattle.std.specs.Prelude.{◌≡◌};
-ghost use Rattle.workbench.specs.Turns.{done};
+ghost use Rattle.std.specs.Prelude.{◌≡◌, ◌≤◌};
+ghost use Rattle.workbench.specs.Turns.{done, numbers_of};
 
-// What a line prints after its number: that it is of another form; its answer and a count; where a store goes and whether it decides; a hash; the state's
-// numbers.
-#[derive(Clone, Copy)]
+use text::Line;
+
+// What a line of its letter's form prints after its number: its answer and a count; where a store goes and whether it decides; a hash; the state's numbers.
+#[derive(Clone, Copy, Debug, PartialEq, Eq)]
 pub enum Said {
-    OtherForm,
     Answered { number: usize, count: usize },
     Store { at: usize, decides: bool },
     Hash(u64),
@@ -27,4 +27,17 @@ pub fn edited() -> Said
         number: 0,
         count: 0,
     }
+}
+
+// The numbers of a line that has N of them.
+pub fn numbers<const N: usize>(line: Line) -> Option<[u64; N]>
+    requires { N ≤ 69 }
+    ensures { result ≡ numbers_of N line }
+{
+    if line.count != N {
+        return None;
+    }
+    let mut numbers = [0u64; N];
+    numbers.copy_from_slice(&line.numbers[..N]);
+    Some(numbers)
 }

@@ -1,28 +1,36 @@
 // The moduli that events are lent.
 ghost use Rattle.std.specs.Prelude.{◌≡◌};
-ghost use Rattle.workbench.specs.Moduli.{all_lent, first_moduli};
+ghost use Rattle.workbench.specs.Moduli.{all_lent, first_moduli, lent_moduli};
 
-// Where the table says how many of its first moduli an event is lent.
-pub const LENT: usize = 24;
-
-pub type Moduli = [u64; 25];
-
-// The table becomes these moduli, all of them lent.
-pub fn lend_all(table: &mut Moduli, moduli: [u64; 24])
-    ensures { table.new ≡ all_lent moduli }
-{
-    let mut all = [24u64; 25];
-    let mut i = 0;
-    while i < 24 {
-        all[i] = moduli[i];
-        i += 1;
-    }
-    *table = all;
+// A table of moduli, and how many of its first ones an event is lent.
+#[derive(Clone, Copy, Debug, PartialEq, Eq)]
+pub struct Moduli {
+    pub all: [u64; 24],
+    pub lent: usize,
 }
 
-// The table at first.
-pub fn put_first(table: &mut Moduli)
-    ensures { table.new ≡ first_moduli }
-{
-    lend_all(table, meters::fixed_moduli());
+impl Moduli {
+    // These moduli, all of them lent.
+    pub fn all_lent(moduli: [u64; 24]) -> Moduli
+        ensures { result ≡ all_lent moduli }
+    {
+        Moduli {
+            all: moduli,
+            lent: 24,
+        }
+    }
+
+    // The table at first.
+    pub fn first() -> Moduli
+        ensures { result ≡ first_moduli }
+    {
+        Moduli::all_lent(meters::fixed_moduli())
+    }
+
+    // Those that an event is lent.
+    pub fn lent(&self) -> &[u64]
+        ensures { result.now ≡ lent_moduli self.now }
+    {
+        &self.all[..self.lent.min(24)]
+    }
 }

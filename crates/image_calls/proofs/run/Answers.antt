@@ -1,16 +1,14 @@
-use mathlib.Core.Path.{refl, ◌∙◌}
-use borrow.Author.Tests.{eq-eqb, ne_eqb}
+use mathlib.Core.Path.{◌∙◌}
+use native.Mathlib.Omega.{arith}
 use Rattle.bounded.proofs.Tests.{row-yes}
-use Rattle.workbench.proofs.Formed.{has-called}
+use Rattle.workbench.proofs.Formed.{has-numbers, nth-number, has-called}
 use Rattle.image_calls.proofs.run.Goals as goal
 
-pub returns-then-line-eq1 : goal.returns-then-line-eq1
-returns-then-line-eq1 c =
-    let form = eq-eqb _ 1 c.if-line-eq1.true in
-    record {
-      turn = has-called _ _ _ _ c.run-answer.result _ form c.run-answer.ensures.outcome c.answered.ensures;
-      bytes = c.run-answer.ensures.bytes ∙ row-yes _ _ _ form;
-    }
-
 pub returns : goal.returns
-returns c = rw (ne_eqb _ 1 c.if-line-eq1.false) (record { turn = refl; bytes = refl })
+returns c =
+    let (form, e) = has-numbers 1 c.args.line _ c.in_ok-k.ensures in
+    let first = nth-number 1 c.args.line _ 0 (omega arith) e in
+    record {
+      turn = has-called _ _ _ _ c.run-answer.result _ form (rw first at c.run-answer.ensures.outcome) c.answered.ensures;
+      bytes = (rw first at c.run-answer.ensures.bytes) ∙ row-yes _ _ _ form;
+    }

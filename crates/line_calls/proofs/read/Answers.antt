@@ -1,20 +1,18 @@
-use mathlib.Core.Path.{sym}
-use lib.ListN.{replicate}
-use lib.Seq.{length-take-le}
-use Rattle.line_calls.proofs.Targets.{target_small, take-zeros}
+use Prim.Native.Nat.{◌≤◌}
+use mathlib.Core.Path.{ap}
+use native.Mathlib.Omega.{arith}
+use borrow.Author.Tests.{le-leb}
+use Rattle.std.proofs.Common.{Some}
+use Rattle.workbench.specs.Turns.{arg}
+use Rattle.workbench.proofs.Formed.{has-numbers, nth-number}
+use Rattle.line_calls.proofs.Targets.{take-zeros}
 use Rattle.line_calls.proofs.read.Goals as goal
 
-pub slice_bounds-target-end : goal.slice_bounds-target-end
-slice_bounds-target-end c = target_small c.args.line 4 3 c.if-line-t.true
-
-pub slice_bounds-read_into-end : goal.slice_bounds-read_into-end
-slice_bounds-read_into-end c = sym (length-take-le _ (replicate 128 0) (target_small c.args.line 4 3 c.if-line-t.true))
-
-pub returns-then-line-t : goal.returns-then-line-t
-returns-then-line-t c =
-    let form = c.if-line-t.true in
-    let zeros = take-zeros _ 128 (target_small c.args.line 4 3 form) in
-    rw (form, c.read_into.ensures, zeros)
-
 pub returns : goal.returns
-returns c = rw c.if-line-t.false
+returns c =
+    let line = c.args.line in
+    let (form, e) = has-numbers 4 line _ c.in_ok-t.ensures in
+    let t = nth-number 4 line _ 3 (omega arith) e in
+    let small : arg line 3 ≤ 128 = rw t at c.if-t-gt128.false in
+    let zeros = take-zeros (arg line 3) 128 small in
+    rw (form, le-leb _ 128 small) (ap Some (rw (t, zeros) at c.read_into.ensures))

@@ -1,22 +1,18 @@
-use mathlib.Core.Path.{sym}
-use lib.ListN.{replicate}
-use lib.Seq.{length-take-le}
-use Rattle.line_calls.proofs.Targets.{target_small, take-zeros}
+use Prim.Native.Nat.{◌≤◌}
+use mathlib.Core.Path.{ap}
+use native.Mathlib.Omega.{arith}
+use borrow.Author.Tests.{le-leb}
+use Rattle.std.proofs.Common.{Some}
+use Rattle.workbench.specs.Turns.{arg}
+use Rattle.workbench.proofs.Formed.{has-numbers, nth-number}
+use Rattle.line_calls.proofs.Targets.{take-zeros}
 use Rattle.line_calls.proofs.recall.Goals as goal
 
-pub slice_bounds-target-end : goal.slice_bounds-target-end
-slice_bounds-target-end c = target_small c.args.line 3 2 c.if-line-t.true
-
-pub slice_bounds-recall_into-end : goal.slice_bounds-recall_into-end
-slice_bounds-recall_into-end c =
-    let small = target_small c.args.line 3 2 c.if-line-t.true in
-    sym (length-take-le _ (replicate 128 0) small)
-
-pub returns-then-line-t : goal.returns-then-line-t
-returns-then-line-t c =
-    let form = c.if-line-t.true in
-    let zeros = take-zeros _ 128 (target_small c.args.line 3 2 form) in
-    rw (form, c.recall_into.ensures, zeros)
-
 pub returns : goal.returns
-returns c = rw c.if-line-t.false
+returns c =
+    let line = c.args.line in
+    let (form, e) = has-numbers 3 line _ c.in_ok-t.ensures in
+    let t = nth-number 3 line _ 2 (omega arith) e in
+    let small : arg line 2 ≤ 128 = rw t at c.if-t-gt128.false in
+    let zeros = take-zeros (arg line 2) 128 small in
+    rw (form, le-leb _ 128 small) (ap Some (rw (t, zeros) at c.recall_into.ensures))

@@ -1,4 +1,5 @@
-use mathlib.Core.List.{◌++◌}
+use Prim.Native.Nat.{ℕ}
+use mathlib.Core.List.{List, ◌++◌}
 use mathlib.Core.Path.{◌≡◌, refl, sym, ap}
 use borrow.Author.Rules.{rules}
 use borrow.Author.Tests.{ne_eqb}
@@ -6,23 +7,17 @@ use lib.ListN.{take, drop, take-append-drop}
 use Rattle.workbench.specs.Turns.{shown}
 use Rattle.probing.specs.Calls.{call_bytes, place_bytes}
 use Rattle.probing.specs.Lines.{turn_of, buffer_after, table_after}
-use Rattle.probing.proofs.turn.Lts
-use Rattle.probing.proofs.turn.Tie
-use Rattle.probing.proofs.turn.Reads
 use Rattle.probing.proofs.turn.Goals as goal
 
-abbrev At-Start : Type 0
-At-Start = Lts.Start Tie.the-claims Reads.Pre Reads.Post Tie.handed_clauses
-
 -- a buffer that no line changed, by the bytes lent and the others
-kept : (s : At-Start) → let a = s.args in a.buffer.now ≡ take a.lent a.buffer.now ++ drop a.lent a.buffer.now
-kept s = sym (take-append-drop s.args.lent s.args.buffer.now)
+kept : (lent : ℕ) (buffer : List ℕ) → buffer ≡ take lent buffer ++ drop lent buffer
+kept lent buffer = sym (take-append-drop lent buffer)
 
 pub returns-in-76 : goal.returns-in-76
 unfolding turn_of buffer_after table_after call_bytes place_bytes
 returns-in-76 c = rw c.in-76.is record {
   turn = ap (shown _) c.lend.ensures;
-  bytes = kept c.before.before.before.before;
+  bytes = kept c.args.lent c.args.buffer.now;
   table = refl;
 }
 
@@ -46,7 +41,7 @@ pub returns-in-84 : goal.returns-in-84
 unfolding turn_of buffer_after table_after call_bytes place_bytes
 returns-in-84 c = rw c.in-84.is record {
   turn = c.set_number.ensures;
-  bytes = kept c.before.before.before.before.before;
+  bytes = kept c.args.lent c.args.buffer.now;
   table = refl;
 }
 
@@ -54,7 +49,7 @@ pub returns-in-79 : goal.returns-in-79
 unfolding turn_of buffer_after table_after call_bytes place_bytes
 returns-in-79 c = rw c.in-79.is record {
   turn = c.set_pending.ensures;
-  bytes = kept c.before.before.before.before.before;
+  bytes = kept c.args.lent c.args.buffer.now;
   table = refl;
 }
 
@@ -62,7 +57,7 @@ pub returns-in-81 : goal.returns-in-81
 unfolding turn_of buffer_after table_after call_bytes place_bytes
 returns-in-81 c = rw c.in-81.is record {
   turn = c.set_line_byte.ensures;
-  bytes = kept c.before.before.before.before.before;
+  bytes = kept c.args.lent c.args.buffer.now;
   table = refl;
 }
 
@@ -70,7 +65,7 @@ pub returns-in-109 : goal.returns-in-109
 unfolding turn_of buffer_after table_after call_bytes place_bytes
 returns-in-109 c = let e = c.set_modulus.ensures in rw c.in-109.is record {
   turn = ap (shown _) e.said;
-  bytes = kept c.before.before.before.before.before;
+  bytes = kept c.args.lent c.args.buffer.now;
   table = e.table;
 }
 
@@ -78,7 +73,7 @@ pub returns-in-107 : goal.returns-in-107
 unfolding turn_of buffer_after table_after call_bytes place_bytes
 returns-in-107 c = let e = c.set_count.ensures in rw c.in-107.is record {
   turn = ap (shown _) e.said;
-  bytes = kept c.before.before.before.before.before;
+  bytes = kept c.args.lent c.args.buffer.now;
   table = e.table;
 }
 
@@ -88,7 +83,7 @@ returns-in-108 c =
     let e = c.load.ensures in
     rw c.in-108.is record {
       turn = ap (shown _) e.said;
-      bytes = kept c.before.before.before.before;
+      bytes = kept c.args.lent c.args.buffer.now;
       table = e.table;
     }
 
@@ -96,7 +91,7 @@ pub returns-in-71 : goal.returns-in-71
 unfolding turn_of buffer_after table_after call_bytes place_bytes
 returns-in-71 c = rw c.in-71.is record {
   turn = ap (shown _) c.show_numbers.ensures;
-  bytes = kept c.before.before.before.before;
+  bytes = kept c.args.lent c.args.buffer.now;
   table = refl;
 }
 
@@ -104,7 +99,7 @@ pub returns-in-72 : goal.returns-in-72
 unfolding turn_of buffer_after table_after call_bytes place_bytes
 returns-in-72 c = rw c.in-72.is record {
   turn = ap (shown _) c.show_hash.ensures;
-  bytes = kept c.before.before.before;
+  bytes = kept c.args.lent c.args.buffer.now;
   table = refl;
 }
 

@@ -7,7 +7,7 @@ use Rattle.moduli_calls.proofs.loading.load_text.Goals as goal
 pub returns-then-number-eq0 : goal.returns-then-number-eq0
 returns-then-number-eq0 c =
     let zero = eq-eqb _ 0 (sym c.number_of-number.ensures ∙ c.if-number-eq0.true) in
-    rw (← c.load-loaded.ensures.0, zero) (record { said = ap Hash c.hash_moduli.ensures; table = c.lend_all.ensures })
+    rw (← c.load-loaded.ensures.0, zero) (record { said = ap Hash c.hash_moduli.ensures; table = c.all_lent.ensures })
 
 pub returns : goal.returns
 returns c =

@@ -1,10 +1,11 @@
-use Rattle.std.proofs.Common.{◌≡◌, ℕ, List, ap}
+use Rattle.std.proofs.Common.{◌≡◌, ℕ, ap}
+use Rattle.workbench.specs.declared.moduli.Moduli.{Moduli}
 use Rattle.state.specs.State.{State}
 use Rattle.workbench.specs.Turns.{Turn}
 use Rattle.probe.specs.Program.{Bench}
 use Rattle.probe.proofs.line_reading.perform.Goals as goal
 
-same-bench : {x y : State} {t u : List ℕ} {m n : ℕ} → x ≡ y → t ≡ u → m ≡ n
+same-bench : {x y : State} {t u : Moduli} {m n : ℕ} → x ≡ y → t ≡ u → m ≡ n
     → ◌≡◌ {A = Bench} (record { st = x; table = t; lent = m }) (record { st = y; table = u; lent = n })
 same-bench e d l = cc
 

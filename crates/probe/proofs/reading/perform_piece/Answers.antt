@@ -1,6 +1,7 @@
 use Rattle.std.proofs.Common.{◌≡◌, ℕ, ◌+◌, ◌<◌, List, length, drop}
 use Rattle.words.specs.Words.{over}
 use Rattle.cutting.specs.Pieces.{line_end, fitting}
+use Rattle.workbench.specs.declared.moduli.Moduli.{Moduli}
 use Rattle.probe.specs.declared.Session.{Session}
 use Rattle.probe.specs.Program.{Stand, stand}
 use Rattle.probe.proofs.Shown.{Before, More, before-first, before-line, less-left, before-rest, before-end}
@@ -10,7 +11,7 @@ pub loop-from-init : goal.loop-from-init
 loop-from-init c = before-first _ _
 
 -- a turn as far as both of its ways go together
-more : {p : Stand} {piece : List ℕ} {s : Session} {buffer words table line out : List ℕ} {from end : ℕ} {line' : List ℕ} {k : ℕ}
+more : {p : Stand} {piece : List ℕ} {s : Session} {buffer words : List ℕ} {table : Moduli} {line out : List ℕ} {from end : ℕ} {line' : List ℕ} {k : ℕ}
     → from < length piece
     → end ≡ line_end piece from
     → line' ≡ over line s.kept (fitting line s.kept piece from end)
