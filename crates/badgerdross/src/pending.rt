@@ -54,8 +54,20 @@ pub extern "C" fn badgerdross_next_store(
     ensures kept { Keeps result next.new next.old }
 {
     match call_step::next_range(image, words) {
-        Ok(NextRange { next: told, beside, left }) => {
-            *next = [told.at, beside, usize::from(told.decides), told.before, left];
+        Ok(
+            NextRange {
+                next: told,
+                beside,
+                left,
+            },
+        ) => {
+            *next = [
+                told.at,
+                beside,
+                usize::from(told.decides),
+                told.before,
+                left,
+            ];
             0
         }
         Err(row) => usize::from(row),

@@ -2,15 +2,13 @@
 use Rattle.std.specs.Prelude.{ℕ, Bool, ◌||◌, cond, List, eqb, Option}
 use Rattle.layout.specs.declared.Sizes.{Sizes}
 use Rattle.state.specs.State.{State}
-use Rattle.refinement.specs.Calls.{step_of, step_bytes, run_of, run_bytes}
+use Rattle.refinement.specs.Calls.{step_of, step_bytes, step_row, run_of, run_bytes}
 use Rattle.refinement.specs.Mount.{mount_call, format_of}
-use Rattle.answers.specs.Answers.{number_of}
 use Rattle.text.specs.declared.Line.{Line}
 use Rattle.workbench.specs.Turns.{Turn, arg, formed_said, formed, called, replacing}
 use Rattle.workbench.specs.declared.Said.TheVariants.{Answered, Store}
 use Rattle.workbench.specs.declared.Said.{Said}
 use Rattle.call_step.specs.NextStore.{next_store_of}
-use Rattle.call_step.specs.declared.telling.NextStore.{NextStore}
 
 -- ---- format, mount
 
@@ -44,8 +42,9 @@ ran_bytes st img line = cond (eqb line.count 1) (run_bytes st img (arg line 0)) 
 
 -- ---- the next store: the word that it goes to and whether it decides, or the row
 
-abbrev pub store_said : NextStore → Said
-store_said s = cond (eqb (number_of s.answer) 0) (Store s.at s.decides) (Answered (number_of s.answer) 0)
+abbrev pub store_said : State → List ℕ → Said
+store_said st img =
+    cond (eqb (step_row st img) 0) (Store (next_store_of st img).at (next_store_of st img).decides) (Answered (step_row st img) 0)
 
 abbrev pub next_said : State → List ℕ → Line → Option Said
-next_said st img line = formed_said (eqb line.count 0) (store_said (next_store_of st img))
+next_said st img line = formed_said (eqb line.count 0) (store_said st img)

@@ -4,7 +4,7 @@
 ghost use Rattle.std.specs.Prelude.{◌≡◌};
 ghost use Rattle.state_words.specs.Decoded.{decoded};
 ghost use Rattle.workbench.specs.Turns.{turn_at};
-ghost use Rattle.image_calls.specs.Calls.{sizes_in, format_turn, mount_turn, step_turn, stepped_bytes, run_turn, ran_bytes, next_said};
+ghost use Rattle.image_calls.specs.Calls.{sizes_in, format_turn, mount_turn, step_turn, stepped_bytes, run_turn, ran_bytes, store_said, next_said};
 
 use call_turns::answered;
 use layout::Sizes;
@@ -63,18 +63,25 @@ pub fn run(image: &mut [u8], words: &mut Words, line: Line) -> Option<Said>
     Some(answered(answer))
 }
 
+// The next store, or the row that turns the question back.
+fn store_told(image: &[u8], words: &Words) -> Said
+    ensures { result ≡ store_said (decoded words.now) image.now }
+{
+    match call_step::next_store(image, words) {
+        Ok(next) => Said::Store {
+            at: next.at,
+            decides: next.decides,
+        },
+        Err(row) => Said::Answered {
+            number: usize::from(row),
+            count: 0,
+        },
+    }
+}
+
 pub fn next_store(image: &[u8], words: &Words, line: Line) -> Option<Said>
     ensures { result ≡ next_said (decoded words.now) image.now line }
 {
     numbers::<0>(line)?; // n
-    let next = call_step::next_store(image, words);
-    let answer = next.answer;
-    let number = answers::number_of(answer);
-    if number == 0 {
-        return Some(Said::Store {
-            at: next.at,
-            decides: next.decides,
-        });
-    }
-    Some(Said::Answered { number, count: 0 })
+    Some(store_told(image, words))
 }

@@ -118,23 +118,17 @@ pub fn fresh(image: &mut [u8; 16640], words: &mut Words) -> Game {
 
 // The moduli of a text loaded, the ones before where the load is refused, and its answer in the checksum.
 fn with_text(image: &[u8; 16640], words: &Words, game: Game, text: &[u8]) -> Game {
-    let loaded = call_load::load(image, words, text);
-    let answer = loaded.answer;
-    let number = number_of(answer) as u64;
-    let sum = with(game.sum, number);
-    if number != 0 {
-        let moduli = game.moduli;
-        return Game {
+    match call_load::load(image, words, text) {
+        Ok(moduli) => Game {
             moduli,
-            sum,
+            sum: with(game.sum, 0),
             seed: game.seed,
-        };
-    }
-    let moduli = loaded.moduli;
-    Game {
-        moduli,
-        sum,
-        seed: game.seed,
+        },
+        Err(row) => Game {
+            moduli: game.moduli,
+            sum: with(game.sum, usize::from(row) as u64),
+            seed: game.seed,
+        },
     }
 }
 

@@ -27,15 +27,16 @@ fn load_text(image: &[u8], words: &Words, table: &mut Moduli, text: &[u8]) -> Sa
     ensures table { table.new
         ≡ table_by table.old (load_of (decoded words.now) image.now text.now) }
 {
-    let loaded = call_load::load(image, words, text);
-    let answer = loaded.answer;
-    let number = answers::number_of(answer);
-    if number == 0 {
-        let moduli = loaded.moduli;
-        *table = Moduli::all_lent(moduli);
-        return Said::Hash(hash_moduli(moduli));
+    match call_load::load(image, words, text) {
+        Ok(moduli) => {
+            *table = Moduli::all_lent(moduli);
+            Said::Hash(hash_moduli(moduli))
+        }
+        Err(row) => Said::Answered {
+            number: usize::from(row),
+            count: 0,
+        },
     }
-    Said::Answered { number, count: 0 }
 }
 
 // The text is a part of the whole buffer; the image is what is lent of it.

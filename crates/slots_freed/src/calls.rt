@@ -212,7 +212,7 @@ fn free_in_short(words: &mut Words) -> Answer {
 fn edit(words: &mut Words, next: usize, slots: usize) -> Answer {
     words[state_words::NEXT] = next as u64;
     words[state_words::SIZES + 1] = slots as u64;
-    Answer::Taken(0)
+    Ok(0)
 }
 
 // Makes a call, its stores not yet made.

@@ -3,10 +3,11 @@ use answers::Answer;
 
 // A checksum with one answer more: the stores of a taken call, or 1,000 times a refused one's number.
 fn summed(sum: u64, a: Answer) -> u64 {
-    if let Answer::Taken(n) = a {
-        return (31 * (sum % 4294967291) + n as u64 % 1000) % 4294967291;
-    }
-    (31 * (sum % 4294967291) + 1000 * (answers::number_of(a) as u64 % 100)) % 4294967291
+    let code = match a {
+        Ok(stores) => stores as u64 % 1000,
+        Err(row) => 1000 * (usize::from(row) as u64 % 100),
+    };
+    (31 * (sum % 4294967291) + code) % 4294967291
 }
 
 // The checksum after a call and its run, and the call's line if it frees a slot, prepares, confirms or withdraws.

@@ -238,7 +238,7 @@ fn write(image: &mut [u8], words: &mut Words, row: Row, byte: u8) -> Answer {
 fn edit(words: &mut Words, row: Row) -> Answer {
     state_words::put_wide(words, row.writer, row.page);
     state_words::put_key(words, 0, row.line as u64);
-    Answer::Taken(0)
+    Ok(0)
 }
 
 fn event(image: &mut [u8], words: &mut Words, kind: usize) -> Answer {

@@ -9,10 +9,10 @@ fn refused(number: usize) -> u64 {
 
 // The stores of a taken call, or 1,000 times a refused one's number.
 pub fn code(a: Answer) -> u64 {
-    if let Answer::Taken(n) = a {
-        return n as u64;
+    match a {
+        Ok(stores) => stores as u64,
+        Err(row) => refused(usize::from(row)),
     }
-    refused(answers::number_of(a))
 }
 
 // The first word of a line that a recall shows.
