@@ -6,7 +6,6 @@ ghost use Rattle.state_words.specs.Decoded.{decoded};
 ghost use Rattle.badgerdross.specs.Left.{Leaves, Keeps};
 ghost use Rattle.badgerdross.specs.Told.{Tells};
 
-use call_step::NextRange;
 use state_words::Words;
 
 // Makes one store.
@@ -54,20 +53,10 @@ pub extern "C" fn badgerdross_next_store(
     ensures kept { Keeps result next.new next.old }
 {
     match call_step::next_range(image, words) {
-        Ok(
-            NextRange {
-                next: told,
-                beside,
-                left,
-            },
-        ) => {
-            *next = [
-                told.at,
-                beside,
-                usize::from(told.decides),
-                told.before,
-                left,
-            ];
+        Ok(range) => {
+            let told = range.next;
+            let decides = usize::from(told.decides);
+            *next = [told.at, range.beside, decides, told.before, range.left];
             0
         }
         Err(row) => usize::from(row),
