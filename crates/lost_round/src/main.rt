@@ -86,9 +86,7 @@ fn meet_the_copying(image: &mut [u8; 12552], words: &mut Words) {
         b"event",
         call_event::event(image, words, 0, 0, 0, &moduli, Until::End),
     );
-    let loaded = call_load::load(image, words, b"");
-    let answer = loaded.answer;
-    show(b"load", answer);
+    show(b"load", call_load::load(image, words, b"").answer);
     show(b"read", call_read::read(image, words, 0, 0, 0, &mut line));
 }
 
