@@ -10,7 +10,7 @@ use op_stores::Until;
 use state_words::WORD_COUNT;
 
 // What a cut comes to.
-#[derive(Clone, Copy)]
+#[derive(Clone, Copy, Debug, PartialEq, Eq)]
 struct Told {
     mount: usize,
     recall: usize,
@@ -40,11 +40,9 @@ fn first_byte() -> Span {
 // Bytes that follow no rule that a mount knows.
 fn make_noise(image: &mut [u8; 12552]) {
     let mut seed = 1u64;
-    let mut i = 0;
-    while i < 12552 {
+    for byte in image.iter_mut() {
         seed = seed * 75 % 65537;
-        image[i] = (seed % 256) as u8;
-        i += 1;
+        *byte = (seed % 256) as u8;
     }
 }
 
@@ -73,18 +71,6 @@ fn make_wide(image: &mut [u8; 12552]) {
     let _ = call_step::run(image, &mut words, 1);
 }
 
-// Whether two buffers have equal bytes from byte `from` on.
-fn same_from(a: &[u8; 12552], b: &[u8; 12552], from: usize) -> bool {
-    let mut i = from;
-    while i < 12552 {
-        if a[i] != b[i] {
-            return false;
-        }
-        i += 1;
-    }
-    true
-}
-
 // A format of the old bytes, cut after k stores.
 fn cut(old: [u8; 12552], k: usize) -> Told {
     let mut image = old;
@@ -94,7 +80,7 @@ fn cut(old: [u8; 12552], k: usize) -> Told {
     let _ = call_mount::format(&mut image, &mut words, sizes(0), Until::Asked);
     let _ = call_step::run(&mut image, &mut words, k);
     let from = if k == 0 { 0 } else { 12480 };
-    let kept = same_from(&image, &old, from);
+    let kept = image[from..] == old[from..];
     let mount = answers::number_of(call_mount::mount(&image, &mut other));
     let recall = recalling::recall(0, 0, &image, &mut line);
     let begin = answers::number_of(call_begin::begin(&mut words, 0));
@@ -109,49 +95,24 @@ fn cut(old: [u8; 12552], k: usize) -> Told {
     }
 }
 
-fn is_same(a: Told, b: Told) -> bool {
-    (a.mount == b.mount)
-        & (a.recall == b.recall)
-        & (a.begin == b.begin)
-        & (a.again == b.again)
-        & (a.kept == b.kept)
-}
-
 fn show(k: usize, t: Told) {
-    io::print_decimal(1, k as u64);
-    io::write_all(1, b" ");
-    io::print_decimal(1, t.mount as u64);
-    io::write_all(1, b" ");
-    io::print_decimal(1, t.recall as u64);
-    io::write_all(1, b" ");
-    io::print_decimal(1, t.begin as u64);
-    io::write_all(1, b" ");
-    io::print_decimal(1, t.again as u64);
-    if t.kept {
-        io::write_all(1, b" kept\n");
-        return;
+    for number in [k, t.mount, t.recall, t.begin, t.again] {
+        io::print_decimal(1, number as u64);
+        io::write_all(1, b" ");
     }
-    io::write_all(1, b" lost\n");
+    io::write_all(1, if t.kept { b"kept\n" } else { b"lost\n" });
 }
 
 // Every cut of a format of these bytes.
 fn show_cuts(name: &[u8], old: &[u8; 12552]) {
     io::write_all(1, name);
-    let mut last = Told {
-        mount: 99,
-        recall: 99,
-        begin: 99,
-        again: 99,
-        kept: false,
-    };
-    let mut k = 0;
-    while k < 1563 {
-        let t = cut(*old, k);
-        if !is_same(t, last) {
-            show(k, t);
+    let mut last = None;
+    for k in 0..1563 {
+        let told = cut(*old, k);
+        if last != Some(told) {
+            show(k, told);
         }
-        last = t;
-        k += 1;
+        last = Some(told);
     }
 }
 

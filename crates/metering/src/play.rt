@@ -18,7 +18,7 @@ const SMALL: [u8; 158] = *b"0,100\n1,100\n2,100\n3,100\n4,100\n5,100\n6,100\n7,1
         16,100\n17,100\n18,100\n19,100\n20,100\n21,100\n22,100\n23,100\n";
 
 // The moduli, the checksum so far, and the number drawn last. The state is in words beside it.
-#[derive(Clone, Copy)]
+#[derive(Clone, Copy, Debug, PartialEq, Eq)]
 pub struct Game {
     pub moduli: [u64; 24],
     pub sum: u64,
@@ -69,12 +69,9 @@ fn ask(
     let number = number_of(answer) as u64;
     if number == 19 {
         call_checkpoint::checkpoint(image, words, Until::End);
-        return number;
+    } else if number == 0 {
+        run_or_cut(image, words, k, meters::event_needs(kind));
     }
-    if number != 0 {
-        return number;
-    }
-    run_or_cut(image, words, k, meters::event_needs(kind));
     number
 }
 
@@ -87,12 +84,11 @@ fn turn(image: &mut [u8; 16640], words: &mut Words, game: Game) -> Game {
     let kind = (a / 65536 % 7) as usize;
     let meter = (b / 65536 % 26) as usize;
     let k = (d / 65536 % 44) as usize;
-    let moduli = game.moduli;
-    let number = ask(image, words, kind, meter, amount_of(c), &moduli, k);
+    let number = ask(image, words, kind, meter, amount_of(c), &game.moduli, k);
     Game {
-        moduli,
         sum: with(game.sum, number),
         seed: d,
+        ..game
     }
 }
 
@@ -108,9 +104,8 @@ pub fn fresh(image: &mut [u8; 16640], words: &mut Words) -> Game {
             entries: 0,
         },
     );
-    let moduli = meters::fixed_moduli();
     Game {
-        moduli,
+        moduli: meters::fixed_moduli(),
         sum: 0,
         seed: 1,
     }
@@ -122,12 +117,11 @@ fn with_text(image: &[u8; 16640], words: &Words, game: Game, text: &[u8]) -> Gam
         Ok(moduli) => Game {
             moduli,
             sum: with(game.sum, 0),
-            seed: game.seed,
+            ..game
         },
         Err(row) => Game {
-            moduli: game.moduli,
             sum: with(game.sum, usize::from(row) as u64),
-            seed: game.seed,
+            ..game
         },
     }
 }
@@ -143,10 +137,8 @@ pub fn with_venue(image: &[u8; 16640], words: &Words, game: Game) -> Game {
 // The game after n events more.
 pub fn events(image: &mut [u8; 16640], words: &mut Words, game: Game, n: usize) -> Game {
     let mut game = game;
-    let mut i = 0;
-    while i < n {
+    for _ in 0..n {
         game = turn(image, words, game);
-        i += 1;
     }
     game
 }
@@ -161,10 +153,8 @@ pub fn meter(image: &[u8; 16640], words: &Words, m: usize) -> u64 {
 // The checksum with the 24 meters.
 pub fn folded(image: &[u8; 16640], words: &Words, sum: u64) -> u64 {
     let mut sum = sum;
-    let mut m = 0;
-    while m < 24 {
+    for m in 0..24 {
         sum = with(sum, meter(image, words, m));
-        m += 1;
     }
     sum
 }

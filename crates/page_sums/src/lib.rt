@@ -17,10 +17,8 @@ fn with_line(sum: u64, image: &[u8; 84288], words: &Words, i: usize) -> u64 {
     let mut line = [0u8; 64];
     call_read::read(image, words, 0, i / 64, i % 64, &mut line);
     let mut sum = sum;
-    let mut k = 0;
-    while k < 8 {
+    for k in 0..8 {
         sum = with(sum, image_words::read_word(&line, k));
-        k += 1;
     }
     sum
 }
@@ -28,10 +26,8 @@ fn with_line(sum: u64, image: &[u8; 84288], words: &Words, i: usize) -> u64 {
 // The checksum of 16 pages of 64 lines.
 pub fn of_pages(image: &[u8; 84288], words: &Words) -> u64 {
     let mut sum = 0;
-    let mut i = 0;
-    while i < 1024 {
+    for i in 0..1024 {
         sum = with_line(sum, image, words, i);
-        i += 1;
     }
     sum
 }

@@ -7,13 +7,10 @@ use std::rt::Env;
 fn digit(b: u8) -> usize
     ensures { result < 10 }
 {
-    if b < 48 {
-        return 0;
+    match b {
+        b'0'..=b'9' => usize::from(b - b'0'),
+        _ => 0,
     }
-    if b > 57 {
-        return 0;
-    }
-    b as usize - 48
 }
 
 // The number that digits make, by its last nine.
@@ -21,10 +18,8 @@ fn value(text: &[u8]) -> usize
     ensures { result < 1000000000 }
 {
     let mut v = 0;
-    let mut i = 0;
-    while i < text.len() {
-        v = (10 * v + digit(text[i])) % 1000000000;
-        i += 1;
+    for b in text {
+        v = (10 * v + digit(*b)) % 1000000000;
     }
     v
 }

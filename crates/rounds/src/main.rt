@@ -37,10 +37,8 @@ fn play(image: &mut Image, words: &mut Words, n: usize, stay: usize) -> u64 {
     };
     call_mount::format_whole(image, words, z);
     let mut stores: u64 = 0;
-    let mut r = 0;
-    while r < n {
+    for r in 0..n {
         stores = stores.wrapping_add(game::round(image, words, pair_of(r, stay), r));
-        r += 1;
     }
     stores
 }

@@ -18,7 +18,7 @@ pub fn play(image: &mut [u8]) {
     call_mount::format_whole(image, &mut words, z);
     let mut sum = 0;
     let mut call = 0;
-    for _turn in 0..TURNS {
+    for _ in 0..TURNS {
         call = calls::following(call);
         let answer = calls::made(image, &mut words, call);
         let ran = call_step::run(image, &mut words, call % 10000);

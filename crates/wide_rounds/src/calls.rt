@@ -8,7 +8,7 @@ use layout::Sizes;
 use op_stores::Until;
 use state_words::Words;
 
-#[derive(Clone, Copy)]
+#[derive(Clone, Copy, Debug, PartialEq, Eq)]
 pub struct Row {
     pub call: usize,
     pub writer: usize,
@@ -193,13 +193,11 @@ fn mixed(place: usize) -> usize {
 
 // Takes a number of the walk apart: the call and its arguments, a digit each.
 fn walk_row(x: usize) -> Row {
-    let row = row_of(WALK[x % 32]);
     Row {
-        call: row.call,
         writer: x / 32 % 2,
         page: x / 64 % 4,
         line: LINES[x / 256 % 4],
-        stores: row.stores,
+        ..row_of(WALK[x % 32])
     }
 }
 
@@ -249,8 +247,7 @@ fn event(image: &mut [u8], words: &mut Words, kind: usize) -> Answer {
 // Makes a call; a write writes the byte. An operation is asked for, its stores not yet made.
 pub fn made(image: &mut [u8], words: &mut Words, row: Row, byte: u8) -> Answer {
     let asked = Until::Asked;
-    let call = row.call;
-    match call {
+    match row.call {
         1 => call_begin::begin(words, row.writer),
         2 => call_begin::abort(words, row.writer),
         3 => write(image, words, row, byte),

@@ -9,10 +9,9 @@ const LINES: [[usize; 2]; 5] = [[0, 0], [1, 63], [2, 3], [3, 63], [0, 1]];
 
 // Writes what a recall shows of the round's lines, each after a comma.
 fn show_lines(image: &[u8]) {
-    for k in 0..5 {
-        let at = LINES[k];
+    for [page, line] in LINES {
         io::write_all(1, b",");
-        write_number(shown::recalled(image, at[0], at[1]), b"");
+        write_number(shown::recalled(image, page, line), b"");
     }
 }
 

@@ -13,10 +13,9 @@ fn with(sum: u64, number: u64) -> u64 {
 
 // The numbers of a turn, and the hash of the image.
 fn show(image: &[u8; 25192], made: u64, stores: u64, recalled: u64, read: u64) {
-    write_number(made, b",");
-    write_number(stores, b",");
-    write_number(recalled, b",");
-    write_number(read, b",");
+    for number in [made, stores, recalled, read] {
+        write_number(number, b",");
+    }
     write_number(hashing::hash(image), b"\n");
 }
 

@@ -1,9 +1,6 @@
-use Rattle.std.proofs.Common.{◌-◌, ◌<◌, length}
+use Rattle.std.proofs.Common.{◌<◌}
 use Rattle.rounds.proofs.arguments.value.Given as goal
 
 -- The number stays below 10^9.
-abbrev pub invariant-loop-i : goal.invariant-loop-i
-invariant-loop-i l = l.v < 1000000000
-
-abbrev pub decreases-loop-i : goal.decreases-loop-i
-decreases-loop-i l = length l.text - l.i
+abbrev pub invariant-loop-b : goal.invariant-loop-b
+invariant-loop-b l = l.v < 1000000000
