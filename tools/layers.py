@@ -15,7 +15,7 @@ MARKS = ("<!-- layers: drawn by tools/layers.py -->\n", "<!-- layers end -->\n")
 WIDTH = 116
 # from the lowest up: name, what it is about, its crates. A name with * takes what no other layer names
 LAYERS = [
-    ("base", "loops over numbers, sets of lines, meters", "bounded masks naming sequences hashing meters moduli_text"),
+    ("base", "loops over numbers, sets of lines, meters", "bounded rows masks naming sequences hashing meters moduli_text"),
     ("image", "words, sizes, lines and entries of a lent buffer", "words runs image_words layout image lines entries"),
     ("text", "numbers printed and read, lines cut out of input", "decimals cutting text number_text printing"),
     ("journal", "slots, records, replay; what a mount finds; a fresh image", "journal replay names mount fresh"),
