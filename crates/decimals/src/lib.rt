@@ -26,10 +26,8 @@ pub fn put_decimal(target: &mut [u8], at: usize, v: u64) -> usize
     ensures value { result ≡ at + length (decimal_of v) }
 {
     let n = width(v);
-    let mut k = n;
     let mut rest = v;
-    while k > 0 {
-        k -= 1;
+    for k in (0..n).rev() {
         target[at + k] = (48 + rest % 10) as u8;
         rest = rest / 10;
     }

@@ -18,12 +18,15 @@ use state_words::Words;
 fn write_args_bad(z: Sizes, writer: usize, span: Span) -> bool
     ensures { result ≡ write_args_bad z writer span.page span.line span.offset span.length }
 {
-    writer > 3
-        || span.page >= z.pages
-        || span.line > 63
-        || span.length == 0
-        || span.offset > 64
-        || span.length > 64 - span.offset
+    if span.offset > 64 {
+        return true;
+    }
+    // No branch between the tests that are left.
+    (writer > 3)
+        | (span.page >= z.pages)
+        | (span.line > 63)
+        | (span.length == 0)
+        | (span.length > 64 - span.offset)
 }
 
 // Row 14: the page has slot s, and a writer other than w holds line l.

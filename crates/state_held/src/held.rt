@@ -43,15 +43,7 @@ fn holder_ok(words: &Words, free: bool, s: usize, w: usize) -> bool
     if m == 0 {
         return true;
     }
-    let mut v = 0;
-    while v < w {
-        let k = held_at(words, v, s);
-        if !masks::are_disjoint(m, k) {
-            return false;
-        }
-        v += 1;
-    }
-    open_at(words, w) & !free
+    (0..w).all(|v| masks::are_disjoint(m, held_at(words, v, s))) && open_at(words, w) & !free
 }
 
 // The same of the four writers. Of most slots nothing is held.
@@ -59,17 +51,7 @@ fn slot_held_ok(words: &Words, free: bool, s: usize) -> bool
     requires { s < 16 }
     ensures { result ≡ all_below 4 (holder_ok (decoded words.now).writers.opened (decoded words.now).writers.held free s) }
 {
-    if !some_hold(words, s) {
-        return true;
-    }
-    let mut w = 0;
-    while w < 4 {
-        if !holder_ok(words, free, s, w) {
-            return false;
-        }
-        w += 1;
-    }
-    true
+    !some_hold(words, s) || (0..4).all(|w| holder_ok(words, free, s, w))
 }
 
 // Whether no line is held twice, for a closed writer or in a free slot.
@@ -86,7 +68,7 @@ pub fn others_hold(words: &Words, w: usize, s: usize, l: usize) -> bool
     requires { (s < 16) × (l < 64) }
     ensures { result ≡ others_hold (decoded words.now).writers.held w s l }
 {
-    (0..4).any(|v| v != w && masks::has(held_at(words, v, s), l))
+    (0..4).any(|v| (v != w) & masks::has(held_at(words, v, s), l))
 }
 
 // How many slots writer w holds lines of.
@@ -120,12 +102,10 @@ pub fn find_entry(words: &Words, n: usize, key: u64) -> usize
     requires { n ≤ 64 }
     ensures { result ≡ entry_of (decoded words.now).wide.keys n key }
 {
-    let mut e = 0;
-    while e < n {
+    for e in 0..n {
         if key_at(words, e) == key {
             return e;
         }
-        e += 1;
     }
     n
 }

@@ -12,12 +12,10 @@ pub fn slot_of(z: Sizes, words: &Words, p: usize) -> usize
     requires { Legal z }
     ensures { result ≡ slot_of_page z (decoded words.now).table.page p }
 {
-    let mut s = 0;
-    while s < z.slots {
+    for s in 0..z.slots {
         if page_at(words, s) == p {
             return s;
         }
-        s += 1;
     }
     z.slots
 }
@@ -27,13 +25,11 @@ pub fn free_after(z: Sizes, words: &Words, next: usize) -> usize
     requires { Legal z × (next < z.slots) }
     ensures { result ≡ free_after z (decoded words.now).table.page next }
 {
-    let mut k = 0;
-    while k < z.slots {
+    for k in 0..z.slots {
         let s = state::slots::round_slot(z, next, k);
         if page_at(words, s) == journal::NO_PAGE {
             return k;
         }
-        k += 1;
     }
     z.slots
 }

@@ -21,7 +21,7 @@ fn page_apart(words: &Words, s: usize) -> bool
     (0..s).all(|k| p != page_at(words, k))
 }
 
-// Whether slot s has a shape, and as an owning one a page that no slot below it has, with its original for its frame.
+// Whether slot s has a shape, and as an owning one a page that no slot below it has, with its original for its frame. No branch between the tests of a shape.
 fn slot_fine(z: Sizes, words: &Words, s: usize) -> bool
     requires { Legal z × (s < 16) }
     ensures { result ≡ slot_fine (own_frame (decoded words.now)) z (decoded words.now).table s }
@@ -29,12 +29,9 @@ fn slot_fine(z: Sizes, words: &Words, s: usize) -> bool
     let a = slot_at(words, s);
     let f = z.pages + z.slots;
     if a.page == journal::NO_PAGE {
-        return a.original == journal::NO_FRAME && a.bitmap == 0 && a.spare < f;
+        return (a.original == journal::NO_FRAME) & (a.bitmap == 0) & (a.spare < f);
     }
-    a.page < z.pages
-        && a.original < f
-        && a.spare < f
-        && a.original != a.spare
+    (a.page < z.pages) & (a.original < f) & (a.spare < f) & (a.original != a.spare)
         && page_apart(words, s)
         && state_words::entry_at(words, a.page) == a.original
 }

@@ -1,4 +1,3 @@
-use Prim.Native.Nat.{◌≤◌, ◌-◌}
 use mathlib.Core.Path.{◌≡◌}
 use lib.ListN.{get_or}
 use lib.Dec.{eqb}
@@ -7,7 +6,4 @@ use Rattle.state_words.specs.Decoded.{decoded}
 use Rattle.state_held.proofs.held.find_entry.Given as goal
 
 abbrev pub invariant-loop-e : goal.invariant-loop-e
-invariant-loop-e l = (l.e ≤ l.n) × (first_below l.e (λ k. eqb (get_or (decoded l.words).wide.keys k 0) l.key) ≡ l.e)
-
-abbrev pub decreases-loop-e : goal.decreases-loop-e
-decreases-loop-e l = l.n - l.e
+invariant-loop-e l = first_below l.e (λ k. eqb (get_or (decoded l.words).wide.keys k 0) l.key) ≡ l.e

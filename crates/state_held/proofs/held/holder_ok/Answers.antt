@@ -1,25 +1,30 @@
-use borrow.Author.Rules.{rules}
-use Rattle.bounded.proofs.Below.{all_none, all-turn, all-stops, all-ends}
-use mathlib.Core.Path.{ap, ◌∙◌}
-use borrow.Author.Tests.{eq-eqb, ne_eqb}
-use Rattle.masks.specs.Lines.{disjoint}
 use Prim.Native.Nat.{ℕ}
+use mathlib.Core.Bool.{Bool, true, false}
+use mathlib.Core.Path.{◌≡◌, refl, sym, ◌∙◌}
+use native.Mathlib.Omega.{arith}
+use borrow.Author.Rules.{rules}
+use borrow.Author.Tests.{tests, ne_eqb}
+use Rattle.std.proofs.lemmas.Iterator.{YieldsList-from_range}
+use Rattle.std.proofs.lemmas.Iterator.Search.{all_from_yields_List}
+use Rattle.bounded.specs.Below.{all_below}
+use Rattle.masks.specs.Lines.{disjoint}
+use Rattle.state.specs.Held.{held_at}
+use Rattle.state_words.specs.Decoded.{decoded}
+use Rattle.state_words.proofs.Ranges.{all-range}
 use Rattle.state_held.proofs.held.holder_ok.Goals as goal
 
-pub returns-then-m-eq0 : goal.returns-then-m-eq0
-returns-then-m-eq0 c = rw (← c.held_at-m.ensures, eq-eqb _ _ c.if-m-eq0.true)
+pub returns-then-all : goal.returns-then-all
+returns-then-all c =
+    let a = c.args in
+    let test : ℕ → Bool = λ (v : ℕ). disjoint c.held_at-m.result (held_at (decoded a.words.now).writers.held v a.s) in
+    let ran = all_from_yields_List test _ _ c.all.result c.all.ensures.ran (YieldsList-from_range 0 a.w a.w refl (omega arith)) (λ x b q k. search (rules, tests)) ∙ all-range test a.w in
+    let all : all_below a.w test ≡ true = sym ran ∙ c.if-all.true in
+    rw (← c.held_at-m.ensures, ne_eqb _ _ c.if-m-eq0.false, all, c.open_at.ensures)
 
-pub loop-v-init : goal.loop-v-init
-loop-v-init c = (search rules, all_none _)
-
-pub returns-then-not-are_disjoint : goal.returns-then-not-are_disjoint
-returns-then-not-are_disjoint c =
-    rw (← c.held_at-m.ensures, ne_eqb _ _ c.if-m-eq0.false, ← all-stops _ _ _ _ c.loop-v-test.true (c.are_disjoint.ensures ∙ ap (λ (k : ℕ). disjoint c.held_at-m.result k) c.held_at-k.ensures) (c.if-not-are_disjoint.true))
-
-pub loop-v-preserved : goal.loop-v-preserved
-loop-v-preserved c =
-    (search rules, all-turn _ _ _ c.loop-v.invariant.1 (c.are_disjoint.ensures ∙ ap (λ (k : ℕ). disjoint c.held_at-m.result k) c.held_at-k.ensures) (c.if-not-are_disjoint.false))
-
-pub returns : goal.returns
-returns c =
-    rw (← c.held_at-m.ensures, ne_eqb _ _ c.if-m-eq0.false, ← all-ends _ _ _ c.loop-v.invariant.0 c.loop-v-test.false c.loop-v.invariant.1, c.open_at.ensures)
+pub returns-else-all : goal.returns-else-all
+returns-else-all c =
+    let a = c.args in
+    let test : ℕ → Bool = λ (v : ℕ). disjoint c.held_at-m.result (held_at (decoded a.words.now).writers.held v a.s) in
+    let ran = all_from_yields_List test _ _ c.all.result c.all.ensures.ran (YieldsList-from_range 0 a.w a.w refl (omega arith)) (λ x b q k. search (rules, tests)) ∙ all-range test a.w in
+    let all : all_below a.w test ≡ false = sym ran ∙ c.if-all.false in
+    rw (← c.held_at-m.ensures, ne_eqb _ _ c.if-m-eq0.false, all) c.if-all.false

@@ -1,4 +1,3 @@
-use Prim.Native.Nat.{◌≤◌, ◌-◌}
 use mathlib.Core.Path.{◌≡◌}
 use Rattle.bounded.specs.Below.{first_below}
 use Rattle.state.specs.Slots.{free_at, round_slot}
@@ -6,7 +5,4 @@ use Rattle.state_words.specs.Decoded.{decoded}
 use Rattle.state_held.proofs.slots.free_after.Given as goal
 
 abbrev pub invariant-loop-k : goal.invariant-loop-k
-invariant-loop-k l = (l.k ≤ l.z.slots) × (first_below l.k (λ i. free_at (decoded l.words).table.page (round_slot l.z l.next i)) ≡ l.k)
-
-abbrev pub decreases-loop-k : goal.decreases-loop-k
-decreases-loop-k l = l.z.slots - l.k
+invariant-loop-k l = first_below l.k (λ i. free_at (decoded l.words).table.page (round_slot l.z l.next i)) ≡ l.k

@@ -1,4 +1,3 @@
-use Prim.Native.Nat.{◌≤◌, ◌-◌}
 use mathlib.Core.Path.{◌≡◌}
 use lib.ListN.{get_or}
 use lib.Dec.{eqb}
@@ -7,7 +6,4 @@ use Rattle.state_words.specs.Decoded.{decoded}
 use Rattle.state_held.proofs.slots.slot_of.Given as goal
 
 abbrev pub invariant-loop-s : goal.invariant-loop-s
-invariant-loop-s l = (l.s ≤ l.z.slots) × (first_below l.s (λ k. eqb (get_or (decoded l.words).table.page k 0) l.p) ≡ l.s)
-
-abbrev pub decreases-loop-s : goal.decreases-loop-s
-decreases-loop-s l = l.z.slots - l.s
+invariant-loop-s l = first_below l.s (λ k. eqb (get_or (decoded l.words).table.page k 0) l.p) ≡ l.s
