@@ -6,11 +6,12 @@ use mathlib.Core.Path.{◌≡◌, refl, sym, ap, ◌∙◌}
 use lib.Dec.{ltb, leb, eqb}
 use borrow.Author.Tests.{ltb-true, ltb-false, leb-true}
 use native.Mathlib.Omega.{arith}
-use lib.ListN.{length, get_or, set, replicate, length-set}
-use lib.Seq.{take_all}
+use lib.ListN.{length, get_or, set, length-set}
+use Rattle.std.proofs.Common.{w64}
+use Rattle.std.specs.Int.{from_le_bytes, to_le_bytes}
 use Rattle.bounded.proofs.Tests.{case_on, contradicts, every_held}
-use Rattle.words.specs.Words.{le_of, bytes_of, part, over, word_at, put_word}
-use Rattle.words.proofs.Bytes.{length-bytes}
+use Rattle.words.specs.Words.{le_of, bytes_of}
+use Rattle.words.proofs.Bytes.{length-bytes, from-eight, to-eight}
 use Rattle.state.specs.declared.Op.TheVariants.{Idle, Write, Commit, Consolidate, Checkpoint, Event, Prepare, Confirm, Log, Copy, Format}
 use Rattle.state.specs.declared.Op.{Op}
 use Rattle.state.specs.declared.Pending.{Pending}
@@ -102,17 +103,9 @@ module _ (c : List ℕ) (w : is_idle (decoded c).pending.op ≡ false) where
       let byte : i % 8 ≡ (i - 64) % 8 = omega (arith, past) in
       rw (place, byte) (second-put ((i - 64) / 8) low _ ∙ rw (f, second_word ((i - 64) / 8) low)))
 
--- eight bytes with a word put over them are the word's bytes
-put-eight : (w : ℕ) → put_word (replicate 8 0) 0 w ≡ bytes_of 8 w
-unfolding put_word over bytes_of
-put-eight w = refl
-
-pub eight-long : (b : List ℕ) (w k v : ℕ) → b ≡ put_word (replicate 8 0) 0 w → 8 ≤ length (set b k v)
-eight-long b w k v e = simp length-set (omega (arith, ap length (e ∙ put-eight w) ∙ length-bytes 8 w))
-
-pub line-byte : (b : List ℕ) (w k v : ℕ) → b ≡ put_word (replicate 8 0) 0 w → word_at (set b k v) 0 ≡ le_of (set (bytes_of 8 w) k v)
-unfolding word_at part
-line-byte b w k v e =
-    let q : b ≡ bytes_of 8 w = e ∙ put-eight w in
-    let h : length (set b k v) ≤ 8 = simp length-set (omega (arith, ap length q ∙ length-bytes 8 w)) in
-    ap le_of (take_all 8 (set b k v) h ∙ ap (λ (l : List ℕ). set l k v) q)
+-- a byte set in the bytes of a word, and the word that they make
+pub line-byte : (b : List ℕ) (w j v : ℕ) → b ≡ to_le_bytes w64 w → from_le_bytes w64 (set b j v) ≡ le_of (set (bytes_of 8 w) j v)
+line-byte b w j v e =
+    let q : b ≡ bytes_of 8 w = e ∙ to-eight w in
+    let long : length (set b j v) ≡ 8 = simp length-set (ap length q ∙ length-bytes 8 w) in
+    from-eight (set b j v) long ∙ ap (λ (l : List ℕ). le_of (set l j v)) q

@@ -74,10 +74,9 @@ fn with_byte(word: u64, j: usize, v: u8) -> u64
     requires { j < 8 }
     ensures { result ≡ with_byte word j v }
 {
-    let mut bytes = [0u8; 8];
-    words::put_word(&mut bytes, 0, word);
+    let mut bytes = word.to_le_bytes();
     bytes[j] = v;
-    words::word_at(&bytes, 0)
+    u64::from_le_bytes(bytes)
 }
 
 // Sets byte i of the finished lines, which stand one behind the other.

@@ -57,23 +57,7 @@ fn op_numbers(op: Op, made: usize) -> [u64; 7]
 fn byte_numbers(v: u64) -> [u64; 8]
     ensures { result ≡ bytes_of 8 v }
 {
-    let v1 = v / 256;
-    let v2 = v1 / 256;
-    let v3 = v2 / 256;
-    let v4 = v3 / 256;
-    let v5 = v4 / 256;
-    let v6 = v5 / 256;
-    let v7 = v6 / 256;
-    [
-        v % 256,
-        v1 % 256,
-        v2 % 256,
-        v3 % 256,
-        v4 % 256,
-        v5 % 256,
-        v6 % 256,
-        v7 % 256,
-    ]
+    v.to_le_bytes().map(u64::from)
 }
 
 // The 64 bytes of a line of words.
@@ -82,11 +66,9 @@ fn put_line(out: &mut [u8], at: usize, line: [u64; 8]) -> usize
     ensures { Put out.old at (blanked (line_numbers line)) out.new result }
 {
     let mut next = at;
-    let mut i = 0;
-    while i < 8 {
-        let bytes = byte_numbers(line[i]);
+    for word in line {
+        let bytes = byte_numbers(word);
         next = number_text::put_numbers(out, next, &bytes);
-        i += 1;
     }
     next
 }

@@ -1,10 +1,10 @@
 -- How many numbers a state has, and how long their text is: what the room in the buffer is reckoned from.
-use Prim.Native.Nat.{ℕ, ◌+◌, ◌-◌, ◌*◌, ◌≤◌, min}
+use Prim.Native.Nat.{ℕ, ◌*◌, ◌≤◌, min}
 use mathlib.Core.Bool.{false}
 use mathlib.Core.List.{List, ◌++◌}
-use mathlib.Core.Path.{◌≡◌, ap}
+use mathlib.Core.Path.{◌≡◌}
 use native.Mathlib.Omega.{arith}
-use lib.ListN.{length, take, drop, get_or, length-append, length-take}
+use lib.ListN.{length, drop, get_or, length-append, length-take}
 use Rattle.bounded.specs.Below.{one}
 use Rattle.bounded.proofs.Tab.{length-tab}
 use Rattle.words.specs.Words.{part}

@@ -1,2 +1,3 @@
 pub mod Lengths
+mod Rooms
 mod Rows

@@ -1,9 +1,9 @@
 -- A row of held lines, as a loop copies it from the words, and its first n.
-use Prim.Native.Nat.{ℕ, ◌+◌, ◌*◌, ◌<◌, ◌≤◌}
+use Prim.Native.Nat.{ℕ, ◌*◌, ◌<◌, ◌≤◌}
 use mathlib.Core.List.{List}
 use mathlib.Core.Path.{◌≡◌, sym, ◌∙◌}
 use native.Mathlib.Omega.{arith}
-use lib.ListN.{length, take, drop, get_or, replicate, length-drop, length-replicate}
+use lib.ListN.{length, take, drop, replicate, length-drop, length-replicate}
 use lib.Seq.{length-take-le, ext_get_or, get_or-drop, take-take}
 use Rattle.bounded.specs.Tab.{filled}
 use Rattle.bounded.proofs.Tab.{length-filled, get_or-filled}

@@ -1,7 +1,7 @@
 // The state's numbers, parted by blanks, read from its words.
 #![tactic(auto)]
 
-ghost use Rattle.std.specs.Prelude.{◌≡◌, ◌+◌, ◌*◌, ◌<◌, ◌≤◌, length};
+ghost use Rattle.std.specs.Prelude.{ℕ, List, ◌≡◌, ◌+◌, ◌*◌, ◌<◌, ◌≤◌, length};
 ghost use Rattle.number_text.specs.Text.{Put, blanked, each};
 ghost use Rattle.words.specs.Words.{part};
 ghost use Rattle.state_words.specs.Decoded.{decoded};
@@ -10,60 +10,64 @@ ghost use Rattle.state_text.specs.Numbers.{turn_numbers, wide_numbers, places_fi
 
 use state::held::one_if;
 use state_words::Words;
+use std::convert::AsSlice;
+
+// The numbers of 0, 1, .. n - 1, at most width of each, every number after a blank.
+fn put_each<A: AsSlice<u64> + Drop, F: Fn(usize) -> A>(
+    out: &mut [u8],
+    at: usize,
+    n: usize,
+    width: usize,
+    numbers: F,
+) -> usize
+    requires callable { (i : ℕ) → i < n → F.pre numbers i }
+    requires narrow { (i : ℕ) (r : _) → i < n → F.post numbers i r → length (A.items r) ≤ width }
+    requires room { at + 21 * (width * n) ≤ length out.old }
+    ensures { (f : ℕ → List ℕ) → ((i : ℕ) (r : _) → i < n → F.post numbers i r → A.items r ≡ f i) → Put out.old at (blanked (each n f)) out.new result }
+{
+    let mut next = at;
+    for i in 0..n {
+        let row = numbers(i);
+        next = number_text::put_numbers(out, next, row.as_slice());
+    }
+    next
+}
 
 // ---- slots
-
-fn slot_numbers(words: &Words, i: usize) -> [u64; 5]
-    requires { i < 16 }
-    ensures { result ≡ slot_numbers (decoded words.now).table i }
-{
-    let slot = state_words::slot_at(words, i);
-    [
-        slot.page as u64,
-        slot.original as u64,
-        slot.spare as u64,
-        slot.bitmap,
-        state_words::last_at(words, i) as u64,
-    ]
-}
 
 // The first n slots.
 fn put_slots(out: &mut [u8], at: usize, words: &Words, n: usize) -> usize
     requires { (n ≤ 16) × (at + 1680 ≤ length out.old) }
     ensures { Put out.old at (blanked (each n (slot_numbers (decoded words.now).table))) out.new result }
 {
-    let mut next = at;
-    let mut i = 0;
-    while i < n {
-        let slot = slot_numbers(words, i);
-        next = number_text::put_numbers(out, next, &slot);
-        i += 1;
-    }
-    next
+    let numbers = |i: usize|
+        requires { i < 16 }
+        ensures { result ≡ slot_numbers (decoded words.entry.now).table i }
+    {
+        let slot = state_words::slot_at(words, i);
+        [
+            slot.page as u64,
+            slot.original as u64,
+            slot.spare as u64,
+            slot.bitmap,
+            state_words::last_at(words, i) as u64,
+        ]
+    };
+    put_each(out, at, n, 5, numbers)
 }
 
 // ---- the map
-
-fn entry_number(words: &Words, p: usize) -> [u64; 1]
-    requires { p < 1024 }
-    ensures { result ≡ entry_number (decoded words.now).map p }
-{
-    [state_words::entry_at(words, p) as u64]
-}
 
 // The first n entries.
 fn put_map(out: &mut [u8], at: usize, words: &Words, n: usize) -> usize
     requires { (n ≤ 1024) × (at + 21504 ≤ length out.old) }
     ensures { Put out.old at (blanked (each n (entry_number (decoded words.now).map))) out.new result }
 {
-    let mut next = at;
-    let mut i = 0;
-    while i < n {
-        let entry = entry_number(words, i);
-        next = number_text::put_numbers(out, next, &entry);
-        i += 1;
-    }
-    next
+    let number = |p: usize|
+        requires { p < 1024 }
+        ensures { result ≡ entry_number (decoded words.entry.now).map p }
+    { [state_words::entry_at(words, p) as u64] };
+    put_each(out, at, n, 1, number)
 }
 
 // ---- writers
@@ -87,10 +91,8 @@ fn held_by(words: &Words, w: usize) -> [u64; 16]
 {
     let _ = state_words::all_words(*words);
     let mut row = [0u64; 16];
-    let mut s = 0;
-    while s < 16 {
+    for s in 0..16 {
         row[s] = state_words::held_at(words, w, s);
-        s += 1;
     }
     row
 }
@@ -101,11 +103,9 @@ fn put_held(out: &mut [u8], at: usize, words: &Words, n: usize) -> usize
     ensures { Put out.old at (blanked (each 4 (held_numbers (decoded words.now).writers.held n))) out.new result }
 {
     let mut next = at;
-    let mut w = 0;
-    while w < 4 {
+    for w in 0..4 {
         let row = held_by(words, w);
         next = number_text::put_numbers(out, next, &row[..n]);
-        w += 1;
     }
     next
 }
@@ -132,26 +132,16 @@ fn turn_numbers(words: &Words) -> [u64; 3]
     ]
 }
 
-fn key_number(words: &Words, e: usize) -> [u64; 1]
-    requires { e < 64 }
-    ensures { result ≡ key_number (decoded words.now).wide.keys e }
-{
-    [state_words::key_at(words, e)]
-}
-
 // The first n keys.
 fn put_keys(out: &mut [u8], at: usize, words: &Words, n: usize) -> usize
     requires { (n ≤ 64) × (at + 1344 ≤ length out.old) }
     ensures { Put out.old at (blanked (each n (key_number (decoded words.now).wide.keys))) out.new result }
 {
-    let mut next = at;
-    let mut i = 0;
-    while i < n {
-        let key = key_number(words, i);
-        next = number_text::put_numbers(out, next, &key);
-        i += 1;
-    }
-    next
+    let number = |e: usize|
+        requires { e < 64 }
+        ensures { result ≡ key_number (decoded words.entry.now).wide.keys e }
+    { [state_words::key_at(words, e)] };
+    put_each(out, at, n, 1, number)
 }
 
 fn put_wide(out: &mut [u8], at: usize, words: &Words) -> usize

@@ -1,13 +1,7 @@
-use Prim.Native.Nat.{◌-◌, ◌≤◌}
-use mathlib.Core.Path.{◌≡◌}
-use lib.ListN.{length}
 use Rattle.number_text.specs.Text.{Put, each, blanked}
 use Rattle.state_text.specs.Numbers.{held_numbers}
 use Rattle.state_words.specs.Decoded.{decoded}
 use Rattle.state_text.proofs.put_held.Given as goal
 
 abbrev pub invariant-loop-w : goal.invariant-loop-w
-invariant-loop-w l = (l.w ≤ 4) × (length l.out ≡ length l.initial.out) × Put l.initial.out l.at (blanked (each l.w (held_numbers (decoded l.words).writers.held l.n))) l.out l.next
-
-abbrev pub decreases-loop-w : goal.decreases-loop-w
-decreases-loop-w l = 4 - l.w
+invariant-loop-w l = Put l.initial.out l.at (blanked (each l.w (held_numbers (decoded l.words).writers.held l.n))) l.out l.next
