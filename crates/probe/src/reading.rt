@@ -78,6 +78,7 @@ fn perform_piece(
 {
     let mut s = s;
     let mut from = 0;
+    // no `for`: where the next line ends is found, not counted
     while from < piece.len() {
         let end = cutting::line_end(piece, from);
         let kept = cutting::keep(line, s.kept, piece, from, end);
@@ -124,8 +125,7 @@ fn read_piece(
     perform_piece(s, buffer, words, table, line, &input[..n], out)
 }
 
-// Reads to the end of the input. A proved loop has to end, so this one counts its turns down from a number that no run
-// uses up.
+// Reads to the end of the input. A proved loop has to end, so this one has more turns than any run takes.
 fn read_all(
     stdin: &mut Stdin,
     s: Session,
@@ -140,10 +140,11 @@ fn read_all(
         (stand result buffer.new words.new table.new line.new out.new) }
 {
     let mut s = s;
-    let mut turns = u64::MAX;
-    while (turns > 0) & s.more {
+    for _turn in 0..u64::MAX {
+        if !s.more {
+            return s;
+        }
         s = read_piece(stdin, s, buffer, words, table, line, input, out);
-        turns -= 1;
     }
     s
 }

@@ -1,10 +1,7 @@
 use Rattle.probe.specs.Program.{stand, TakesSome}
 use Rattle.probe.proofs.reading.read_all.Given as goal
 
-abbrev pub invariant-loop-turns : goal.invariant-loop-turns
-invariant-loop-turns l =
+abbrev pub invariant-loop-turn : goal.invariant-loop-turn
+invariant-loop-turn l =
     TakesSome (stand l.initial.s l.initial.buffer l.initial.words l.initial.table l.initial.line l.initial.out)
     (stand l.s l.buffer l.words l.table l.line l.out)
-
-abbrev pub decreases-loop-turns : goal.decreases-loop-turns
-decreases-loop-turns l = l.turns
