@@ -102,5 +102,5 @@ pub(crate) fn abort_made(words: &mut Words, writer: usize)
 {
     let z = state_words::sizes_in(words);
     let at = state_words::places_in(words);
-    call_begin::abort_valid(z, at, words, writer);
+    let _ = call_begin::abort_valid(z, at, words, writer);
 }

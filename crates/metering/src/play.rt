@@ -49,9 +49,9 @@ fn amount_of(drawn: u64) -> u64 {
 
 // Makes at most k stores; where more are needed, power goes.
 fn run_or_cut(image: &mut [u8; 16640], words: &mut Words, k: usize, needed: usize) {
-    call_step::run(image, words, k);
+    let _ = call_step::run(image, words, k);
     if k < needed {
-        call_mount::mount(image, words);
+        let _ = call_mount::mount(image, words);
     }
 }
 
@@ -68,7 +68,7 @@ fn ask(
     let answer = call_event::event(image, words, kind, meter, amount, moduli, Until::Asked);
     let number = number_of(answer) as u64;
     if number == 19 {
-        call_checkpoint::checkpoint(image, words, Until::End);
+        let _ = call_checkpoint::checkpoint(image, words, Until::End);
     } else if number == 0 {
         run_or_cut(image, words, k, meters::event_needs(kind));
     }
@@ -94,7 +94,7 @@ fn turn(image: &mut [u8; 16640], words: &mut Words, game: Game) -> Game {
 
 // A fresh store, with the fixed moduli.
 pub fn fresh(image: &mut [u8; 16640], words: &mut Words) -> Game {
-    call_mount::format_whole(
+    let _ = call_mount::format_whole(
         image,
         words,
         Sizes {
@@ -146,7 +146,7 @@ pub fn events(image: &mut [u8; 16640], words: &mut Words, game: Game, n: usize) 
 // The stored number of meter m.
 pub fn meter(image: &[u8; 16640], words: &Words, m: usize) -> u64 {
     let mut line = [0u8; 64];
-    call_read::read(image, words, 0, 0, m, &mut line);
+    let _ = call_read::read(image, words, 0, 0, m, &mut line);
     image_words::read_word(&line, 0)
 }
 

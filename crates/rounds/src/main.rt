@@ -35,7 +35,7 @@ fn play(image: &mut Image, words: &mut Words, n: usize, stay: usize) -> u64 {
         places: 64,
         entries: 0,
     };
-    call_mount::format_whole(image, words, z);
+    let _ = call_mount::format_whole(image, words, z);
     let mut stores: u64 = 0;
     for r in 0..n {
         stores = stores.wrapping_add(game::round(image, words, pair_of(r, stay), r));

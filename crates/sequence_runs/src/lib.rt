@@ -50,7 +50,7 @@ pub fn play(numbers: &[u64], k: usize, answers: &mut [u64]) -> Played
         places: 1,
         entries: 0,
     };
-    call_mount::format_whole(&mut image, &mut words, sizes);
+    let _ = call_mount::format_whole(&mut image, &mut words, sizes);
     let needed = turns::perform(&mut image, &mut words, numbers, k, answers);
     Played {
         needed,

@@ -27,7 +27,7 @@ fn turn(image: &mut [u8], words: &mut Words, c: u64, last: bool, k: usize) -> Ma
     let answer = calls::ask(image, words, c);
     let number = answers::number_of(answer);
     let needed = calling::stores_of(answer);
-    call_step::run(image, words, budget_of(last, k, needed));
+    let _ = call_step::run(image, words, budget_of(last, k, needed));
     Made { number, needed }
 }
 

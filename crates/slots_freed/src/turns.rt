@@ -15,7 +15,7 @@ pub fn play(image: &mut [u8]) {
         entries: 0,
     };
     let mut words = [0u64; WORD_COUNT];
-    call_mount::format_whole(image, &mut words, z);
+    let _ = call_mount::format_whole(image, &mut words, z);
     let mut sum = 0;
     let mut call = 0;
     for _ in 0..TURNS {
