@@ -138,23 +138,23 @@ module _ (words img : List ℕ) (narrow : Narrow (decoded words)) (a : Ask) (lin
     call-legal z e = subst Legal (sym (e ∙ ap (λ (x : Result). x.world.st.sizes) told)) ran.1.legal
 
     -- the word of the first store
-    first-told : (next : NextStore) → next ≡ next_store_of (decoded words') img'
-        → next.at ≡ store_at d.world.st d.world.st.pending.op d.world.st.pending.made
-    first-told next e =
+    first-told : (word : ℕ) → word ≡ (next_store_of (decoded words') img').at
+        → word ≡ store_at d.world.st d.world.st.pending.op d.world.st.pending.made
+    first-told word e =
         let v = d.world in
         let same : next_store_of (decoded words') img' ≡ next_store_of v.st v.image = ap (λ (x : Result). next_store_of x.world.st x.world.image) told in
         let row : eqb (step_row v.st v.image) 0 ≡ true = eq-eqb (step_row v.st v.image) 0 ran.1.row in
-        ap (λ (x : NextStore). x.at) (e ∙ same) ∙ rw row
+        e ∙ ap (λ (x : NextStore). x.at) same ∙ rw row
 
-    pub call-some : (z : Sizes) (next : NextStore) (needed frame : ℕ) (e : Ends) (w : Bool) (counts counts' : List ℕ) → z ≡ (decoded words').sizes
-        → next ≡ next_store_of (decoded words') img' → needed ≡ stores_of answer → frame ≡ frame_of z next.at → e ≡ asked_ends a needed frame
+    pub call-some : (z : Sizes) (word needed frame : ℕ) (e : Ends) (w : Bool) (counts counts' : List ℕ) → z ≡ (decoded words').sizes
+        → word ≡ (next_store_of (decoded words') img').at → needed ≡ stores_of answer → frame ≡ frame_of z word → e ≡ asked_ends a needed frame
         → w ≡ is_write a → length counts ≡ 22 → counts' ≡ counted e w n counts
         → Performs came (worn_by d.world (is_write a) (stores_in came.output)) counts (machine_at r.mode words'') img'' counts'
-    call-some z next needed frame e w counts counts' hz hn hs hf he hw size c =
+    call-some z word needed frame e w counts counts' hz hn hs hf he hw size c =
         let v = d.world in
         let sizes : z ≡ v.st.sizes = hz ∙ ap (λ (x : Result). x.world.st.sizes) told in
         let stores : needed ≡ d.stores = hs ∙ ap (λ (x : Result). x.stores) told in
-        let at = first-told next hn in
+        let at = first-told word hn in
         let first = store_at v.st v.st.pending.op v.st.pending.made in
         let at-frame : frame ≡ frame_of v.st.sizes first = hf ∙ rw (sizes, at) in
         let ends : e ≡ asked_ends a d.stores (frame_of v.st.sizes first) = he ∙ rw (stores, at-frame) in

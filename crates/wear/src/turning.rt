@@ -5,6 +5,7 @@ ghost use Rattle.refinement.specs.Mount.{format_of};
 ghost use Rattle.refinement.specs.Run.{exec};
 ghost use Rattle.state_words.specs.Decoded.{decoded};
 ghost use Rattle.call_mount.specs.Replacing.{replacing};
+ghost use Rattle.call_step.specs.NextStore.{next_store_of};
 ghost use Rattle.calling.specs.WriteLine.{has_data};
 ghost use Rattle.forms.specs.declared.Ask.TheVariants.{Write};
 ghost use Rattle.executing.specs.Called.{call_of, machine_at, world_at, finished};
@@ -57,6 +58,16 @@ fn format_line(image: &mut [u8], words: &mut Words, m: Mode, counts: &mut [u64],
     t.mode
 }
 
+// The word that the next store goes to, 0 where there is none.
+fn next_word(image: &[u8], words: &Words) -> usize
+    ensures { result ≡ (next_store_of (decoded words.now) image.now).at }
+{
+    match call_step::next_store(image, words) {
+        Ok(next) => next.at,
+        Err(_) => 0,
+    }
+}
+
 // A call asked for, its stores made and counted.
 fn ask_line(
     image: &mut [u8],
@@ -76,7 +87,7 @@ fn ask_line(
 {
     let cut = m.cut;
     let answer = calls::ask(image, words, a, line.count, &line.numbers);
-    let next = call_step::next_store(image, words);
+    let first = next_word(image, words);
     let z = state_words::sizes_in(words);
     let t = finishing::finish(image, words, cut, line.letter, answer);
     let mode = t.mode;
@@ -85,7 +96,7 @@ fn ask_line(
     if made == 0 {
         return mode;
     }
-    let e = shares::asked_ends(a, calling::stores_of(answer), shares::frame_of(z, next.at));
+    let e = shares::asked_ends(a, calling::stores_of(answer), shares::frame_of(z, first));
     shares::count(counts, e, is_write(a), made);
     mode
 }

@@ -22,6 +22,6 @@ shape_of-image c =
 
 pub returns : goal.returns
 returns c =
-    call-some c.args.words.now c.args.image.now c.requires.narrow c.args.a c.args.line c.args.m.cut c.ask-answer.result _ _ c.ask-answer.ensures c.finish-t.result _ _ c.finish-t.ensures _ c.stores_in-made.ensures c.if-made-eq0.false _ c.next_store-next.result _ _ _ _ c.args.counts.now _
-    c.sizes_in-z.ensures c.next_store-next.ensures c.stores_of.ensures c.frame_of.ensures c.asked_ends-e.ensures
+    call-some c.args.words.now c.args.image.now c.requires.narrow c.args.a c.args.line c.args.m.cut c.ask-answer.result _ _ c.ask-answer.ensures c.finish-t.result _ _ c.finish-t.ensures _ c.stores_in-made.ensures c.if-made-eq0.false _ c.next_word-first.result _ _ _ _ c.args.counts.now _
+    c.sizes_in-z.ensures c.next_word-first.ensures c.stores_of.ensures c.frame_of.ensures c.asked_ends-e.ensures
     c.is_write.ensures c.requires.counts_len c.count.ensures
