@@ -76,7 +76,7 @@ def held():
 
 def is_type(text, name):
     """Whether a name is another word for a type of data, such as `Row = Bool × ℕ`."""
-    return bool(re.search(rf"^{name} = (?:Bool|ℕ|List)\b", text, re.M))
+    return bool(re.search(rf"^{name} = (?:Bool|ℕ|List|Option|Result)\b", text, re.M))
 
 
 def recorded():
