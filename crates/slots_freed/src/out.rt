@@ -5,7 +5,7 @@ use answers::Answer;
 fn summed(sum: u64, a: Answer) -> u64 {
     let code = match a {
         Ok(stores) => stores as u64 % 1000,
-        Err(row) => 1000 * (usize::from(row) as u64 % 100),
+        Err(_) => 1000 * (answers::number_of(a) as u64 % 100),
     };
     (31 * (sum % 4294967291) + code) % 4294967291
 }

@@ -11,7 +11,7 @@ fn refused(number: usize) -> u64 {
 pub fn code(a: Answer) -> u64 {
     match a {
         Ok(stores) => stores as u64,
-        Err(row) => refused(usize::from(row)),
+        Err(_) => refused(answers::number_of(a)),
     }
 }
 
