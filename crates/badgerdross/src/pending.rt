@@ -55,7 +55,7 @@ pub extern "C" fn badgerdross_next_store(
     match call_step::next_range(image, words) {
         Ok(range) => {
             let told = range.next;
-            let decides = usize::from(told.decides);
+            let decides = state::held::one_if(told.decides);
             *next = [told.at, range.beside, decides, told.before, range.left];
             0
         }

@@ -10,5 +10,5 @@ loop-turn-preserved c = takes-more _ _ _ _ c.loop-turn.invariant c.read_piece-s.
 pub returns-then-not-s : goal.returns-then-not-s
 returns-then-not-s c = c.loop-turn.invariant
 
-pub returns-after-loop-turn : goal.returns-after-loop-turn
-returns-after-loop-turn c = c.loop-turn.invariant
+pub returns : goal.returns
+returns c = c.loop-turn.invariant
