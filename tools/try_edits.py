@@ -78,7 +78,7 @@ def put(one, other):
 
 
 def try_all(folder, asked):
-    """Has rt try each edit; gives those that were not refused, with what was said of them, and how many rt marks as refused only because
+    """Has rt try each edit; gives those that were not refused, with what was said of them, and those that rt marks as refused only because
     a proof file names what the edit took away, or by a limit of the prover. rt marks none where another error stands beside that."""
     work = tempfile.mkdtemp()
     try:
@@ -99,7 +99,7 @@ def try_all(folder, asked):
         sys.exit(2)
     kept = {(name, edit): of.get(f"{name}/{edit}", "not tried") for name in asked for edit in asked[name]
             if not of.get(f"{name}/{edit}", "").startswith("refused")}
-    return kept, sum(words.startswith("refused, as it must be (only") for words in of.values())
+    return kept, [edit for edit, words in of.items() if words.startswith("refused, as it must be (only")]
 
 
 def main():
@@ -114,8 +114,10 @@ def main():
         stamp(asked, kept)
     for (name, edit), words in kept.items():
         print(f"{folder}/{name}/{edit}: {words}")
+    for edit in weak:
+        print(f"{folder}/{edit}: marked by rt as refused only for a name or a limit")
     count = sum(len(edits) for edits in asked.values())
-    print(f"{count} edits tried; {count - len(kept)} refused, {weak} of them marked by rt as only for a name or a limit; {len(kept)} not")
+    print(f"{count} edits tried; {count - len(kept)} refused, {len(weak)} of them marked by rt as only for a name or a limit; {len(kept)} not")
     sys.exit(len(kept) > 0)
 
 
