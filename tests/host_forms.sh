@@ -53,7 +53,7 @@ fn fresh() -> State {
         places: 1,
         entries: 1,
     };
-    call_mount::format_whole(&mut image, &mut words, z);
+    let _ = call_mount::format_whole(&mut image, &mut words, z);
     State { words }
 }
 
