@@ -10,15 +10,18 @@ import re
 import sys
 
 FOLDERS = ("crates/{}/must-fail", "tests/merge_edits/{}", "tests/release_edits/{}")
-FUNCTION = re.compile(r"(?:pub(?:\(crate\))? )?(?:extern \"C\" )?fn (\w+)")
+FUNCTION = re.compile(r"(?:    )?(?:pub(?:\(crate\))? )?(?:extern \"C\" )?fn (\w+)")
+OF_TRAIT = re.compile(r"impl\b.* for ")
 
 
 def functions(path):
-    """The functions of a file: name, first line, text."""
+    """The functions and methods of a file: name, a method's behind its `impl`; first line; text; whether it is public, as a trait's methods are."""
     lines = open(path, encoding="utf-8").read().split("\n")
     starts = [(n, FUNCTION.match(line).group(1)) for n, line in enumerate(lines) if FUNCTION.match(line)]
     for (n, name), (end, _) in zip(starts, starts[1:] + [(len(lines), "")]):
-        yield name, n, "\n".join(line.split("//")[0] for line in lines[n:end])
+        heads = [line for line in lines[:n] if line.startswith("impl")][-1:] if lines[n].startswith(" ") else []
+        public = lines[n].lstrip().startswith("pub ") or any(OF_TRAIT.match(head) for head in heads)
+        yield " ".join([head.rstrip(" {") for head in heads] + [name]), n, "\n".join(line.split("//")[0] for line in lines[n:end]), public
 
 
 def edited_line(path, edit):
@@ -35,7 +38,7 @@ def edited_line(path, edit):
 def crate_edits(crate):
     """Each public function with a contract and the edits that it has; and the edits whose text does not stand."""
     found = [(path, *item) for path in sorted(glob.glob(f"crates/{crate}/src/**/*.rt", recursive=True)) for item in functions(path)]
-    of = {(path, name): [] for path, name, _, text in found if text.startswith("pub ") and "ensures" in text}
+    of = {(path, name): [] for path, name, _, text, public in found if public and "ensures" in text}
     lost = []
     for edit in sorted(sum((glob.glob(folder.format(crate) + "/*.edit") for folder in FOLDERS), [])):
         words = open(edit, encoding="utf-8").read()
@@ -44,7 +47,7 @@ def crate_edits(crate):
         if line is None:
             lost.append(edit)
             continue
-        hit = [(p, name) for p, name, start, _ in found if p == path and start <= line][-1:]
+        hit = [(p, name) for p, name, start, _, _ in found if p == path and start <= line][-1:]
         for key in hit:
             of.get(key, []).append(os.path.basename(edit)[:-5])
     return of, lost

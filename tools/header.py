@@ -3,7 +3,8 @@
 
 - every exported function of crates/badgerdross_c, and recalling_c's, has a prototype with the same arguments and result, and there is no other prototype;
 - a struct behind a pointer is the array of numbers that the function is lent, the state's BADGERDROSS_WORDS words among them;
-- the answers have the names and numbers of crates/answers, the calls those of crates/wording, the version is the one that is returned;
+- the answers have the names and numbers of crates/rows, a taken call that of crates/answers, the calls those of crates/wording, the version is the
+  one that is returned;
 - the answers listed at a call are the numbers that crates/wording says it can return.
 
     tools/header.py           says what is held and fails on a difference
@@ -118,7 +119,9 @@ declared = dict(prototypes())
 compare("function", declared, library | dict(exports("recalling_c")))
 
 rows = open("crates/rows/src/lib.rt", encoding="utf-8").read()
-answers = {"TAKEN": 0} | {snake(name): int(n) for name, n in re.findall(r"Refusal::(\w+) => (\d+),", rows)}
+taken = open("crates/answers/src/lib.rt", encoding="utf-8").read()
+answers = {snake(name): int(n) for name, n in re.findall(r"Refusal::(\w+) => (\d+),", rows)}
+answers |= {"TAKEN": int(n) for n in re.findall(r"Ok\(_\) => (\d+),", taken)}
 compare("answer", constants("badgerdross_answer"), answers)
 
 wording = open("crates/wording/specs/Calls.antt", encoding="utf-8").read()

@@ -1,2 +1,3 @@
 pub mod Asked
 pub mod Copied
+pub mod Stored

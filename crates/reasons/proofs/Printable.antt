@@ -1,13 +1,13 @@
 -- A sentence has at most 200 bytes, and each is printable.
-use mathlib.Core.Path.{◌≡◌, refl, sym, ap, ◌∙◌}
+use mathlib.Core.Path.{◌≡◌, refl}
 use mathlib.Core.Bool.{Bool, true, false}
 use mathlib.Core.List.{List, [], ◌∷◌, ◌++◌}
 use Prim.Native.Nat.{ℕ, zero, suc, ◌+◌, ◌/◌, ◌%◌, ◌<◌, ◌≤◌}
 use native.Mathlib.Nat.{mod-lt}
 use native.Mathlib.Omega.{arith}
-use lib.Dec.{eqb}
+use lib.Dec.{eqb, ltb}
 use lib.ListN.{length, length-append}
-use borrow.Author.Tests.{le-leb}
+use borrow.Author.Tests.{le-leb, ltb-false}
 use Rattle.bounded.proofs.Tests.{case_on}
 use Rattle.words.proofs.Parts.{length_over}
 use Rattle.decimals.specs.Decimal.{digits_of, decimal_of}
@@ -15,11 +15,11 @@ use Rattle.wording.specs.Calls.{can_return, takes_writer, takes_page, takes_line
 use Rattle.wording.specs.Words.{codes, name_of, text_of, printable}
 use Rattle.std.specs.Prelude.{Result, Ok}
 use Rattle.rows.specs.declared.Refusal.{Refusal}
-use Rattle.reasons.proofs.Composing.{composed-by, composed-taken}
+use Rattle.reasons.proofs.Composing.{composed-by}
 use Rattle.wording.proofs.Returns.{known}
 use Rattle.wording.proofs.Wording.{name-fits, text-fits, plain-printable, printable-append}
 use Rattle.reasons.specs.declared.Reason.{Reason}
-use Rattle.reasons.specs.Sentence.{opening, field, page_label, holder_label, closing, sentence, composed, composed_in}
+use Rattle.reasons.specs.Sentence.{opening, field, page_label, holder_label, closing, sentence, compose_row, composed, composed_in}
 use Rattle.reasons.proofs.Lengths.{opening-le, field-le, page-le, holder-le}
 
 -- ---- how long
@@ -115,15 +115,31 @@ shown r e =
       clear = printable-append (opening r.call r.number) (closing r) (opening-printable r.call r.number) (closing-printable r);
     }
 
--- what is composed lies in the target, whose length stays
-pub record Inside (target : List ℕ) (n : ℕ) (out : List ℕ) : Type 0 where
+-- what is composed lies in the target, whose length stays, also where composing is turned back
+pub record Inside (target : List ℕ) (d : Result ℕ Refusal) (out : List ℕ) : Type 0 where
   pub same : length out ≡ length target
-  pub fits : n ≤ length out
+  pub fits : (n : ℕ) → d ≡ Ok n → n ≤ length out
 
-pub inside : (r : Reason) (target : List ℕ) {d : Result ℕ Refusal} {out : List ℕ} {n : ℕ}
-    → d ≡ composed r (length target) → out ≡ composed_in r target → d ≡ Ok n → Inside target n out
-inside r target v o e =
-    let k = composed-by r target (sym v ∙ e) in
-    let l = length_over target 0 (sentence r) (omega (arith, k.long, (shown r k.can).short)) in
-    let s = ap length (o ∙ (composed-taken r target k.long k.can).1) in
-    record { same = s ∙ l; fits = omega (arith, s, l, k.count, k.long, (shown r k.can).short) }
+length-kept : (r : Reason) (target : List ℕ) → length (composed_in r target) ≡ length target
+unfolding composed_in compose_row
+length-kept r target =
+    case_on (ltb (length target) 200)
+    (λ t. rw t refl)
+    (λ t.
+    case_on (can_return r.call r.number)
+    (λ e. rw (t, e) (length_over target 0 (sentence r) (omega (arith, ltb-false (length target) 200 t, (shown r e).short))))
+    (λ e. rw (t, e) refl))
+
+pub inside : (r : Reason) (target : List ℕ) → Inside target (composed r (length target)) (composed_in r target)
+inside r target =
+    record {
+      same = length-kept r target;
+      fits = λ n e.
+          let k = composed-by r target e in
+          omega (arith, length-kept r target, k.count, k.long, (shown r k.can).short);
+    }
+
+-- the same of a result and a target that are told to be these
+pub inside-told : (r : Reason) (target : List ℕ) {d : Result ℕ Refusal} {out : List ℕ}
+    → d ≡ composed r (length target) → out ≡ composed_in r target → Inside target d out
+inside-told r target v o = rw (v, o) (inside r target)

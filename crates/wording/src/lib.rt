@@ -188,13 +188,15 @@ pub fn meets_writer(number: usize) -> bool
     matches!(number, 14 | 18)
 }
 
-// Puts text at byte at.
+// Puts text at byte at. A loop: `copy_from_slice` of a text that is looked up calls memmove, which a game need not have.
 pub fn put_text(out: &mut [u8], at: usize, text: &[u8]) -> usize
     requires { at + length text.now ≤ length out.old }
     ensures { Put out.old at text.now out.new result }
 {
     let n = text.len();
-    out[at..at + n].copy_from_slice(text);
+    for k in 0..n {
+        out[at + k] = text[k];
+    }
     at + n
 }
 
